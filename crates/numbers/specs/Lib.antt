@@ -1,0 +1,5 @@
+-- The root of numbers' definitions.
+pub mod Constants
+pub mod Numbers
+pub mod Ops
+pub mod Order
