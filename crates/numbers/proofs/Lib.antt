@@ -1,5 +1,10 @@
--- Laws that belong to no one function.
+-- The root of numbers' laws.
 pub mod Bools
-pub mod Fin
+pub mod Values
+pub mod Zeros
+pub mod Units
+pub mod Finite
+pub mod Order
+pub mod Wholes
 pub mod Far
 pub mod Small

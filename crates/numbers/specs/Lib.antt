@@ -3,3 +3,5 @@ pub mod Constants
 pub mod Numbers
 pub mod Ops
 pub mod Order
+pub mod Signs
+pub mod Wholes

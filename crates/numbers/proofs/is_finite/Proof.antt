@@ -1,7 +1,7 @@
 -- `numbers::is_finite` meets its contract. Assumes nothing.
 use Rattle.numbers.proofs.is_finite.Statement.{statement}
 use Rattle.numbers.proofs.is_finite.Tie as tie
-use Rattle.numbers.proofs.Fin.{finite-test}
+use Rattle.numbers.proofs.Finite.{finite-test}
 
 returns : tie.Need-returns
 returns c = finite-test (c .args .x)

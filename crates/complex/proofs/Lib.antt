@@ -1,0 +1,2 @@
+-- The root of complex's laws.
+pub mod Real
