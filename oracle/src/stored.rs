@@ -1,0 +1,107 @@
+//! Stored answers as text: one item a line, a keyword first.
+
+use crate::{
+    Refusal,
+    answer::Answer,
+    judge,
+    records::RECORD,
+    sums::ENTRY,
+    text::{from_hex, hex},
+};
+
+/// Whose answers a file holds.
+#[derive(Debug, Clone, Copy, PartialEq, Eq)]
+pub enum Decider {
+    /// The Rust's, where no limit of the paper cuts in.
+    Rust,
+    /// The paper's: malformed bytes, and limits that the Rust lacks.
+    Paper,
+}
+
+/// What an entry is asked about.
+#[derive(Debug, Clone, PartialEq, Eq, PartialOrd, Ord)]
+pub enum Input {
+    List(Vec<u8>),
+    Sum(Vec<u8>),
+}
+
+impl Input {
+    /// The input that a line names, if it is an input's line.
+    pub fn parse(line: &str) -> Option<Self> {
+        let mut parts = line.split(' ');
+        match parts.next()? {
+            "list" => Some(Input::List(from_hex(parts, RECORD)?)),
+            "sum" => Some(Input::Sum(from_hex(parts, ENTRY)?)),
+            _ => None,
+        }
+    }
+
+    fn line(&self) -> String {
+        match self {
+            Input::List(list) => format!("list{}\n", hex(list, RECORD)),
+            Input::Sum(sum) => format!("sum{}\n", hex(sum, ENTRY)),
+        }
+    }
+
+    /// The input's line and the lines of its answers that one decider gives,
+    /// if it gives any.
+    pub fn item(&self, decider: Decider) -> Option<String> {
+        let answers = match self {
+            Input::List(list) => list_answers(list, decider),
+            Input::Sum(sum) => sum_answers(sum, decider),
+        };
+        (!answers.is_empty()).then(|| self.line() + &answers)
+    }
+}
+
+/// What a decider gives, if this answer is its own.
+fn by<T>(decider: Decider, answer: Answer<T>) -> Option<Result<T, Refusal>> {
+    match (decider, answer) {
+        (Decider::Rust, Answer::Rust(result)) => Some(result),
+        (Decider::Paper, Answer::Form(refusal) | Answer::Limit(refusal)) => Some(Err(refusal)),
+        _ => None,
+    }
+}
+
+fn list_answers(list: &[u8], decider: Decider) -> String {
+    let mut text = String::new();
+    if let Some(read) = by(decider, judge::read(list)) {
+        text += &match read {
+            Ok(read) => {
+                let flag = u8::from(read.complex);
+                format!("read 0 0 {flag}{}\n", hex(&read.entries, ENTRY))
+            }
+            Err(Refusal { number, place }) => format!("read {number} {place} 0\n"),
+        };
+    }
+    for (name, answer) in [
+        ("derivative", judge::derivative(list)),
+        ("integral", judge::integral(list)),
+        ("inverse", judge::inverse(list)),
+    ] {
+        text += &answer_line(name, by(decider, answer), RECORD);
+    }
+    text
+}
+
+fn sum_answers(sum: &[u8], decider: Decider) -> String {
+    let mut text = String::new();
+    for (name, answer) in [
+        ("derive", judge::derive(sum)),
+        ("integrate", judge::integrate(sum)),
+    ] {
+        text += &answer_line(name, by(decider, answer), ENTRY);
+    }
+    for (name, complex) in [("write 0", false), ("write 1", true)] {
+        text += &answer_line(name, by(decider, judge::write(sum, complex)), RECORD);
+    }
+    text
+}
+
+fn answer_line(name: &str, answer: Option<Result<Vec<u8>, Refusal>>, size: usize) -> String {
+    match answer {
+        None => String::new(),
+        Some(Ok(bytes)) => format!("{name} 0 0{}\n", hex(&bytes, size)),
+        Some(Err(Refusal { number, place })) => format!("{name} {number} {place}\n"),
+    }
+}
