@@ -1,0 +1,32 @@
+-- `cells::store` meets its contract: five lists are written at one index. Assumes nothing.
+use borrow.Author.Needs.{needs}
+use Rattle.cells.specs.Book.{book}
+use Rattle.cells.proofs.Laws.{no-nan}
+use Rattle.cells.proofs.Lists.{put-of}
+use Rattle.cells.proofs.store.Statement.{statement}
+use Rattle.cells.proofs.store.Tie as tie
+
+returns : tie.Need-returns
+returns c = put-of (book _ _ _ _ _) _ _ (c .before .before .before .before .pre .0)
+
+pub store-spec : {M : Type 1} → statement M
+store-spec =
+    tie.close
+    (tie.spec
+    (λ c. search needs)
+    (λ c. search needs)
+    (λ c. no-nan _ (c .before .before .pre .1 .num))
+    (λ c. search needs)
+    (λ c. search needs)
+    (λ c. no-nan _ (c .before .before .before .pre .1 .re))
+    (λ c. search needs)
+    (λ c. search needs)
+    (λ c. no-nan _ (c .before .before .before .before .pre .1 .im))
+    (λ c. search needs)
+    (λ c. search needs)
+    (λ c. returns c .long .kinds)
+    (λ c. returns c .long .insides)
+    (λ c. returns c .long .nums)
+    (λ c. returns c .long .res)
+    (λ c. returns c .long .ims)
+    returns)

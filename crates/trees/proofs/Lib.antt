@@ -1,0 +1,5 @@
+-- The root of sums' proofs: the laws of sums as trees.
+pub mod Order
+pub mod Keeps
+pub mod Lookup
+pub mod Same
