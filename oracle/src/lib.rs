@@ -10,6 +10,7 @@ pub mod answer;
 pub mod evaluate;
 pub mod features;
 pub mod generate;
+pub mod operations;
 pub mod quiet;
 pub mod random;
 pub mod records;

@@ -1,0 +1,5 @@
+-- The root of products' laws.
+pub mod Shapes
+pub mod Lying
+pub mod Folding
+pub mod Laws

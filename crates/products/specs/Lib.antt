@@ -1,0 +1,3 @@
+-- The root of products' definitions.
+pub mod Apart
+pub mod Factors
