@@ -1,0 +1,5 @@
+-- The root of adds' laws.
+pub mod Lying
+pub mod Each
+pub mod Negating
+pub mod Reading

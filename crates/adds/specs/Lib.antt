@@ -1,0 +1,3 @@
+-- The root of adds' definitions.
+pub mod Work
+pub mod Reads

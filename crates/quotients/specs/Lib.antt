@@ -1,0 +1,2 @@
+-- The root of quotients' definitions.
+pub mod Dividing
