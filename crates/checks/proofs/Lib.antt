@@ -1,0 +1,4 @@
+-- The root of checks' laws.
+pub mod Bits
+pub mod Cells
+pub mod Rising

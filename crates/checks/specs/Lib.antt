@@ -1,0 +1,2 @@
+-- The root of checks' definitions.
+pub mod Fine

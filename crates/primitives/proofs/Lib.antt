@@ -1,0 +1,2 @@
+-- The root of primitives' laws.
+pub mod Laid

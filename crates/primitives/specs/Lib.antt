@@ -1,0 +1,2 @@
+-- The root of primitives' definitions.
+pub mod Beside
