@@ -1,0 +1,2 @@
+-- The root of operations' laws.
+pub mod Operands
