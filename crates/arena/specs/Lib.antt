@@ -1,0 +1,4 @@
+-- The root of arena's definitions.
+pub mod Arena
+pub mod Stack
+pub mod Blocks

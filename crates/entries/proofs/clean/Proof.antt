@@ -1,0 +1,14 @@
+-- Assumes nothing.
+use borrow.Author.Needs.{needs}
+use Rattle.entries.proofs.clean.Statement.{statement}
+use Rattle.entries.proofs.clean.Tie as tie
+
+pub clean-spec : {M : Type 1} → statement M
+clean-spec =
+    tie.close
+    (tie.spec
+    (λ c. search needs)
+    (λ c κs. search needs)
+    (λ c. search needs)
+    (λ c κs. search needs)
+    (λ c. rw (c .before .four .ensures .0, c .four2 .ensures .0)))

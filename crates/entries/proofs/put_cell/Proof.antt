@@ -1,0 +1,40 @@
+-- The stores are those of the entry's bytes, one part after the other. Assumes nothing.
+use Prim.Native.Nat.{_*_}
+use borrow.Author.Needs.{needs}
+use Rattle.entries.proofs.Codes.{stored}
+use Rattle.entries.proofs.put_cell.Statement.{statement}
+use Rattle.entries.proofs.put_cell.Tie as tie
+
+returns : tie.Need-returns
+returns c =
+    let last = c .before .before in
+    let fourth = last .before .before .before .before in
+    let third = fourth .before .before .before .before in
+    let second = third .before .before .before .before in
+    let first = second .before .before .before .before in
+    let a = first .before .before .before .args in
+    stored (a .out .now) (first .put-four .last .0) (second .put-four2 .last .0) (third .put-eight .last .0) (fourth .put-eight2 .last .0) (last .put-eight3 .last .0) (32 * a .j)
+    record { kind = a .kind; inside = a .inside; num = a .num; re = a .re; im = a .im }
+    (search needs)
+    (first .put-four .ensures)
+    (second .put-four2 .ensures)
+    (third .put-eight .ensures)
+    (fourth .put-eight2 .ensures)
+    (last .put-eight3 .ensures)
+
+pub put-cell-spec : {M : Type 1} → statement M
+put-cell-spec =
+    tie.close
+    (tie.spec
+    (λ c. search needs)
+    (λ c κs. search needs)
+    (λ c. search needs)
+    (λ c κs. search needs)
+    (λ c. search needs)
+    (λ c κs. search needs)
+    (λ c. search needs)
+    (λ c κs. search needs)
+    (λ c. search needs)
+    (λ c κs. search needs)
+    (λ c. search needs)
+    returns)
