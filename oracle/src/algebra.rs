@@ -11,3 +11,5 @@ pub mod random_sums;
 mod shapes;
 pub mod sums;
 pub mod values;
+
+pub use guard::MOST_STACKED;

@@ -3,6 +3,7 @@
 
 use crate::{
     Complex,
+    algebra::MOST_STACKED,
     answer::number::TOO_MANY_OUTPUTS,
     judge,
     random::Random,
@@ -728,12 +729,92 @@ fn limits_of_records(add: &mut impl FnMut(&str)) {
         MOST_LEVELS + 1,
         MOST_LEVELS + 2,
     ] {
-        add(&("Run(".repeat(levels) + "Neg" + &")".repeat(levels)));
-        add(&("Custom(".repeat(levels) + &")".repeat(levels)));
-        // A modifier and its body are a level each.
-        let pairs = levels / 2;
-        let odd = if levels % 2 == 0 { "Neg" } else { "Run(Neg)" };
-        add(&("Gap(1: 2 ".repeat(pairs) + odd + &")".repeat(pairs)));
+        nested(levels).iter().for_each(|words| add(words));
         add(&("Both(0: ".repeat(6) + "2 Mul" + &")".repeat(6)));
+    }
+}
+
+/// A record inside so many others: runs, custom inverses, and modifiers, where
+/// a modifier and its body are a level each.
+fn nested(levels: usize) -> [String; 3] {
+    let pairs = levels / 2;
+    let odd = if levels.is_multiple_of(2) {
+        "Neg"
+    } else {
+        "Run(Neg)"
+    };
+    [
+        "Run(".repeat(levels) + "Neg" + &")".repeat(levels),
+        "Custom(".repeat(levels + 1) + &")".repeat(levels + 1),
+        "Gap(1: 2 ".repeat(pairs) + odd + &")".repeat(pairs),
+    ]
+}
+
+/// Lists at each limit and just past it.
+pub fn at_limits() -> Vec<Vec<u8>> {
+    let mut lists = Vec::new();
+    let mut add = |words: &str| lists.push(text::list(words));
+    for count in [MOST_RECORDS, MOST_RECORDS + 1] {
+        add(&"Neg ".repeat(count));
+        add(&"Under ".repeat(count));
+    }
+    for levels in [MOST_LEVELS, MOST_LEVELS + 1] {
+        nested(levels).iter().for_each(|words| add(words));
+    }
+    at_limits_of_sums(&mut add);
+    at_limits_of_the_stack(&mut add);
+    lists
+}
+
+/// 64 entries, insides counted, an entry inside 3 others, powers of 64 and an
+/// imaginary part that counts as none.
+fn at_limits_of_sums(add: &mut impl FnMut(&str)) {
+    for words in [
+        "1 Add 63 Pow",
+        "1 Add 64 Pow",
+        "1 Add 62 Pow Sin",
+        "1 Add 63 Pow Sin",
+        "1 Add 60 Pow Sin Sin Sin",
+        "1 Add 61 Pow Sin Sin Sin",
+        "Sin Sin Sin",
+        "Sin Sin Sin Sin",
+        "64 Pow",
+        "65 Pow",
+        "2;2^-53 Pow",
+        "2;2^-52 Pow",
+    ] {
+        add(words);
+    }
+}
+
+/// 1,024 entries on the stack and held.
+fn at_limits_of_the_stack(add: &mut impl FnMut(&str)) {
+    // x and constants, one entry each, and what needs room for `more` entries.
+    for (more, top) in [
+        (0, ""),
+        (0, "Gap(1: 1)"),
+        (1, "1 Pop"),
+        (1, "On(1: Pop)"),
+        (1, "By(1: Pop)"),
+        (1, "Dip(1: 1 Pop)"),
+        (1, "Both(1: 1 Pop)"),
+        (1, "Bracket(1: 1 Pop)(1:)"),
+        (1, "Fork(1: Pop)(1:)"),
+    ] {
+        for count in [MOST_STACKED - 1 - more, MOST_STACKED - more] {
+            let (pushes, pops) = (repeated("1", count), repeated("Pop", count));
+            add(&format!("{pushes} {top} {pops}"));
+        }
+    }
+    // Sums of 64 entries: sixteen fill the stack.
+    for (copies, top) in [
+        (15, ""),
+        (16, ""),
+        (14, "On(1: Pop)"),
+        (15, "On(1: Pop)"),
+        (15, "1 Pop"),
+    ] {
+        let (dups, pops) = ("Dup ".repeat(copies), "Pop ".repeat(copies));
+        add(&format!("1 Add 63 Pow {dups} {top} {pops}"));
     }
 }

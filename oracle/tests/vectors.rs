@@ -2,7 +2,10 @@
 
 use std::{fs, path::Path};
 
-use oracle::stored::{Decider, Input};
+use oracle::{
+    generate,
+    stored::{Decider, Input},
+};
 
 fn stored(name: &str) -> String {
     let folder = Path::new(env!("CARGO_MANIFEST_DIR")).join("../vectors");
@@ -56,6 +59,23 @@ fn inputs_stand_once() {
         let count = inputs.len();
         inputs.dedup();
         assert_eq!(inputs.len(), count, "{name}");
+    }
+}
+
+#[test]
+fn lists_at_limits_are_there() {
+    let files = ["lists.txt", "limits.txt"].map(stored);
+    for list in generate::at_limits() {
+        let answers = [Decider::Rust, Decider::Paper].map(|decider| {
+            let item = Input::List(list.clone()).item(decider);
+            item.unwrap_or_default()
+        });
+        let mut reads = 0;
+        for (file, item) in files.iter().zip(&answers) {
+            assert!(file.contains(item), "{item}");
+            reads += usize::from(item.contains("\nread "));
+        }
+        assert_eq!(reads, 1, "{answers:?}");
     }
 }
 

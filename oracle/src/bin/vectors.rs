@@ -55,6 +55,13 @@ impl Selection {
         self.inputs.push(input);
     }
 
+    /// Keep an input if it isn't there yet.
+    fn keep_once(&mut self, input: Input) {
+        if !self.inputs.contains(&input) {
+            self.keep(input);
+        }
+    }
+
     /// Keep an input if it reaches something new.
     fn consider(&mut self, input: Input) {
         if !arms_of(&input).is_subset(&self.reached) {
@@ -87,6 +94,9 @@ fn select_lists() -> Selection {
         selection.consider(Input::List(list));
     }
     selection.consider_shortest_first(random_lists(), Input::List);
+    for list in generate::at_limits() {
+        selection.keep_once(Input::List(list));
+    }
     selection
 }
 

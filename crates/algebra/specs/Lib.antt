@@ -1,0 +1,3 @@
+-- The root of algebra's definitions.
+pub mod Promises
+pub mod Reading

@@ -1,0 +1,5 @@
+-- The root of bodies' definitions.
+pub mod Modifiers
+pub mod Reading
+pub mod Walks
+pub mod Plans

@@ -1,0 +1,324 @@
+// A modifier before its bodies run: how many there are, what they take, and in which order they run.
+use holds::Begun;
+use records::Kind;
+use records::KindFound;
+use records::Modifier;
+use records::Record;
+use steps::AlgebraEnv;
+use trees::Refusal;
+ghost use mathlib.Core.Path.{_≡_};
+ghost use mathlib.Core.Bool.{true, cond};
+ghost use Prim.Native.Nat.{ℕ, _+_, _-_, _≤_, _<_, max};
+ghost use Rattle.records.specs.Names.{kindOf};
+ghost use Rattle.records.specs.declared.KindFound.the-variants.{Known};
+ghost use Rattle.records.specs.Tree.{forest, count};
+ghost use Rattle.records.specs.Walk.{Stretch, Walkable};
+ghost use Rattle.bodies.specs.Modifiers.{most};
+ghost use Rattle.bodies.specs.Reading.{runners, insideOf};
+ghost use Rattle.bodies.specs.Walks.{placeOf};
+ghost use Rattle.bodies.specs.Plans.{wayOf, mannerOf, heldBy, lentBy, begin, once, planBy, Follows, UsedAs};
+ghost use Rattle.bodies.specs.declared.Use.the-variants.{Refused, Bodies};
+ghost use Rattle.trees.specs.declared.Refusal.the-variants.{InterpreterBug};
+ghost use lib.Dec.{eqb};
+ghost use Rattle.records.specs.Names.{modifierOf};
+ghost use Rattle.arena.specs.Arena.{arena};
+ghost use Rattle.steps.specs.Agree.{Ready};
+ghost use Rattle.holds.specs.Holding.{holding};
+ghost use Rattle.holds.specs.Begins.{Begins};
+
+// What a record has inside that is run: nothing, nodes that are run in turn, or a modifier's bodies.
+pub enum Inside {
+    Nothing,
+    Nodes,
+    Bodies,
+}
+
+fn kind_inside(k: Kind) -> Inside
+    ensures { λ r. ⌜ r ≡ insideOf (Known k) ⌝ }
+{
+    match k {
+        Kind::Modifier => Inside::Bodies,
+        Kind::Body => Inside::Nodes,
+        Kind::Run => Inside::Nodes,
+        Kind::CustomInverse => Inside::Nodes,
+        Kind::RealPush => Inside::Nothing,
+        Kind::ComplexPush => Inside::Nothing,
+        Kind::ArrayPush => Inside::Nothing,
+        Kind::OtherPush => Inside::Nothing,
+        Kind::Primitive => Inside::Nothing,
+        Kind::Obverse => Inside::Nothing,
+        Kind::NoNormal => Inside::Nothing,
+        Kind::UnderMarker => Inside::Nothing,
+        Kind::AnythingElse => Inside::Nothing,
+    }
+}
+
+pub fn inside_of(kind: u8) -> Inside
+    ensures { λ r. ⌜ r ≡ insideOf (kindOf kind) ⌝ }
+{
+    match records::kind_of(kind) {
+        KindFound::Known(k) => kind_inside(k),
+        KindFound::Unknown => Inside::Nothing,
+    }
+}
+
+fn larger(a: usize, b: usize) -> usize
+    ensures { λ r. ⌜ r ≡ max a b ⌝ }
+{
+    if a < b { b } else { a }
+}
+
+fn wide(x: u8) -> usize
+    ensures { λ r. ⌜ r ≡ x ⌝ }
+{
+    x as usize
+}
+
+// The arguments of the body that takes most.
+pub fn most_args(list: &[u8], from: usize, to: usize) -> usize
+    requires { ⌜ Walkable (now list) from to ⌝ }
+    ensures { λ r. ⌜ r ≡ most (runners from (forest (now (list .entry)) from to)) ⌝ }
+{
+    let mut at = from;
+    let mut n = 0;
+    while at < to {
+        let r = records::record_at(list, at);
+        n = larger(wide(r.args), n);
+        at = at + 1 + r.inside as usize;
+    }
+    n
+}
+
+// Where the i-th of the nodes from `from` on stands.
+pub fn place_of(list: &[u8], from: usize, to: usize, i: usize) -> usize
+    requires { ⌜ Walkable (now list) from to × (i ≤ count (forest (now list) from to)) ⌝ }
+    ensures { λ r. ⌜ r ≡ placeOf (now (list .entry)) from i ⌝ }
+{
+    let mut at = from;
+    let mut j = 0usize;
+    while j < i {
+        let r = records::record_at(list, at);
+        at = at + 1 + r.inside as usize;
+        j = j + 1;
+    }
+    at
+}
+
+// How many bodies a modifier has.
+enum Way {
+    One,
+    Two,
+    Any,
+    Unlisted,
+}
+
+// What is done with a modifier.
+pub enum Use {
+    Refused(Refusal),
+    Bodies,
+    Forks,
+}
+
+// The stretch that is run while sums are held (from, to), the stretch that is run when they are back (again, until), and the arguments of the first body in
+// the list.
+pub struct Plan {
+    pub from: usize,
+    pub to: usize,
+    pub again: usize,
+    pub until: usize,
+    pub args: usize,
+}
+
+fn way_of(m: Modifier) -> Way
+    ensures { λ r. ⌜ r ≡ wayOf m ⌝ }
+{
+    match m {
+        Modifier::Dip => Way::One,
+        Modifier::Gap => Way::One,
+        Modifier::On => Way::One,
+        Modifier::By => Way::One,
+        Modifier::Both => Way::One,
+        Modifier::Bracket => Way::Two,
+        Modifier::Fork => Way::Any,
+        Modifier::Unlisted => Way::Unlisted,
+    }
+}
+
+// Whether so many bodies are right for so many.
+fn counted(n: usize, asked: usize) -> Use
+    ensures { λ r. ⌜ r ≡ cond (eqb n asked) Bodies (Refused InterpreterBug) ⌝ }
+{
+    if n == asked {
+        Use::Bodies
+    } else {
+        Use::Refused(Refusal::InterpreterBug)
+    }
+}
+
+// What is done with the modifier at a place.
+pub fn use_of(list: &[u8], at: usize, r: Record) -> Use
+    requires { ⌜ Walkable (now list) (at + 1) (at + 1 + r .inside) ⌝ }
+    ensures { λ u. ⌜ UsedAs u (now (list .entry)) at r ⌝ }
+{
+    let n = records::count_nodes(list, at + 1, at + 1 + r.inside as usize);
+    match way_of(records::modifier_of(r.code)) {
+        Way::One => counted(n, 1),
+        Way::Two => counted(n, 2),
+        Way::Any => Use::Forks,
+        Way::Unlisted => Use::Refused(Refusal::NotSupported),
+    }
+}
+
+// The first body alone.
+fn once(args: usize, from: usize, mid: usize, to: usize) -> Plan
+    ensures { λ p. ⌜ p ≡ once args from mid to ⌝ }
+{
+    Plan {
+        from,
+        to: mid,
+        again: to,
+        until: to,
+        args,
+    }
+}
+
+// The plan for bodies from `from` on, the first of which ends at `mid` and the last at `to`.
+fn plan_by(m: Modifier, args: usize, from: usize, mid: usize, to: usize) -> Plan
+    ensures { λ p. ⌜ p ≡ planBy m args from mid to ⌝ }
+{
+    match m {
+        Modifier::Bracket => Plan {
+            from: mid,
+            to,
+            again: from,
+            until: mid,
+            args,
+        },
+        Modifier::Both => Plan {
+            from,
+            to: mid,
+            again: from,
+            until: mid,
+            args,
+        },
+        Modifier::Dip => once(args, from, mid, to),
+        Modifier::Gap => once(args, from, mid, to),
+        Modifier::On => once(args, from, mid, to),
+        Modifier::By => once(args, from, mid, to),
+        Modifier::Fork => once(args, from, mid, to),
+        Modifier::Unlisted => once(args, from, mid, to),
+    }
+}
+
+// The order in which the bodies of the modifier at a place run.
+pub fn plan_of(list: &[u8], at: usize, r: Record) -> Plan
+    requires { ⌜ Walkable (now list) (at + 1) (at + 1 + r .inside) × UsedAs Bodies (now list) at r ⌝ }
+    ensures { λ p. ⌜ ((left : ℕ) → Stretch (now (list .entry)) (at + 1) (at + 1 + r .inside) true left → Follows (now (list .entry)) at r left p) ⌝ }
+{
+    let from = at + 1;
+    let to = from + r.inside as usize;
+    let f = records::record_at(list, from);
+    let mid = from + 1 + f.inside as usize;
+    plan_by(records::modifier_of(r.code), wide(f.args), from, mid, to)
+}
+
+// What a modifier does with what it takes off the stack.
+enum Manner {
+    Drops,
+    Copies,
+    Holds,
+}
+
+fn begins_by(m: Modifier) -> Manner
+    ensures { λ r. ⌜ r ≡ mannerOf m ⌝ }
+{
+    match m {
+        Modifier::Gap => Manner::Drops,
+        Modifier::By => Manner::Copies,
+        Modifier::Dip => Manner::Holds,
+        Modifier::On => Manner::Holds,
+        Modifier::Both => Manner::Holds,
+        Modifier::Bracket => Manner::Holds,
+        Modifier::Fork => Manner::Holds,
+        Modifier::Unlisted => Manner::Holds,
+    }
+}
+
+// How many sums a modifier takes off the stack and holds, where its first body takes n arguments.
+fn held_by(m: Modifier, n: usize) -> usize
+    ensures { λ r. ⌜ r ≡ heldBy m n ⌝ }
+{
+    match m {
+        Modifier::Dip => 1,
+        Modifier::On => 1,
+        Modifier::Gap => n,
+        Modifier::By => n,
+        Modifier::Both => n,
+        Modifier::Bracket => n,
+        Modifier::Fork => n,
+        Modifier::Unlisted => n,
+    }
+}
+
+// How many copies of these it puts on the stack.
+fn lent_by(m: Modifier) -> usize
+    ensures { λ r. ⌜ r ≡ lentBy m ⌝ }
+{
+    match m {
+        Modifier::On => 1,
+        Modifier::Dip => 0,
+        Modifier::Gap => 0,
+        Modifier::By => 0,
+        Modifier::Both => 0,
+        Modifier::Bracket => 0,
+        Modifier::Fork => 0,
+        Modifier::Unlisted => 0,
+    }
+}
+
+// Holds what a modifier other than Gap and By holds.
+fn hold_for(
+    m: Modifier,
+    n: usize,
+    at: usize,
+    ak: &mut [u8],
+    ai: &mut [u8],
+    an: &mut [u64],
+    ar: &mut [u64],
+    am: &mut [u64],
+    az: &mut [u8],
+    v: usize,
+    env: AlgebraEnv,
+) -> Begun
+    requires { ⌜ Ready (arena ak ai an ar am az) v env ⌝ }
+    ensures { λ r. ⌜ Begins (arena (ak .entry) (ai .entry) (an .entry) (ar .entry) (am .entry) (az .entry)) (arena (ak .exit) (ai .exit) (an .exit) (ar .exit) (am .exit) (az .exit)) v env r (λ st f. holding at (heldBy m n) (lentBy m) (1024 - v) st f) ⌝ }
+{
+    let k = held_by(m, n);
+    let c = lent_by(m);
+    holds::hold_and_lend(k, c, at, ak, ai, an, ar, am, az, v, env)
+}
+
+// What a modifier does before its first body runs, where the first in the list takes n arguments.
+pub fn begin(
+    code: u8,
+    n: usize,
+    at: usize,
+    ak: &mut [u8],
+    ai: &mut [u8],
+    an: &mut [u64],
+    ar: &mut [u64],
+    am: &mut [u64],
+    az: &mut [u8],
+    v: usize,
+    env: AlgebraEnv,
+) -> Begun
+    requires { ⌜ Ready (arena ak ai an ar am az) v env ⌝ }
+    ensures { λ r. ⌜ Begins (arena (ak .entry) (ai .entry) (an .entry) (ar .entry) (am .entry) (az .entry)) (arena (ak .exit) (ai .exit) (an .exit) (ar .exit) (am .exit) (az .exit)) v env r (λ st f. begin (modifierOf code) n at (1024 - v) st f) ⌝ }
+{
+    let m = records::modifier_of(code);
+    match begins_by(m) {
+        Manner::Drops => holds::drop_top(at, ak, ai, an, ar, am, az, v, env),
+        Manner::Copies => holds::copy_under(n, at, ak, ai, an, ar, am, az, v, env),
+        Manner::Holds => hold_for(m, n, at, ak, ai, an, ar, am, az, v, env),
+    }
+}

@@ -1,0 +1,168 @@
+-- Laws of the start and the end of reading: x lies in the first cell, and one sum must be left. Assumes nothing.
+use Prim.Native.Nat.{ℕ, _+_, _-_, _/_, _≤_, _<_}
+use native.Mathlib.Omega.{arith}
+use mathlib.Core.Path.{_≡_, refl, _∙_}
+use mathlib.Core.Bool.{Bool, false, _||_}
+use mathlib.Core.List.{List, [], _∷_}
+use lib.Dec.{T, leb}
+use lib.Ieee.{binary64, ofBits, fits}
+use lib.Ieee.Bits.{ofBits-fits}
+use lib.Ieee.Fits.{and-i}
+use lib.Ieee.Scale.{finite}
+use lib.ListN.{length, getD, set, length-set}
+use lib.Seq.{getD-set-same}
+use Rattle.numbers.specs.Signs.{zero64, one64}
+use Rattle.complex.specs.Arith as complex
+use Rattle.cells.specs.declared.Entry.{Entry}
+use Rattle.cells.specs.Book.{Book, Room, at, Plain}
+use Rattle.cells.specs.Moves.{Put, Copied}
+use Rattle.cells.proofs.Laws.{Fitting, put-at, room-less, room-same}
+use Rattle.trees.specs.declared.Refusal.{Refusal}
+use Rattle.trees.specs.declared.Refusal.the-variants.{NoOutput, TooManyOutputs}
+use Rattle.records.specs.Tree.{parse}
+use Rattle.trees.specs.Kinds as kinds
+use Rattle.trees.specs.Sums.{Sum, none, size, entry}
+use Rattle.terms.specs.Singles.{GoodSum, single}
+use Rattle.terms.proofs.Goodness.{good-xTo}
+use Rattle.sums.specs.Lies.{At, Lies}
+use Rattle.adds.proofs.Lying.{lies-copied, lies-to}
+use Rattle.arena.specs.Arena.{Arena, Space}
+use Rattle.arena.specs.Stack.{Stacked, no-sum, on-top, Sized, total, sizesOf, anyComplex}
+use Rattle.arena.proofs.Moving.{of}
+use Rattle.arena.proofs.Laws.{space-same, stacked-one, stacked-two, stacked-some, stacked-end, stacked-size, stacked-total}
+use Rattle.steps.specs.State.{State, Walked, isHandled, went, stopped}
+use Rattle.steps.specs.Agree.{Stands, Ready, Agree, Does}
+use Rattle.steps.specs.declared.AlgebraEnv.{AlgebraEnv}
+use Rattle.steps.specs.declared.Ran.the-variants.{Went, Stopped}
+use Rattle.bodies.specs.Reading.{start, ended, lastOf, readNodes}
+use Rattle.bodies.specs.Walks.{walkOf}
+use Rattle.env.specs.declared.AlgebraData.{AlgebraData}
+use Rattle.env.specs.declared.AlgebraData.the-variants as answer
+use Rattle.env.specs.Data.{DataAs}
+
+-- ---- the start
+
+abbrev pub x : Entry
+x = entry kinds.X 0 one64 complex.one
+
+one-finite : T (finite one64)
+unfolding ofBits
+one-finite = tt
+
+zero-finite : T (finite zero64)
+unfolding ofBits
+zero-finite = tt
+
+pub x-plain : Plain x
+x-plain = record { num = one-finite; re = one-finite; im = zero-finite }
+
+x-good : GoodSum (single kinds.X one64 none complex.one)
+x-good =
+    let one = and-i (finite one64) (fits binary64 one64) one-finite (ofBits-fits binary64 0x3ff0000000000000) in
+    good-xTo one64 complex.one one one (and-i (finite zero64) (fits binary64 zero64) zero-finite (ofBits-fits binary64 0))
+
+x-lies : {b b′ : Book} → Put b b′ 0 x → Room b′ 1 → Lies b′ 0 1 4 (single kinds.X one64 none complex.one)
+unfolding At size
+x-lies p r =
+    let f : Fitting x = record { num = ofBits-fits binary64 0x3ff0000000000000; re = ofBits-fits binary64 0x3ff0000000000000; im = ofBits-fits binary64 0 } in
+    record { laid = (put-at p f, tt, tt); good = x-good .good; ends = refl; room = r }
+
+-- x stands in the arena
+pub x-stands : {b b′ : Book} {z : List ℕ} → Put b b′ 0 x → Space (record { cells = b′; sizes = z }) 1024 → getD z 0 0 ≡ 1
+    → Stands (record { cells = b′; sizes = z }) 1024 (record { used = 1; handled = 0; complex = false }) start
+unfolding size
+x-stands {b} {b′} {z} p s q =
+    record {
+      stack = on-top (record { lies = x-lies p (room-less {n = 1024} (omega arith) (s .cells)); good = x-good; told = q }) no-sum;
+      below = omega arith;
+      handled = refl;
+      complex = refl;
+    }
+
+-- and it is ready
+pub x-ready : {b b′ : Book} (z : List ℕ) → Space (of b z) 1024 → Put b b′ 0 x
+    → Ready (of b′ (set z 0 1)) 1024 (record { used = 1; handled = 0; complex = false }) × Stands (of b′ (set z 0 1)) 1024 (record { used = 1; handled = 0; complex = false }) start
+x-ready {b} {b′} z s p =
+    let y : Space (of b′ (set z 0 1)) 1024 = record { cells = room-same (p .long) (s .cells); sizes = omega (arith, length-set z 0 1, s .sizes) } in
+    let t = x-stands p y (getD-set-same z 0 1 0 (omega (arith, s .sizes))) in
+    (record { space = y; within = omega arith; some = (start, t) }, t)
+
+-- ---- the end
+
+-- what an answer says whether it counts as handled
+pub handled-is : {a : Arena} {v : ℕ} {env : AlgebraEnv} {st : State} {c : Bool} → Stands a v env st → ((ss : List Sum) → Stacked a 0 (env .used) ss → c ≡ anyComplex ss) → leb 2 (env .handled) || c ≡ isHandled st
+handled-is s f = rw (s .handled) (rw (f _ (s .stack)) refl)
+
+-- the stack is empty
+pub last-none : {a : Arena} {u : ℕ} (b : Book) {h : Bool} (st : State) (ss : List Sum) → Stacked a 0 u ss → u ≡ 0 → h ≡ isHandled st → DataAs (answer.Refused NoOutput 0 h) b (lastOf st ss)
+last-none b st ss k e q = rw (stacked-end k (omega arith)) (record { refusal = refl; place = refl; handled = q })
+
+-- the size that is told of the top sum
+abbrev pub Told : Arena → ℕ → ℕ → Type 0
+Told a u n = (m : ℕ) (ns : List ℕ) → Sized (a .sizes) 0 u (m ∷ ns) → n ≡ m
+
+-- several are on it
+pub last-many : {a : Arena} {u n : ℕ} (b : Book) {h : Bool} (st : State) (ss : List Sum) → Stacked a 0 u ss → 0 < u → Told a u n → (n ≡ u → ⊥) → h ≡ isHandled st
+    → DataAs (answer.Refused TooManyOutputs 0 h) b (lastOf st ss)
+unfolding total
+last-many b st [] k l t e q = absurd (omega (arith, stacked-total k))
+last-many b st (s ∷ []) k l t e q = absurd (e (t _ _ (stacked-size k) ∙ omega (arith, stacked-total k)))
+last-many b st (s ∷ r ∷ ss) k l t e q = record { refusal = refl; place = refl; handled = q }
+
+lies-at : {b : Book} {i j e n : ℕ} {s : Sum} → Lies b i e 4 s → i ≡ j → e ≡ n → Lies b j n 4 s
+lies-at l p q = rw (← p) (rw (← q) l)
+
+-- one is on it, and lies from the first cell on
+pub last-one : {a : Arena} {u n : ℕ} {b : Book} {h c : Bool} (st : State) (ss : List Sum) → Stacked a 0 u ss → 0 < u → Told a u n → n ≡ u → c ≡ st .complex → h ≡ isHandled st
+    → ((s : Sum) → Lies (a .cells) 0 n 4 s → Lies b 0 n 4 s) → DataAs (answer.Sum n c h) b (lastOf st ss)
+unfolding total
+last-one st [] k l t e p q f = absurd (omega (arith, stacked-total k))
+last-one {a} {u} {n} st (s ∷ []) k l t e p q f =
+    let o = stacked-one (t (size s) (sizesOf []) (stacked-size k)) k in
+    let w = lies-at {j = 0} {n = n} (o .lies) (omega (arith, e)) (omega (arith, e)) in
+    (record { lies = f s w; good = o .good }, p, q)
+last-one st (s ∷ r ∷ ss) k l t e p q f =
+    let o = stacked-two (t (size s) (sizesOf (r ∷ ss)) (stacked-size k)) refl k in
+    absurd (omega (arith, stacked-total k, o .1 .some, o .0 .is))
+
+-- the top sum is not large, and lies in the arena
+pub top-few : {a : Arena} {v n : ℕ} {env : AlgebraEnv} → Ready a v env → 0 < env .used → Told a (env .used) n → (n ≤ 64) × (env .used ≤ 1024)
+top-few y l t =
+    let w = stacked-some (y .some .1 .stack) l in
+    let o = stacked-one (t (size (w .0)) (sizesOf (w .1)) (stacked-size (w .3))) (w .3) in
+    (o .few, omega (arith, y .within, y .some .1 .below))
+
+-- a sum that is copied to the start of a book
+pub one-copied : {g b b′ : Book} {n : ℕ} {s : Sum} → Copied g b b′ 0 n 0 → Room b 64 → n ≤ 64 → Lies g 0 n 4 s → Lies b′ 0 n 4 s
+one-copied {n = n} w r few l =
+    let e : 0 + n ≡ n = omega arith in
+    lies-to n e (lies-copied w (room-less {n = 64} (omega arith) r) (lies-to (0 + n) (omega arith) l))
+
+-- ---- the whole
+
+module _ {a b : Arena} {env : AlgebraEnv} (s : List ℕ) (h : Stands a 1024 env start) where
+  -- reading refuses
+  pub read-stop : {q : Refusal} {at : ℕ} {z : Bool} (w : Book) → Does a b 1024 env (Stopped q at z) (λ st. walkOf s 0 (length s / 24) (1024 - 1024) st) → DataAs (answer.Refused q at z) w (readNodes (parse s))
+  unfolding readNodes parse
+  read-stop {q} {at} {z} w d = go (walkOf s 0 (length s / 24) 0 start) (d .agrees start h)
+    where
+      go : (x : Walked) → Agree (Stopped q at z) b 1024 x → DataAs (answer.Refused q at z) w (ended x)
+      go (went st) e = absurd e
+      go (stopped q′ at′ z′) e = e
+
+  module _ {e : AlgebraEnv} (d : Does a b 1024 env (Went e) (λ st. walkOf s 0 (length s / 24) (1024 - 1024) st)) where
+    pub read-ready : Ready a 1024 env → Ready b 1024 e
+    read-ready y = record { space = space-same (d .kept .long) (y .space); within = y .within; some = go (walkOf s 0 (length s / 24) 0 start) (d .agrees start h) }
+      where
+        go : (x : Walked) → Agree (Went e) b 1024 x → (st : State) × Stands b 1024 e st
+        go (went st) k = (st, k)
+        go (stopped q′ at′ z′) k = absurd k
+
+    -- reading comes to its end
+    pub read-went : (r : AlgebraData) (w : Book) → ((st : State) → Stands b 1024 e st → DataAs r w (ended (went st))) → DataAs r w (readNodes (parse s))
+    unfolding readNodes parse
+    read-went r w f = go (walkOf s 0 (length s / 24) 0 start) (d .agrees start h)
+      where
+        go : (x : Walked) → Agree (Went e) b 1024 x → DataAs r w (ended x)
+        go (went st) k = f st k
+        go (stopped q′ at′ z′) k = absurd k

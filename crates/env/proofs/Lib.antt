@@ -1,0 +1,3 @@
+-- The root of env's laws.
+pub mod Laws
+pub mod Ends

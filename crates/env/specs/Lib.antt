@@ -1,0 +1,3 @@
+-- The root of env's definitions.
+pub mod Runs
+pub mod Data

@@ -1,0 +1,3 @@
+-- The root of forms' laws.
+pub mod Cases
+pub mod Laid

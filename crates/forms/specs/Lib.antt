@@ -1,0 +1,2 @@
+-- The root of forms' definitions.
+pub mod Forms

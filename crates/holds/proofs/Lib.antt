@@ -1,0 +1,4 @@
+-- The root of holds' laws.
+pub mod Laws
+pub mod Moves
+pub mod Around

@@ -1,0 +1,3 @@
+-- The root of holds' definitions.
+pub mod Holding
+pub mod Begins

@@ -1,0 +1,108 @@
+-- Primitives and records by their kind: what the code's choices come to. Assumes nothing.
+use Prim.Native.Nat.{ℕ}
+use native.Mathlib.Omega.{arith}
+use mathlib.Core.Path.{_≡_, sym, ap, subst, _∙_}
+use mathlib.Core.Bool.{Bool, true}
+use mathlib.Core.List.{List, [], _∷_}
+use lib.Dec.{eqb}
+use types.Run.{OneOf, miss}
+use denote.Enum.Declared.{tagOf}
+use Rattle.trees.specs.declared.Refusal.{Refusal}
+use Rattle.trees.specs.declared.Refusal.the-variants.{NotSupported}
+use Rattle.records.specs.declared.Primitive.{Primitive}
+use Rattle.records.specs.declared.Record.{Record}
+use Rattle.records.specs.declared.Kind.{Kind}
+use Rattle.records.specs.declared.Kind.the-variants as kind
+use Rattle.records.specs.declared.KindFound.{KindFound}
+use Rattle.records.specs.declared.KindFound.the-variants.{Known, Unknown}
+use Rattle.records.specs.Names.{primitiveNo, primitiveOf}
+use Rattle.records.specs.Table.{row}
+use Rattle.records.proofs.Kind.{the-type}
+use Rattle.arena.specs.Arena.{Arena}
+use Rattle.steps.specs.declared.AlgebraEnv.{AlgebraEnv}
+use Rattle.steps.specs.declared.Ran.{Ran}
+use Rattle.steps.specs.State.{went, andThen, stop, taking, push}
+use Rattle.steps.specs.Steps.{constantOf, flagged, counted, leaves, isComplexPrimitive, primitive, leafStep}
+use Rattle.steps.specs.Agree.{Does}
+use Rattle.steps.specs.Parts.{finished}
+use Rattle.leaves.specs.Parts.{whyNot}
+use Rattle.steps.proofs.Laws.{does-as, does-finished, taking-some}
+use Rattle.leaves.proofs.Table.{rows}
+
+-- the numbers of the kinds that are refused
+abbrev pub refused-kinds : List ℕ
+refused-kinds = 2 ∷ 3 ∷ 5 ∷ 6 ∷ 7 ∷ 8 ∷ 9 ∷ 10 ∷ 12 ∷ []
+
+module _ {a b : Arena} {v : ℕ} {env : AlgebraEnv} {r : Ran} (at h : ℕ) where
+  -- ---- primitives
+
+  module _ (p : Primitive) where
+    -- one that is not read
+    pub taken-none : row p .taken ≡ 0 → Does a b v env r (stop at NotSupported) → Does a b v env r (λ st. taking at (row p .taken) st (leaves at h p))
+    taken-none e d = does-as (λ st s. sym (ap (λ (n : ℕ). taking at n st (leaves at h p)) e ∙ taking-some at 0 st (leaves at h p) (omega arith))) d
+
+    -- one that takes n sums
+    pub taken-some : (n : ℕ) → row p .taken ≡ n → Does a b v env r (λ st. taking at n st (leaves at h p)) → Does a b v env r (λ st. taking at (row p .taken) st (leaves at h p))
+    taken-some n e d = subst (λ (m : ℕ). Does a b v env r (λ st. taking at m st (leaves at h p))) (sym e) d
+
+    -- with what is counted of it
+    pub primitive-done : {m c : Bool} → m ≡ row p .handled → c ≡ isComplexPrimitive p → Does a b v env r (λ st. taking at (row p .taken) st (leaves at h p)) → Does a b v env (finished m c r) (λ st. primitive at p h st)
+    unfolding primitive
+    primitive-done {m} {c} e f d =
+        subst (λ (x : Bool). Does a b v env (finished m c r) (λ st. andThen (taking at (row p .taken) st (leaves at h p)) (λ st′. went (flagged (isComplexPrimitive p) (counted x st′))))) e
+        (subst (λ (x : Bool). Does a b v env (finished m c r) (λ st. andThen (taking at (row p .taken) st (leaves at h p)) (λ st′. went (flagged x (counted m st′))))) f (does-finished m c d))
+
+  -- ---- records
+
+  module _ (e : Record) where
+    -- the kind as the code finds it
+    pub leaf-kind : {f g : KindFound} → f ≡ g → Does a b v env r (λ st. leafStep at e f h st) → Does a b v env r (λ st. leafStep at e g h st)
+    leaf-kind q d = subst (λ (f : KindFound). Does a b v env r (λ st. leafStep at e f h st)) q d
+
+    pub leaf-unknown : Does a b v env r (stop at NotSupported) → Does a b v env r (λ st. leafStep at e Unknown h st)
+    unfolding leafStep
+    leaf-unknown d = d
+
+    pub leaf-real : Does a b v env r (push at h (constantOf (e .re) 0)) → Does a b v env r (λ st. leafStep at e (Known kind.RealPush) h st)
+    unfolding leafStep
+    leaf-real d = d
+
+    pub leaf-complex : Does a b v env r (λ st. andThen (push at h (constantOf (e .re) (e .im)) st) (λ st′. went (flagged true st′))) → Does a b v env r (λ st. leafStep at e (Known kind.ComplexPush) h st)
+    unfolding leafStep
+    leaf-complex d = d
+
+    pub leaf-primitive : Does a b v env r (λ st. primitive at (primitiveOf (e .code)) h st) → Does a b v env r (λ st. leafStep at e (Known kind.Primitive) h st)
+    unfolding leafStep
+    leaf-primitive d = d
+
+    pub leaf-marker : Does a b v env r went → Does a b v env r (λ st. leafStep at e (Known kind.UnderMarker) h st)
+    unfolding leafStep
+    leaf-marker d = d
+
+    -- a kind that is refused
+    pub leaf-refused : (k : Kind) {q : Refusal} → OneOf refused-kinds (tagOf the-type k) → q ≡ whyNot k → Does a b v env r (stop at q) → Does a b v env r (λ st. leafStep at e (Known k) h st)
+    unfolding leafStep
+    leaf-refused k o q d = leaf-stop k o (subst (λ (x : Refusal). Does a b v env r (stop at x)) q d)
+      where
+        leaf-stop : (k : Kind) → OneOf refused-kinds (tagOf the-type k) → Does a b v env r (stop at (whyNot k)) → Does a b v env r (λ st. leafStep at e (Known k) h st)
+        leaf-stop kind.RealPush o d = absurd (miss refused-kinds _ tt o)
+        leaf-stop kind.ComplexPush o d = absurd (miss refused-kinds _ tt o)
+        leaf-stop kind.ArrayPush o d = d
+        leaf-stop kind.OtherPush o d = d
+        leaf-stop kind.Primitive o d = absurd (miss refused-kinds _ tt o)
+        leaf-stop kind.Modifier o d = d
+        leaf-stop kind.Body o d = d
+        leaf-stop kind.Run o d = d
+        leaf-stop kind.CustomInverse o d = d
+        leaf-stop kind.Obverse o d = d
+        leaf-stop kind.NoNormal o d = d
+        leaf-stop kind.UnderMarker o d = absurd (miss refused-kinds _ tt o)
+        leaf-stop kind.AnythingElse o d = d
+
+-- two, where it is neither none nor one
+pub taken-two : (p : Primitive) {n : ℕ} → n ≡ row p .taken → (n ≡ 0 → ⊥) → (n ≡ 1 → ⊥) → row p .taken ≡ 2
+taken-two p e f g = let few = rows p .0 in omega arith
+
+-- the numbers are compared as the code compares them
+pub same-number : (x y : ℕ) (p q c : Primitive) → x ≡ primitiveNo q → q ≡ p → y ≡ primitiveNo c → eqb x y ≡ eqb (primitiveNo p) (primitiveNo c)
+same-number x y p q c e f g = rw (e, f, g)

@@ -1,0 +1,2 @@
+-- The root of leaves' definitions.
+pub mod Parts

@@ -1,0 +1,5 @@
+-- The root of steps' definitions.
+pub mod State
+pub mod Steps
+pub mod Agree
+pub mod Parts

@@ -1,0 +1,273 @@
+// The state of reading beside the arena, refusals, and sums put on the stack. The stack of sums lies in the arena from its first slot on;
+// from v on lies what is held.
+use complex::Complex;
+use sums::Formed;
+use trees::Refusal;
+ghost use mathlib.Core.Path.{_≡_};
+ghost use mathlib.Core.Bool.{true, _||_, cond};
+ghost use mathlib.Core.List.{List};
+ghost use Prim.Native.Nat.{suc, _+_, _-_, _≤_, min};
+ghost use lib.Dec.{leb};
+ghost use lib.ListN.{length};
+ghost use Rattle.cells.specs.Book.{lent, Room};
+ghost use Rattle.trees.specs.Sums.{Sum};
+ghost use Rattle.trees.specs.Map.{Outcome, sum};
+ghost use Rattle.sums.specs.Lies.{Lies, Agrees};
+ghost use Rattle.arena.specs.Arena.{arena};
+ghost use Rattle.arena.specs.Stack.{Stacked, anyComplex};
+ghost use Rattle.steps.specs.State.{went, andThen, push};
+ghost use Rattle.steps.specs.Steps.{constantOf, flagged};
+ghost use Rattle.steps.specs.Agree.{Ready, Does};
+ghost use Rattle.steps.specs.Parts.{Filled, finished};
+
+// The state beside the arena: the cells that the stack takes, how many primitives were handled, counted to 2, and whether a complex number was met.
+pub struct AlgebraEnv {
+    pub used: usize,
+    pub handled: usize,
+    pub complex: bool,
+}
+
+// What came of running records: the state then, or a refusal, its place, and whether what was read so far counts as handled.
+pub enum Ran {
+    Went(AlgebraEnv),
+    Stopped(Refusal, usize, bool),
+}
+
+// A refusal. What was read counts as handled where two primitives were, or where a sum on the stack is complex.
+pub fn halt(
+    q: Refusal,
+    at: usize,
+    ak: &[u8],
+    ai: &[u8],
+    an: &[u64],
+    ar: &[u64],
+    am: &[u64],
+    az: &[u8],
+    env: AlgebraEnv,
+) -> Ran
+    requires { ⌜ (env .used ≤ length (now az)) × ((ss : List Sum) × Stacked (arena ak ai an ar am az) 0 (env .used) ss) ⌝ }
+    ensures { λ r. ⌜ ((ss : List Sum) → Stacked (arena (ak .entry) (ai .entry) (an .entry) (ar .entry) (am .entry) (az .entry)) 0 (env .used) ss → r ≡ Ran.Stopped q at (leb 2 (env .handled) || anyComplex ss)) ⌝ }
+{
+    let complex = arena::any_complex(ak, ai, an, ar, am, az, env.used);
+    Ran::Stopped(q, at, (2 <= env.handled) | complex)
+}
+
+// A pop that finds nothing: the stack is empty then.
+pub fn short(at: usize, env: AlgebraEnv) -> Ran
+    ensures { λ r. ⌜ r ≡ Ran.Stopped Refusal.TooManyVariables at (leb 2 (env .handled)) ⌝ }
+{
+    Ran::Stopped(Refusal::TooManyVariables, at, 2 <= env.handled)
+}
+
+// The sum of n cells is put on the stack, if there is room for it below what is held.
+pub fn push_cells(
+    n: usize,
+    at: usize,
+    vk: &[u8],
+    vi: &[u8],
+    vn: &[u64],
+    vr: &[u64],
+    vm: &[u64],
+    ak: &mut [u8],
+    ai: &mut [u8],
+    an: &mut [u64],
+    ar: &mut [u64],
+    am: &mut [u64],
+    az: &mut [u8],
+    v: usize,
+    env: AlgebraEnv,
+) -> Ran
+    requires { ⌜ (1 ≤ n) × (n ≤ 64) × Room (lent vk vi vn vr vm) n × Ready (arena ak ai an ar am az) v env ⌝ }
+    ensures { λ r. ⌜ ((s : Sum) → Lies (lent (vk .entry) (vi .entry) (vn .entry) (vr .entry) (vm .entry)) 0 n 4 s → Does (arena (ak .entry) (ai .entry) (an .entry) (ar .entry) (am .entry) (az .entry)) (arena (ak .exit) (ai .exit) (an .exit) (ar .exit) (am .exit) (az .exit)) v env r (push at (1024 - v) (sum s))) ⌝ }
+{
+    let used = env.used;
+    if v - used < n {
+        return Ran::Stopped(Refusal::NoRoom, at, false);
+    }
+    arena::push_sum(vk, vi, vn, vr, vm, n, ak, ai, an, ar, am, az, used);
+    Ran::Went(AlgebraEnv {
+        used: used + n,
+        handled: env.handled,
+        complex: env.complex,
+    })
+}
+
+// What was formed is put on the stack.
+pub fn push_formed(
+    f: Formed,
+    at: usize,
+    vk: &[u8],
+    vi: &[u8],
+    vn: &[u64],
+    vr: &[u64],
+    vm: &[u64],
+    ak: &mut [u8],
+    ai: &mut [u8],
+    an: &mut [u64],
+    ar: &mut [u64],
+    am: &mut [u64],
+    az: &mut [u8],
+    v: usize,
+    env: AlgebraEnv,
+) -> Ran
+    requires { ⌜ Filled f × Room (lent vk vi vn vr vm) 64 × Ready (arena ak ai an ar am az) v env ⌝ }
+    ensures { λ r. ⌜ ((o : Outcome) → Agrees f (lent (vk .entry) (vi .entry) (vn .entry) (vr .entry) (vm .entry)) 0 o → Does (arena (ak .entry) (ai .entry) (an .entry) (ar .entry) (am .entry) (az .entry)) (arena (ak .exit) (ai .exit) (an .exit) (ar .exit) (am .exit) (az .exit)) v env r (push at (1024 - v) o)) ⌝ }
+{
+    match f {
+        Formed::Done(n) => push_cells(n, at, vk, vi, vn, vr, vm, ak, ai, an, ar, am, az, v, env),
+        Formed::Refused(q) => halt(q, at, ak, ai, an, ar, am, az, env),
+    }
+}
+
+// A copy of the sum of n cells from i on is put on the stack.
+pub fn copy_up(
+    at: usize,
+    i: usize,
+    n: usize,
+    ak: &mut [u8],
+    ai: &mut [u8],
+    an: &mut [u64],
+    ar: &mut [u64],
+    am: &mut [u64],
+    az: &mut [u8],
+    v: usize,
+    env: AlgebraEnv,
+) -> Ran
+    requires { ⌜ (1 ≤ n) × (n ≤ 64) × Room (lent ak ai an ar am) (i + n) × Ready (arena ak ai an ar am az) v env ⌝ }
+    ensures { λ r. ⌜ ((s : Sum) → Lies (lent (ak .entry) (ai .entry) (an .entry) (ar .entry) (am .entry)) i (i + n) 4 s → Does (arena (ak .entry) (ai .entry) (an .entry) (ar .entry) (am .entry) (az .entry)) (arena (ak .exit) (ai .exit) (an .exit) (ar .exit) (am .exit) (az .exit)) v env r (push at (1024 - v) (sum s))) ⌝ }
+{
+    let mut vk = [0u8; 64];
+    let mut vi = [0u8; 64];
+    let mut vn = [0u64; 64];
+    let mut vr = [0u64; 64];
+    let mut vm = [0u64; 64];
+    cells::copy_in(
+        ak,
+        ai,
+        an,
+        ar,
+        am,
+        i,
+        n,
+        &mut vk,
+        &mut vi,
+        &mut vn,
+        &mut vr,
+        &mut vm,
+        0,
+    );
+    push_cells(
+        n,
+        at,
+        &vk,
+        &vi,
+        &vn,
+        &vr,
+        &vm,
+        ak,
+        ai,
+        an,
+        ar,
+        am,
+        az,
+        v,
+        env,
+    )
+}
+
+// A number, given by its bits, is put on the stack.
+pub fn push_number(
+    re: u64,
+    im: u64,
+    at: usize,
+    ak: &mut [u8],
+    ai: &mut [u8],
+    an: &mut [u64],
+    ar: &mut [u64],
+    am: &mut [u64],
+    az: &mut [u8],
+    v: usize,
+    env: AlgebraEnv,
+) -> Ran
+    requires { ⌜ Ready (arena ak ai an ar am az) v env ⌝ }
+    ensures { λ r. ⌜ Does (arena (ak .entry) (ai .entry) (an .entry) (ar .entry) (am .entry) (az .entry)) (arena (ak .exit) (ai .exit) (an .exit) (ar .exit) (am .exit) (az .exit)) v env r (push at (1024 - v) (constantOf re im)) ⌝ }
+{
+    if !(checks::finite_bits(re) & checks::finite_bits(im)) {
+        return halt(Refusal::NotFinite, at, ak, ai, an, ar, am, az, env);
+    }
+    let mut vk = [0u8; 64];
+    let mut vi = [0u8; 64];
+    let mut vn = [0u64; 64];
+    let mut vr = [0u64; 64];
+    let mut vm = [0u64; 64];
+    let c = Complex {
+        re: f64::from_bits(re),
+        im: f64::from_bits(im),
+    };
+    let f = adds::constant_sum(c, &mut vk, &mut vi, &mut vn, &mut vr, &mut vm);
+    push_formed(
+        f,
+        at,
+        &vk,
+        &vi,
+        &vn,
+        &vr,
+        &vm,
+        ak,
+        ai,
+        an,
+        ar,
+        am,
+        az,
+        v,
+        env,
+    )
+}
+
+// One more, counted to 2.
+fn count(n: usize, more: bool) -> usize
+    ensures { λ r. ⌜ r ≡ cond more (min 2 (suc n)) n ⌝ }
+{
+    if !more {
+        return n;
+    }
+    if n < 2 { n + 1 } else { 2 }
+}
+
+// After a step: whether one more is handled, and whether a complex number was met.
+pub fn finish(r: Ran, handled: bool, complex: bool) -> Ran
+    ensures { λ s. ⌜ s ≡ finished handled complex r ⌝ }
+{
+    match r {
+        Ran::Went(env) => {
+            let n = count(env.handled, handled);
+            Ran::Went(AlgebraEnv {
+                used: env.used,
+                handled: n,
+                complex: env.complex | complex,
+            })
+        }
+        Ran::Stopped(q, at, b) => Ran::Stopped(q, at, b),
+    }
+}
+
+// A complex number: the flag is set.
+pub fn push_complex(
+    re: u64,
+    im: u64,
+    at: usize,
+    ak: &mut [u8],
+    ai: &mut [u8],
+    an: &mut [u64],
+    ar: &mut [u64],
+    am: &mut [u64],
+    az: &mut [u8],
+    v: usize,
+    env: AlgebraEnv,
+) -> Ran
+    requires { ⌜ Ready (arena ak ai an ar am az) v env ⌝ }
+    ensures { λ r. ⌜ Does (arena (ak .entry) (ai .entry) (an .entry) (ar .entry) (am .entry) (az .entry)) (arena (ak .exit) (ai .exit) (an .exit) (ar .exit) (am .exit) (az .exit)) v env r (λ st. andThen (push at (1024 - v) (constantOf re im) st) (λ st′. went (flagged true st′))) ⌝ }
+{
+    let r = push_number(re, im, at, ak, ai, an, ar, am, az, v, env);
+    finish(r, false, true)
+}
