@@ -1,10 +1,10 @@
 -- Laws of `read`: the sum that it writes is good, and a refusal changes nothing. Assumes nothing.
-use Prim.Native.Nat.{ℕ, _+_, _/_, _≤_, _<_}
+use Prim.Native.Nat.{ℕ, _+_, _≤_, _<_}
 use native.Mathlib.Omega.{arith}
 use mathlib.Core.Path.{_≡_, refl, sym, ap, subst, _∙_}
 use mathlib.Core.Bool.{Bool, true, false, cond}
 use mathlib.Core.List.{List}
-use lib.ListN.{length}
+use lib.Dec.{leb}
 use lib.Seq.{sets}
 use borrow.Author.Tests.{le-leb, lt-leb}
 use Rattle.cells.specs.Book.{Book}
@@ -23,13 +23,13 @@ use Rattle.records.specs.Rules as rules
 use Rattle.records.specs.Tree.{Nodes, parse}
 use Rattle.entries.specs.declared.Taken.{Taken}
 use Rattle.entries.specs.declared.Taken.the-variants as taken
-use Rattle.entries.specs.Encoding.{encodeSum}
+use Rattle.entries.specs.Encoding.{entriesIn, encodeSum}
 use Rattle.entries.specs.Taking.{Weighed}
 use Rattle.entries.proofs.Theorem.{good-taken}
 use Rattle.arena.proofs.Laws.{good-some}
 use Rattle.bodies.specs.Reading.{Read, done, refusedAt, readNodes}
 use Rattle.bodies.proofs.Good.{read-good}
-use Rattle.algebra.specs.Promises.{Promise, fits}
+use Rattle.algebra.specs.Promises.{Promise}
 use Rattle.algebra.specs.Reading.{byVerdict, readList, answerOf, bytesOf}
 use Rattle.algebra.specs.declared.ReadAnswer.{ReadAnswer}
 use Rattle.algebra.specs.declared.ReadAnswer.the-variants as answer
@@ -53,7 +53,7 @@ sum-taken l {s} t e w = let g = sum-good l e in good-taken s t (g .good) (good-s
 
 -- changes no byte
 pub refusal-quiet : (x : Read) (out : List ℕ) {q : Refusal} {at : ℕ} → answerOf x out ≡ answer.Refused q at → bytesOf x out ≡ out
-refusal-quiet (done s c h) out {q} {at} e = go (fits 32 (size s) out) e
+refusal-quiet (done s c h) out {q} {at} e = go (leb (size s) (entriesIn out)) e
   where
     go : (b : Bool) → cond b (answer.Sum (size s) c) (answer.Refused OutputRoom 0) ≡ answer.Refused q at → cond b (sets out 0 (encodeSum s)) out ≡ out
     go true e = let z : _≡_ {A = ℕ} 0 1 = cc in absurd (omega arith)
@@ -74,25 +74,25 @@ list-good l out out′ e p = rw e p
 
 module _ (s : Sum) (c h : Bool) (out : List ℕ) where
   -- there is no room for it
-  pub sum-refused : length out / 32 < size s → Promise (answerOf (done s c h)) (bytesOf (done s c h)) out out (answer.Refused OutputRoom 0)
+  pub sum-refused : entriesIn out < size s → Promise (answerOf (done s c h)) (bytesOf (done s c h)) out out (answer.Refused OutputRoom 0)
   sum-refused l =
-      let e = sym (lt-leb (size s) (length out / 32) l) in
+      let e = sym (lt-leb (size s) (entriesIn out) l) in
       record { answered = ap (λ b. cond b (answer.Sum (size s) c) (answer.Refused OutputRoom 0)) e; written = ap (λ b. cond b (sets out 0 (encodeSum s)) out) e }
 
   -- there is room
-  pub sum-written : (out′ : List ℕ) → size s ≤ length out / 32 → out′ ≡ sets out 0 (encodeSum s) → Promise (answerOf (done s c h)) (bytesOf (done s c h)) out out′ (answer.Sum (size s) c)
+  pub sum-written : (out′ : List ℕ) → size s ≤ entriesIn out → out′ ≡ sets out 0 (encodeSum s) → Promise (answerOf (done s c h)) (bytesOf (done s c h)) out out′ (answer.Sum (size s) c)
   sum-written out′ l w =
-      let e = sym (le-leb (size s) (length out / 32) l) in
+      let e = sym (le-leb (size s) (entriesIn out) l) in
       record { answered = ap (λ b. cond b (answer.Sum (size s) c) (answer.Refused OutputRoom 0)) e; written = w ∙ ap (λ b. cond b (sets out 0 (encodeSum s)) out) e }
 
 module _ {b : Book} {n : ℕ} {s : Sum} (c h : Bool) (out : List ℕ) (l : Lies b 0 (0 + n) 4 s) where
   many : n ≡ size s
   many = omega (arith, l .ends)
 
-  pub put-refused : length out / 32 < n → Promise (answerOf (done s c h)) (bytesOf (done s c h)) out out (answer.Refused OutputRoom 0)
+  pub put-refused : entriesIn out < n → Promise (answerOf (done s c h)) (bytesOf (done s c h)) out out (answer.Refused OutputRoom 0)
   put-refused f = sum-refused s c h out (omega (arith, many))
 
-  pub put-written : (out′ : List ℕ) → n ≤ length out / 32 → out′ ≡ sets out 0 (encodeSum s) → Promise (answerOf (done s c h)) (bytesOf (done s c h)) out out′ (answer.Sum n c)
+  pub put-written : (out′ : List ℕ) → n ≤ entriesIn out → out′ ≡ sets out 0 (encodeSum s) → Promise (answerOf (done s c h)) (bytesOf (done s c h)) out out′ (answer.Sum n c)
   put-written out′ f e = rw many (sum-written s c h out out′ (omega (arith, many)) e)
 
 -- ---- what reading gave

@@ -2,6 +2,7 @@
 use Prim.Native.Nat.{ℕ}
 use mathlib.Core.Bool.{false, cond}
 use mathlib.Core.List.{List}
+use lib.Dec.{leb}
 use lib.Seq.{sets}
 use Rattle.trees.specs.declared.Refusal.the-variants.{OutputRoom}
 use Rattle.trees.specs.Refusals.{refusalNo}
@@ -10,9 +11,8 @@ use Rattle.records.specs.declared.Verdict.{Verdict}
 use Rattle.records.specs.declared.Verdict.the-variants as verdict
 use Rattle.records.specs.Rules as rules
 use Rattle.records.specs.Tree.{parse}
-use Rattle.entries.specs.Encoding.{encodeSum}
+use Rattle.entries.specs.Encoding.{entriesIn, encodeSum}
 use Rattle.bodies.specs.Reading.{Read, done, refusedAt, readNodes}
-use Rattle.algebra.specs.Promises.{fits}
 use Rattle.algebra.specs.declared.Numbers.{Numbers}
 use Rattle.algebra.specs.declared.ReadAnswer.{ReadAnswer}
 use Rattle.algebra.specs.declared.ReadAnswer.the-variants as answer
@@ -27,12 +27,12 @@ readList l = byVerdict (rules.verdict l) (readNodes (parse l))
 
 -- 17 comes last, at place 0
 abbrev pub answerOf : Read → List ℕ → ReadAnswer
-answerOf (done s c h) out = cond (fits 32 (size s) out) (answer.Sum (size s) c) (answer.Refused OutputRoom 0)
+answerOf (done s c h) out = cond (leb (size s) (entriesIn out)) (answer.Sum (size s) c) (answer.Refused OutputRoom 0)
 answerOf (refusedAt q at h) out = answer.Refused q at
 
 -- the sum's bytes from the first byte on, and no other byte is changed
 abbrev pub bytesOf : Read → List ℕ → List ℕ
-bytesOf (done s c h) out = cond (fits 32 (size s) out) (sets out 0 (encodeSum s)) out
+bytesOf (done s c h) out = cond (leb (size s) (entriesIn out)) (sets out 0 (encodeSum s)) out
 bytesOf (refusedAt q at h) out = out
 
 -- document 01's numbers

@@ -63,7 +63,8 @@ fn put_read(
     requires { ⌜ Held (lent wk wi wn wr wm) 0 (0 + n) 4 ⌝ }
     ensures { λ r. ⌜ ((s : Sum) (h : Bool) → Lies (lent (wk .entry) (wi .entry) (wn .entry) (wr .entry) (wm .entry)) 0 (0 + n) 4 s → Promise (answerOf (done s complex h)) (bytesOf (done s complex h)) (now (out .entry)) (now (out .exit)) r) ⌝ }
 {
-    if out.len() / 32 < n {
+    let room = entries::count_entries(out);
+    if room < n {
         return ReadAnswer::Refused(Refusal::OutputRoom, 0);
     }
     entries::put_sum(wk, wi, wn, wr, wm, 0, n, out);

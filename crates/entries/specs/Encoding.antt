@@ -1,7 +1,8 @@
 -- Sums as bytes. An entry has 32, numbers with the lowest byte first: 0 kind, 1 to 4 zero, 4 to 8 how many entries lie inside, 8 to 16 the power or base,
 -- 16 to 24 re, 24 to 32 im.
 use mathlib.Core.List.{List, [], _∷_, _++_}
-use Prim.Native.Nat.{ℕ}
+use Prim.Native.Nat.{ℕ, _/_}
+use lib.ListN.{length}
 use Rattle.cells.specs.declared.Entry.{Entry}
 use Rattle.cells.specs.Book.{Cell, encoded}
 use Rattle.trees.specs.Sums.{Sum, none, and, size, entry}
@@ -14,6 +15,10 @@ encodeCell c = c .kind ∷ 0 ∷ 0 ∷ 0 ∷ (bytes 4 (c .inside) ++ bytes 8 (c 
 -- an entry, each float as its bits
 abbrev pub encodeEntry : Entry → List ℕ
 encodeEntry e = encodeCell (encoded e)
+
+-- how many whole entries some bytes have room for
+abbrev pub entriesIn : List ℕ → ℕ
+entriesIn l = length l / 32
 
 -- an entry, then its inside, then the next entry
 unfoldable pub encodeSum : Sum → List ℕ

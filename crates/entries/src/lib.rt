@@ -7,7 +7,7 @@ ghost use lib.Seq.{sets};
 ghost use Rattle.cells.specs.Book.{lent, Room};
 ghost use Rattle.trees.specs.Sums.{Sum};
 ghost use Rattle.sums.specs.Lies.{Lies, Held};
-ghost use Rattle.entries.specs.Encoding.{encodeCell, encodeSum};
+ghost use Rattle.entries.specs.Encoding.{encodeCell, entriesIn, encodeSum};
 ghost use Rattle.entries.specs.Taking.{Weighed, Laid};
 ghost use Rattle.entries.specs.Steps.{cleanAt, Loaded, Answered};
 
@@ -109,6 +109,13 @@ fn put_cell(out: &mut [u8], j: usize, kind: u8, inside: u8, num: u64, re: u64, i
     records::put_eight(out, at + 8, num);
     records::put_eight(out, at + 16, re);
     records::put_eight(out, at + 24, im);
+}
+
+// How many whole entries there is room for.
+pub fn count_entries(out: &[u8]) -> usize
+    ensures { λ r. ⌜ r ≡ entriesIn (now (out .entry)) ⌝ }
+{
+    out.len() / 32
 }
 
 // Writes the sum that lies in the `n` cells from `i` on.

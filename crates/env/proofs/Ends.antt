@@ -19,7 +19,11 @@ use Rattle.cells.specs.Moves.{Put, Copied}
 use Rattle.cells.proofs.Laws.{Fitting, put-at, room-less, room-same}
 use Rattle.trees.specs.declared.Refusal.{Refusal}
 use Rattle.trees.specs.declared.Refusal.the-variants.{NoOutput, TooManyOutputs}
-use Rattle.records.specs.Tree.{parse}
+use Rattle.records.specs.Tree.{parse, recordsIn}
+use Rattle.records.specs.Rules.{verdict}
+use Rattle.records.specs.declared.Verdict.the-variants.{Good}
+use Rattle.records.specs.Walk.{Stretch}
+use Rattle.records.proofs.Walk.{whole-stretch}
 use Rattle.trees.specs.Kinds as kinds
 use Rattle.trees.specs.Sums.{Sum, none, size, entry}
 use Rattle.terms.specs.Singles.{GoodSum, single}
@@ -140,19 +144,23 @@ one-copied {n = n} w r few l =
 
 -- ---- the whole
 
-module _ {a b : Arena} {env : AlgebraEnv} (s : List ℕ) (h : Stands a 1024 env start) where
+-- all records of a good list
+pub all-records : (s : List ℕ) {n : ℕ} → n ≡ recordsIn s → verdict s ≡ Good → Stretch s 0 n false 129
+all-records s e g = rw e (whole-stretch s g)
+
+module _ {a b : Arena} {env : AlgebraEnv} (s : List ℕ) {n : ℕ} (all : n ≡ recordsIn s) (h : Stands a 1024 env start) where
   -- reading refuses
-  pub read-stop : {q : Refusal} {at : ℕ} {z : Bool} (w : Book) → Does a b 1024 env (Stopped q at z) (λ st. walkOf s 0 (length s / 24) (1024 - 1024) st) → DataAs (answer.Refused q at z) w (readNodes (parse s))
+  pub read-stop : {q : Refusal} {at : ℕ} {z : Bool} (w : Book) → Does a b 1024 env (Stopped q at z) (λ st. walkOf s 0 n (1024 - 1024) st) → DataAs (answer.Refused q at z) w (readNodes (parse s))
   unfolding readNodes parse
-  read-stop {q} {at} {z} w d = go (walkOf s 0 (length s / 24) 0 start) (d .agrees start h)
+  read-stop {q} {at} {z} w d = rw (← all) (go (walkOf s 0 n 0 start) (d .agrees start h))
     where
       go : (x : Walked) → Agree (Stopped q at z) b 1024 x → DataAs (answer.Refused q at z) w (ended x)
       go (went st) e = absurd e
       go (stopped q′ at′ z′) e = e
 
-  module _ {e : AlgebraEnv} (d : Does a b 1024 env (Went e) (λ st. walkOf s 0 (length s / 24) (1024 - 1024) st)) where
+  module _ {e : AlgebraEnv} (d : Does a b 1024 env (Went e) (λ st. walkOf s 0 n (1024 - 1024) st)) where
     pub read-ready : Ready a 1024 env → Ready b 1024 e
-    read-ready y = record { space = space-same (d .kept .long) (y .space); within = y .within; some = go (walkOf s 0 (length s / 24) 0 start) (d .agrees start h) }
+    read-ready y = record { space = space-same (d .kept .long) (y .space); within = y .within; some = go (walkOf s 0 n 0 start) (d .agrees start h) }
       where
         go : (x : Walked) → Agree (Went e) b 1024 x → (st : State) × Stands b 1024 e st
         go (went st) k = (st, k)
@@ -161,7 +169,7 @@ module _ {a b : Arena} {env : AlgebraEnv} (s : List ℕ) (h : Stands a 1024 env 
     -- reading comes to its end
     pub read-went : (r : AlgebraData) (w : Book) → ((st : State) → Stands b 1024 e st → DataAs r w (ended (went st))) → DataAs r w (readNodes (parse s))
     unfolding readNodes parse
-    read-went r w f = go (walkOf s 0 (length s / 24) 0 start) (d .agrees start h)
+    read-went r w f = rw (← all) (go (walkOf s 0 n 0 start) (d .agrees start h))
       where
         go : (x : Walked) → Agree (Went e) b 1024 x → DataAs r w (ended x)
         go (went st) k = f st k

@@ -390,7 +390,7 @@ pub fn nodes_expr(
     let mut am = [0u64; 1024];
     let mut az = [0u8; 1024];
     let env = begin_with_x(&mut ak, &mut ai, &mut an, &mut ar, &mut am, &mut az);
-    let n = list.len() / 24;
+    let n = records::count_records(list);
     let ran = walk(
         list,
         0,

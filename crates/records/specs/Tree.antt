@@ -74,8 +74,12 @@ grow s (suc f) a e = elim (ltb a e) [ true ↦ rec (recAt s a) (grow s f (a + 1)
 unfoldable pub forest : List ℕ → ℕ → ℕ → Nodes
 forest s a e = grow s (e - a) a e
 
+-- how many whole records a list of bytes has
+abbrev pub recordsIn : List ℕ → ℕ
+recordsIn s = length s / 24
+
 unfoldable pub parse : List ℕ → Nodes
-parse s = forest s 0 (length s / 24)
+parse s = forest s 0 (recordsIn s)
 
 -- the record r is stored at place i of s, in its 24 bytes and no others, and is read there
 pub record Written (s s′ : List ℕ) (i : ℕ) (r : Record) : Type 0 where

@@ -9,7 +9,7 @@ ghost use lib.Seq.{sets};
 ghost use Rattle.records.specs.Names.{kindNo, kindOf, primitiveNo, primitiveOf, modifierNo, modifierOf};
 ghost use Rattle.records.specs.Table.{row, packed};
 ghost use Rattle.records.specs.Bytes.{number, bytes};
-ghost use Rattle.records.specs.Tree.{recAt, count, forest, Written};
+ghost use Rattle.records.specs.Tree.{recAt, recordsIn, count, forest, Written};
 ghost use Rattle.records.specs.Rules.{fieldsOk, isKnown, shapeOf, verdict, Judged};
 ghost use Rattle.records.specs.Measure.{mayStand, Measured};
 ghost use Rattle.records.specs.Walk.{Walkable};
@@ -589,6 +589,13 @@ pub fn put_eight(out: &mut [u8], at: usize, v: u64)
 {
     put_four(out, at, v);
     put_four(out, at + 4, v / 4294967296);
+}
+
+// How many whole records there are, or there is room for.
+pub fn count_records(list: &[u8]) -> usize
+    ensures { λ r. ⌜ r ≡ recordsIn (now (list .entry)) ⌝ }
+{
+    list.len() / 24
 }
 
 // The record at place `i`.
