@@ -1,0 +1,5 @@
+-- The root of calculus' laws.
+pub mod Primes
+pub mod Into
+pub mod Good
+pub mod Rules

@@ -1,0 +1,4 @@
+-- The root of calculus' definitions.
+pub mod Derivative
+pub mod Integral
+pub mod Into
