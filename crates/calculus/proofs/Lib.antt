@@ -3,3 +3,4 @@ pub mod Primes
 pub mod Into
 pub mod Good
 pub mod Rules
+pub mod Eaching
