@@ -143,7 +143,7 @@ module _ {w a : Book} {len i : ℕ} {v : Bool} (x : Entry) (p : v ≡ vanishes (
 
 -- ---- 1 over a sum
 
-not-empty : (s : Sum) → 1 ≤ size s → isEmpty s ≡ false
+pub not-empty : (s : Sum) → 1 ≤ size s → isEmpty s ≡ false
 unfolding size
 not-empty none h = absurd (omega arith)
 not-empty (and k p i c r) h = refl
@@ -186,11 +186,11 @@ module _ {a : Book} (i n : ℕ) (b : Book) (o : Formed) (x : Entry) (f : (u t : 
 
 -- ---- an entry by its kind
 
-module _ {w w′ a : Book} {len i n : ℕ} {r : Formed} (x : Entry) where
-  -- the same, written otherwise
-  into-as : {f g : Sum → Sum → Outcome} → ((t s : Sum) → f t s ≡ g t s) → Into w w′ len a i n r f → Into w w′ len a i n r g
-  into-as e g = record { long = g .long; agrees = λ t s lt ls. subst (λ o. Agrees r w′ 0 o) (e t s) (g .agrees t s lt ls) }
+-- the same, written otherwise
+pub into-as : {w w′ a : Book} {len i n : ℕ} {r : Formed} {f g : Sum → Sum → Outcome} → ((t s : Sum) → f t s ≡ g t s) → Into w w′ len a i n r f → Into w w′ len a i n r g
+into-as {w′ = w′} {r = r} e g = record { long = g .long; agrees = λ t s lt ls. subst (λ o. Agrees r w′ 0 o) (e t s) (g .agrees t s lt ls) }
 
+module _ {w w′ a : Book} {len i n : ℕ} {r : Formed} (x : Entry) where
   pub into-log : x .kind ≡ kinds.Log → Into w w′ len a i n r (λ t s. deriveLog x t s) → Into w w′ len a i n r (λ t s. deriveInto x t s)
   unfolding deriveInto
   into-log e g = into-as (λ t s. rw e refl) g
@@ -232,12 +232,12 @@ wave-asks j e = rw e (wave-kind j)
 
 pub into-wave : {w w′ a : Book} {len i n : ℕ} {r : Formed} {k : ℕ} {m : Merge} (x : Entry) → 3 ≤ x .kind → x .kind ≤ 8 → (x .kind ≡ kinds.Log → ⊥) → (x .kind ≡ kinds.Exp → ⊥) → k ≡ turnedKind (x .kind) → m ≡ turnedHow (x .kind)
     → Into w w′ len a i n r (λ t s. deriveBy k m x t s) → Into w w′ len a i n r (λ t s. deriveInto x t s)
-into-wave x lo hi l e p q g = into-as x (λ t s. wave (x .kind) (x .inside) (x .num) (x .coef) t s lo hi l e) (rw (← p) (rw (← q) g))
+into-wave x lo hi l e p q g = into-as (λ t s. wave (x .kind) (x .inside) (x .num) (x .coef) t s lo hi l e) (rw (← p) (rw (← q) g))
 
 -- a power of x has no argument
 pub into-x : {w w′ a : Book} {len i n : ℕ} {r : Formed} (x : Entry) → x .kind ≡ kinds.X → n ≡ 0 → Into w w′ len a i 0 r (λ t s. deriveX x s) → Into w w′ len a i n r (λ t s. deriveInto x t s)
 unfolding deriveInto
-into-x {w} {w′} {a} {len} {i} {n} {r} x e z g = subst (λ k. Into w w′ len a i k r (λ t s. deriveInto x t s)) (sym z) (into-as x (λ t s. rw e refl) g)
+into-x {w} {w′} {a} {len} {i} {n} {r} x e z g = subst (λ k. Into w w′ len a i k r (λ t s. deriveInto x t s)) (sym z) (into-as (λ t s. rw e refl) g)
 
 pub ready-none : {w a : Book} {len i n : ℕ} → n ≡ 0 → Ready w len a i n → Ready w len a i 0
 ready-none {w} {a} {len} {i} z y = subst (λ k. Ready w len a i k) z y

@@ -4,3 +4,4 @@ pub mod Into
 pub mod Good
 pub mod Rules
 pub mod Eaching
+pub mod Deriving

@@ -43,23 +43,8 @@ use Rattle.terms.proofs.Agree.{Fine, then-fine, formed-fine}
 use Rattle.terms.proofs.Calculus.{xKey, coef-found, put-found, gained-total, Gained, gained-none, gained-then, gained-x, put-powers}
 use Rattle.calculus.specs.Derivative.{slope, vanishes, deriveX, deriveInto, orZero, derive}
 use Rattle.calculus.specs.Integral.{x, stored, integrateX, integrateInto, integrate}
+use Rattle.calculus.specs.Rules.{slopeAt, slopesAt, allVanish, NearSum, later, dividedAt, lastAt, lastLog, logKey, NearUpSum}
 use Rattle.calculus.proofs.Good.{fits-timesReal, fits-overReal, x-is-good, log-head-good}
-
--- ---- what the coefficients of a derivative are
-
--- the slope of c times x to the p, where it isn't 0 and p ⊖ 1 is q
-abbrev pub slopeAt : Float → Float → Complex → List Complex
-slopeAt q p c = cond (vanishes p c) [] (where-is q (p ⊖ one64) (slope p c))
-
--- of each term in order
-unfoldable pub slopesAt : Float → Sum → List Complex
-slopesAt q none = []
-slopesAt q (and k p i c r) = slopeAt q p c ++ slopesAt q r
-
--- every slope is 0
-unfoldable pub allVanish : Sum → Bool
-allVanish none = true
-allVanish (and k p i c r) = vanishes p c && allVanish r
 
 -- ---- derivatives
 
@@ -148,11 +133,6 @@ module _ (s r : Sum) (ps : PowerSum s) (h : derive s ≡ sum r) where
       go (and l v j c t) d e = subst PowerSum (sum-is e) (d .gains .powers tt)
 
 -- ---- whole powers don't run together
-
--- each power is a whole number z with -2^53 < z ≤ 2^53
-unfoldable pub NearSum : Sum → Type 0
-NearSum none = Unit {0}
-NearSum (and k p i c r) = ((z : ℤ) × Means p z × Near z) × NearSum r
 
 key-x : (n : ℕ) (q : Float) (c : Complex) → T (finite q) → Key (entry kinds.X n q c) none
 unfolding Finite
@@ -254,31 +234,6 @@ module _ (k : ℕ) (p : Float) (i : Sum) (c : Complex) where
   derive-term {s} {r} h ps gs ns o e =
       let m = has-near h ns in
       derive-coef s r ps o (has-slope h e) (p ⊖ one64) (means-finite (less-1 (m .1) (m .2))) ∙ ap totalAt (slopes-own h ps (gs .good) ns e)
-
--- ---- what the coefficients of an integral are
-
--- the later of two numbers stored at one key
-abbrev pub later : Found → Found → Found
-later absent f = f
-later (at c) f = at c
-
--- c times x to the p, divided by p ⊕ 1, where that is q and not 0
-abbrev pub dividedAt : Float → Float → Complex → Found
-dividedAt q p c = cond (eq (p ⊕ one64) zero64) absent (cond (eq (p ⊕ one64) q) (at (complex.overReal c (p ⊕ one64))) absent)
-
--- of the last such term
-unfoldable pub lastAt : Float → Sum → Found
-lastAt q none = absent
-lastAt q (and k p i c r) = later (lastAt q r) (dividedAt q p c)
-
--- the coefficient of the last term for which p ⊕ 1 is 0
-unfoldable pub lastLog : Sum → Found
-lastLog none = absent
-lastLog (and k p i c r) = later (lastLog r) (cond (eq (p ⊕ one64) zero64) (at c) absent)
-
--- the key of the natural logarithm of x
-abbrev pub logKey : Entry
-logKey = entry kinds.Log 1 euler complex.zero
 
 -- ---- integrals
 
@@ -433,11 +388,6 @@ module _ (s r : Sum) (ps : PowerSum s) (gs : GoodSum s) (h : integrate s ≡ sum
   integrate-powers e = whole-stored .powers e tt
 
 -- ---- whole powers don't run together
-
--- each power is a whole number z with -2^53 ≤ z < 2^53
-unfoldable pub NearUpSum : Sum → Type 0
-NearUpSum none = Unit {0}
-NearUpSum (and k p i c r) = ((z : ℤ) × Means p z × NearUp z) × NearUpSum r
 
 not-divided : (q p : Float) (c : Complex) → eq (p ⊕ one64) q ≡ false → dividedAt q p c ≡ absent
 not-divided q p c e = rw e (go (eq (p ⊕ one64) zero64))

@@ -2,3 +2,4 @@
 pub mod Derivative
 pub mod Integral
 pub mod Into
+pub mod Rules

@@ -1,4 +1,4 @@
-// Derivative and integral of a sum, one outermost entry a step. The sum lies in one book, what comes of it is formed in another.
+// Derivative of a sum, one outermost entry a step; the definitions and laws of the integral too. The sum lies in one book, what comes of it is formed in another.
 use adds::Constant;
 use cells::Entry;
 use complex::Complex;
@@ -16,7 +16,7 @@ ghost use Rattle.trees.specs.Map.{eachInto};
 ghost use Rattle.cells.specs.Moves.{SameRoom};
 ghost use Rattle.sums.specs.Lies.{Lies, Held, Agrees};
 ghost use Rattle.adds.specs.Reads.{constantOf};
-ghost use Rattle.calculus.specs.Derivative.{slope, vanishes, primeStep, prime, lnOf, turnedTo, deriveBy, deriveLog, deriveExp, deriveX, deriveDiv, deriveInto};
+ghost use Rattle.calculus.specs.Derivative.{slope, vanishes, primeStep, prime, lnOf, turnedTo, deriveBy, deriveLog, deriveExp, deriveX, deriveDiv, deriveInto, derive};
 ghost use Rattle.calculus.specs.Into.{Ready, Into, turnedKind, turnedHow};
 ghost use lib.Dec.{eqb};
 
@@ -385,8 +385,8 @@ fn derive_div(
     }
 }
 
-// The kind that the derivative of sin, cos, sinh or cosh is of.
-fn turned_kind(kind: u8) -> u8
+// The kind that the derivative of sin, cos, sinh or cosh is of, and the integral too.
+pub fn turned_kind(kind: u8) -> u8
     ensures { λ r. ⌜ r ≡ turnedKind kind ⌝ }
 {
     if kind == trees::SIN {
@@ -521,4 +521,34 @@ fn derive_each(
         q = q + 1 + n;
     }
     Formed::Done(len)
+}
+
+// The derivative of the sum of m cells from j on: nothing becomes constant 0.
+pub fn expr_deriv(
+    ak: &[u8],
+    ai: &[u8],
+    an: &[u64],
+    ar: &[u64],
+    am: &[u64],
+    j: usize,
+    m: usize,
+    wk: &mut [u8],
+    wi: &mut [u8],
+    wn: &mut [u64],
+    wr: &mut [u64],
+    wm: &mut [u64],
+) -> Formed
+    requires { ⌜ (m ≤ 64) × Held (lent ak ai an ar am) j (j + m) 4 × Room (lent wk wi wn wr wm) 64 ⌝ }
+    ensures { λ r. ⌜ ((t : Sum) → Lies (lent (ak .entry) (ai .entry) (an .entry) (ar .entry) (am .entry)) j (j + m) 4 t → Agrees r (lent (wk .exit) (wi .exit) (wn .exit) (wr .exit) (wm .exit)) 0 (derive t)) ⌝ }
+{
+    let each = derive_each(ak, ai, an, ar, am, j, m, wk, wi, wn, wr, wm);
+    match each {
+        Formed::Refused(q) => Formed::Refused(q),
+        Formed::Done(n) => {
+            if n == 0 {
+                return adds::constant_sum(Complex::ZERO, wk, wi, wn, wr, wm);
+            }
+            Formed::Done(n)
+        }
+    }
 }

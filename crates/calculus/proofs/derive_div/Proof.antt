@@ -7,11 +7,22 @@ use Rattle.calculus.proofs.Into.{div-refuses, div-ready, div-into}
 use Rattle.calculus.proofs.derive_div.Statement.{statement}
 use Rattle.calculus.proofs.derive_div.Tie as tie
 
+abbrev start-of : tie.After-form-two → tie.Start
+start-of c = c .before .before .before .before .before .before .before .before .before .before .before .before .before .before .before .before
+
 returns : tie.Need-returns
-returns c = div-refuses (c .before .before .before .before .before .before .before .before .before .before .before .before .before .before .before .before .before .before .before .before .before .before .before .before .args .i) (c .before .before .before .before .before .before .before .before .before .before .before .before .before .before .before .before .before .before .before .before .before .before .before .before .args .n) _ (c .before .before .before .before .before .before .before .before .form-two .result) (c .before .before .before .before .before .before .before .before .before .before .before .before .before .before .before .before .before .before .before .before .before .before .before .before .args .x) (c .before .before .before .before .before .before .before .before .form-two .ensures) (c .before .square .given .1)
+returns c =
+    let formed = c .before .before .before .before .before .before .before .before in
+    let a = start-of formed .args in
+    div-refuses (a .i) (a .n) _ (formed .form-two .result) (a .x) (formed .form-two .ensures) (c .before .square .given .1)
 
 returns-2 : tie.Need-returns-2
-returns-2 c = div-into (c .before .before .before .before .before .before .before .before .before .before .before .before .before .before .before .before .before .before .before .before .before .before .before .before .before .before .before .before .before .before .before .before .before .before .before .before .before .before .before .before .before .before .before .before .before .args .i) (c .before .before .before .before .before .before .before .before .before .before .before .before .before .before .before .before .before .before .before .before .before .before .before .before .before .before .before .before .before .before .before .before .before .before .before .before .before .before .before .before .before .before .before .before .before .args .n) _ (c .before .before .before .before .before .before .before .before .before .before .before .before .before .before .before .before .before .before .before .before .before .before .before .before .before .before .before .before .before .form-two .result) (c .before .before .before .before .before .before .before .before .before .before .before .before .before .before .before .before .before .before .before .before .before .before .before .before .before .before .before .before .before .before .before .before .before .before .before .before .before .before .before .before .before .before .before .before .before .args .x) (c .before .before .before .before .before .before .before .before .before .before .before .before .before .before .before .before .before .before .before .before .before .before .before .before .before .before .before .before .before .form-two .ensures) (c .before .before .before .before .before .before .before .before .before .before .before .before .before .before .before .before .before .before .before .before .before .before .square2 .given .1) (c .before .before .before .before .before .before .before .before .before .before .put-over .ensures)
+returns-2 c =
+    let put = c .before .before .before .before .before .before .before .before .before .before in
+    let square = put .before .before .before .before .before .before .before .before .before .before .before .before in
+    let formed = square .before .before .before .before .before .before .before in
+    let a = start-of formed .args in
+    div-into (a .i) (a .n) _ (formed .form-two .result) (a .x) (formed .form-two .ensures) (square .square2 .given .1) (put .put-over .ensures)
 
 pub derive-div-spec : {M : Type 1} → statement M
 derive-div-spec =
@@ -31,8 +42,10 @@ derive-div-spec =
     (λ c. search needs)
     (λ c. search needs)
     (λ c κs.
-    let s = c .before .before .before .before .before .before .before .before .before .before .before .before .before .before .before .before .before .before .before .before .before .before .before .before .before .before .before .before .before .before .before .before .before .before in
-    let w = div-ready (s .args .i) (s .args .n) _ (c .before .before .before .before .before .before .before .before .before .before .before .before .before .before .before .before .before .before .form-two .result) (s .args .x) (c .before .before .before .before .before .before .before .before .before .before .before .before .before .before .before .before .before .before .form-two .ensures) (c .before .before .before .before .before .before .before .before .before .before .before .square2 .given .1) (s .pre .0) (s .pre .1) (s .pre .2) in
+    let square = c .before .before .before .before .before .before .before .before .before .before .before in
+    let formed = square .before .before .before .before .before .before .before in
+    let st = start-of formed in
+    let w = div-ready (st .args .i) (st .args .n) _ (formed .form-two .result) (st .args .x) (formed .form-two .ensures) (square .square2 .given .1) (st .pre .0) (st .pre .1) (st .pre .2) in
     (w .0, w .1, w .2, omega arith, omega arith, refl))
     returns
     (λ c. returns-2 c .long .kinds)

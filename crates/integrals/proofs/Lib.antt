@@ -1,0 +1,2 @@
+-- The root of integrals' laws.
+pub mod Storing

@@ -1,0 +1,2 @@
+-- The root of integrals' definitions.
+pub mod Turned
