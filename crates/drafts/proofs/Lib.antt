@@ -1,0 +1,5 @@
+-- The root of drafts' laws.
+pub mod Laws
+pub mod Lying
+pub mod Growing
+pub mod Fine

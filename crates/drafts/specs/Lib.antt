@@ -1,0 +1,4 @@
+-- The root of drafts' definitions.
+pub mod Writing
+pub mod Lying
+pub mod Growing
