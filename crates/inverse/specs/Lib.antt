@@ -1,0 +1,3 @@
+-- The root of inverse's definitions.
+pub mod Inverse
+pub mod Steps
