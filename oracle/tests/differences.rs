@@ -236,6 +236,23 @@ mod deriving {
     }
 
     #[test]
+    fn small_coefficients_vanish() {
+        assert_eq!(derivative("Sqrt, push 5e-324, Mul"), "push 0, Mul");
+        assert_eq!(derivative("Sqrt, push 5e-324, Mul, Sin"), "push 0, Mul");
+        gives_up(judge::derivative(&text::list(
+            "Sqrt, push 1e-323, Mul, Sin",
+        )));
+    }
+
+    #[test]
+    fn of_log_10_rounds_twice() {
+        assert_eq!(
+            derivative("Log10"),
+            "Identity, push 1, Flip, Div, push 0.43429448190325176, Mul"
+        );
+    }
+
+    #[test]
     fn of_logarithms_to_odd_bases() {
         for (base, rust) in [
             (1.0, "Identity, push 1, Flip, Div, push NaN, Mul"),
@@ -286,13 +303,41 @@ mod integrating {
     }
 
     #[test]
+    fn large_powers_fall_together() {
+        assert_eq!(
+            integral("push -9007199254740996, Pow"),
+            "push -9.007199254740996e15, Pow, push -1.110223024625156e-16, Mul"
+        );
+        let words = "Dup, push -9007199254740996, Pow, Flip, push -9007199254740998, Pow, Add";
+        assert_eq!(reads(words), "(x^-9007199254740998 + x^-9007199254740996)");
+        assert_eq!(
+            integral(words),
+            "push -9.007199254740996e15, Pow, push -1.110223024625156e-16, Mul"
+        );
+    }
+
+    #[test]
+    fn a_small_coefficient_vanishes_and_its_term_stays() {
+        assert_eq!(integral("push 5e-324, Mul"), "push 0, Mul");
+        let sum = judge::read(&text::list("push 5e-324, Mul")).done().unwrap();
+        let integrated = judge::integrate(&sum.entries).done().unwrap();
+        assert_eq!(integrated.len(), 32);
+    }
+
+    #[test]
     fn reciprocal_is_ln_x_for_every_x() {
         assert_eq!(integral("Reciprocal"), "Identity, push E, Log");
     }
 
     #[test]
     fn gives_up_where_calculus_goes_on() {
-        for words in ["Exp", "Ln", "push 1, Add, Reciprocal", "push 1, Add, Sin"] {
+        for words in [
+            "Exp",
+            "Ln",
+            "push 1, Add, Reciprocal",
+            "push 1, Add, Sin",
+            "Pop, push 2, Sin",
+        ] {
             gives_up(judge::integral(&text::list(words)));
         }
     }
@@ -498,6 +543,26 @@ mod domain {
             15,
             3,
         );
+    }
+
+    #[test]
+    fn overflows_after_reading() {
+        for words in ["Dup, Mul, push 1e308, Mul"] {
+            assert!(derivative(words).contains("push inf"));
+            refused(judge::derivative(&text::list(words)), 15, 0);
+        }
+        let words = "push -0.9, Pow, push 1e308, Mul";
+        assert!(integral(words).contains("push inf"));
+        refused(judge::integral(&text::list(words)), 15, 0);
+        let words = "Dup, push 1e200, Mul, Flip, Dup, Mul, Add";
+        assert!(inverse(words).contains("push inf"));
+        refused(judge::inverse(&text::list(words)), 15, 0);
+    }
+
+    #[test]
+    fn a_square_of_over_64_entries() {
+        let words = "push 1, Add, push 32, Pow, Reciprocal";
+        refused(judge::derivative(&text::list(words)), 12, 0);
     }
 
     #[test]

@@ -1,3 +1,5 @@
 -- The root of algebra's laws and theorems.
-pub mod Determined
 pub mod Reading
+pub mod Lists
+pub mod Composing
+pub mod Written

@@ -29,7 +29,7 @@ use Rattle.entries.proofs.Theorem.{good-taken}
 use Rattle.arena.proofs.Laws.{good-some}
 use Rattle.bodies.specs.Reading.{Read, done, refusedAt, readNodes}
 use Rattle.bodies.proofs.Good.{read-good}
-use Rattle.algebra.specs.Promises.{Promise}
+use Rattle.answers.specs.Promises.{Promise}
 use Rattle.algebra.specs.Reading.{byVerdict, readList, answerOf, bytesOf}
 use Rattle.algebra.specs.declared.ReadAnswer.{ReadAnswer}
 use Rattle.algebra.specs.declared.ReadAnswer.the-variants as answer
@@ -63,14 +63,14 @@ refusal-quiet (refusedAt q at h) out e = refl
 -- ---- what the code answers
 
 -- the list is refused as it stands
-pub list-refused : (l out : List ℕ) {q : Refusal} → rules.verdict l ≡ verdict.Refused q → Promise (answerOf (readList l)) (bytesOf (readList l)) out out (answer.Refused q 0)
+pub list-refused : (l : List ℕ) (b : Book) {q : Refusal} → rules.verdict l ≡ verdict.Refused q → DataAs (gave.Refused q 0 false) b (readList l)
 unfolding readList
-list-refused l out e = rw e (record { answered = refl; written = refl })
+list-refused l b e = rw e (record { refusal = refl; place = refl; handled = refl })
 
 -- the list keeps the rules
-pub list-good : (l out out′ : List ℕ) {r : ReadAnswer} → rules.verdict l ≡ verdict.Good → Promise (answerOf (readNodes (parse l))) (bytesOf (readNodes (parse l))) out out′ r → Promise (answerOf (readList l)) (bytesOf (readList l)) out out′ r
+pub list-good : (l : List ℕ) → rules.verdict l ≡ verdict.Good → readList l ≡ readNodes (parse l)
 unfolding readList
-list-good l out out′ e p = rw e p
+list-good l e = rw e refl
 
 module _ (s : Sum) (c h : Bool) (out : List ℕ) where
   -- there is no room for it

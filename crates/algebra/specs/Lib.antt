@@ -1,3 +1,3 @@
 -- The root of algebra's definitions.
-pub mod Promises
 pub mod Reading
+pub mod Entries

@@ -13,7 +13,7 @@ use Rattle.records.specs.Rules as rules
 use Rattle.records.specs.Tree.{parse}
 use Rattle.entries.specs.Encoding.{entriesIn, encodeSum}
 use Rattle.bodies.specs.Reading.{Read, done, refusedAt, readNodes}
-use Rattle.algebra.specs.declared.Numbers.{Numbers}
+use Rattle.answers.specs.declared.Numbers.{Numbers}
 use Rattle.algebra.specs.declared.ReadAnswer.{ReadAnswer}
 use Rattle.algebra.specs.declared.ReadAnswer.the-variants as answer
 

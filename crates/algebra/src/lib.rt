@@ -1,32 +1,30 @@
 // The entries. None asks anything of its caller: every byte list gets a result or one refusal, and a refusal changes no output byte.
+use answers::Answer;
+use answers::Numbers;
+use entries::Taken;
 use env::AlgebraData;
 use records::Verdict;
 use trees::Refusal;
 ghost use mathlib.Core.Path.{_≡_};
-ghost use Prim.Native.Nat.{_+_};
+ghost use Prim.Native.Nat.{_+_, _≤_};
 ghost use mathlib.Core.Bool.{Bool};
-ghost use Rattle.cells.specs.Book.{lent};
+ghost use Rattle.cells.specs.Book.{lent, Room};
 ghost use Rattle.trees.specs.Sums.{Sum};
 ghost use Rattle.sums.specs.Lies.{Lies, Held};
-ghost use Rattle.records.specs.declared.Verdict.the-variants.{Good};
-ghost use Rattle.records.specs.Rules.{verdict};
-ghost use Rattle.records.specs.Tree.{parse};
-ghost use Rattle.bodies.specs.Reading.{done, readNodes};
-ghost use Rattle.algebra.specs.Promises.{Promise};
+ghost use Rattle.records.specs.Tree.{recordsIn};
+ghost use Rattle.entries.specs.Encoding.{entriesIn};
+ghost use Rattle.bodies.specs.Reading.{done, refusedAt};
+ghost use Rattle.env.specs.Data.{DataAs};
+ghost use Rattle.answers.specs.Promises.{Promise};
+ghost use Rattle.answers.specs.Making as making;
+ghost use Rattle.answers.specs.Making.{answered, Gives, OfBytes};
 ghost use Rattle.algebra.specs.Reading.{readList, answerOf, bytesOf, readNumbers};
+ghost use Rattle.algebra.specs.Entries as lists;
 
 // What `read` answers: a sum of so many entries, with the complex flag, or a refusal with its place.
 pub enum ReadAnswer {
     Sum(usize, bool),
     Refused(Refusal, usize),
-}
-
-// Document 01's number, place, count and complex flag.
-pub struct Numbers {
-    pub number: u64,
-    pub place: usize,
-    pub count: usize,
-    pub flag: bool,
 }
 
 // The numbers of an answer.
@@ -46,6 +44,26 @@ pub fn read_numbers(r: ReadAnswer) -> Numbers
             count: 0,
             flag: false,
         },
+    }
+}
+
+// ---- of a list
+
+// The sum that a list stands for: 11 and 13 come first, over the whole list.
+fn read_sum(
+    list: &[u8],
+    wk: &mut [u8],
+    wi: &mut [u8],
+    wn: &mut [u64],
+    wr: &mut [u64],
+    wm: &mut [u64],
+) -> AlgebraData
+    requires { ⌜ Room (lent wk wi wn wr wm) 64 ⌝ }
+    ensures { λ r. ⌜ DataAs r (lent (wk .exit) (wi .exit) (wn .exit) (wr .exit) (wm .exit)) (readList (now (list .entry))) ⌝ }
+{
+    match records::check(list) {
+        Verdict::Refused(q) => AlgebraData::Refused(q, 0, false),
+        Verdict::Good => env::nodes_expr(list, wk, wi, wn, wr, wm),
     }
 }
 
@@ -71,29 +89,170 @@ fn put_read(
     ReadAnswer::Sum(n, complex)
 }
 
-// Reads a list that keeps the rules.
-fn read_good(list: &[u8], out: &mut [u8]) -> ReadAnswer
-    requires { ⌜ verdict (now list) ≡ Good ⌝ }
-    ensures { λ r. ⌜ Promise (answerOf (readNodes (parse (now (list .entry))))) (bytesOf (readNodes (parse (now (list .entry))))) (now (out .entry)) (now (out .exit)) r ⌝ }
+// From a list to the sum that it stands for.
+pub fn read(list: &[u8], out: &mut [u8]) -> ReadAnswer
+    ensures { λ r. ⌜ Promise (answerOf (readList (now (list .entry)))) (bytesOf (readList (now (list .entry)))) (now (out .entry)) (now (out .exit)) r ⌝ }
 {
     let mut wk = [0u8; 64];
     let mut wi = [0u8; 64];
     let mut wn = [0u64; 64];
     let mut wr = [0u64; 64];
     let mut wm = [0u64; 64];
-    let data = env::nodes_expr(list, &mut wk, &mut wi, &mut wn, &mut wr, &mut wm);
+    let data = read_sum(list, &mut wk, &mut wi, &mut wn, &mut wr, &mut wm);
     match data {
         AlgebraData::Refused(q, at, _) => ReadAnswer::Refused(q, at),
         AlgebraData::Sum(n, complex, _) => put_read(&wk, &wi, &wn, &wr, &wm, n, complex, out),
     }
 }
 
-// From a list to the sum that it stands for.
-pub fn read(list: &[u8], out: &mut [u8]) -> ReadAnswer
-    ensures { λ r. ⌜ Promise (answerOf (readList (now (list .entry)))) (bytesOf (readList (now (list .entry)))) (now (out .entry)) (now (out .exit)) r ⌝ }
+// From a list to the list of its derivative.
+pub fn derivative(list: &[u8], out: &mut [u8]) -> Answer
+    ensures { λ r. ⌜ Gives recordsIn (lists.derivative (now (list .entry))) (now (out .entry)) (now (out .exit)) r ⌝ }
 {
-    match records::check(list) {
-        Verdict::Refused(q) => ReadAnswer::Refused(q, 0),
-        Verdict::Good => read_good(list, out),
+    let mut wk = [0u8; 64];
+    let mut wi = [0u8; 64];
+    let mut wn = [0u64; 64];
+    let mut wr = [0u64; 64];
+    let mut wm = [0u64; 64];
+    let data = read_sum(list, &mut wk, &mut wi, &mut wn, &mut wr, &mut wm);
+    match data {
+        AlgebraData::Refused(q, at, _) => Answer::Refused(q, at),
+        AlgebraData::Sum(n, complex, _) => answers::derive_and_write(
+            &wk,
+            &wi,
+            &wn,
+            &wr,
+            &wm,
+            n,
+            complex,
+            out,
+        ),
+    }
+}
+
+// From a list to the list of its integral.
+pub fn integral(list: &[u8], out: &mut [u8]) -> Answer
+    ensures { λ r. ⌜ Gives recordsIn (lists.integral (now (list .entry))) (now (out .entry)) (now (out .exit)) r ⌝ }
+{
+    let mut wk = [0u8; 64];
+    let mut wi = [0u8; 64];
+    let mut wn = [0u64; 64];
+    let mut wr = [0u64; 64];
+    let mut wm = [0u64; 64];
+    let data = read_sum(list, &mut wk, &mut wi, &mut wn, &mut wr, &mut wm);
+    match data {
+        AlgebraData::Refused(q, at, _) => Answer::Refused(q, at),
+        AlgebraData::Sum(n, complex, _) => answers::integrate_and_write(
+            &wk,
+            &wi,
+            &wn,
+            &wr,
+            &wm,
+            n,
+            complex,
+            out,
+        ),
+    }
+}
+
+// A refusal of reading. 10, at place 0, replaces 1 to 9 where what was read doesn't count as handled.
+fn refuse_inverse(q: Refusal, at: usize, handled: bool) -> Answer
+    ensures { λ r. ⌜ r ≡ answered (lists.inverseOf (refusedAt q at handled)) 0 ⌝ }
+{
+    if handled {
+        return Answer::Refused(q, at);
+    }
+    if trees::refusal_no(q) <= 9 {
+        return Answer::Refused(Refusal::NotHandled, 0);
+    }
+    Answer::Refused(q, at)
+}
+
+// The list that undoes the sum of the first n cells, where what was read counts as handled.
+fn invert_read(
+    wk: &[u8],
+    wi: &[u8],
+    wn: &[u64],
+    wr: &[u64],
+    wm: &[u64],
+    n: usize,
+    complex: bool,
+    handled: bool,
+    out: &mut [u8],
+) -> Answer
+    requires { ⌜ (n ≤ 64) × Held (lent wk wi wn wr wm) 0 (0 + n) 4 ⌝ }
+    ensures { λ r. ⌜ ((s : Sum) → Lies (lent (wk .entry) (wi .entry) (wn .entry) (wr .entry) (wm .entry)) 0 (0 + n) 4 s → Gives recordsIn (lists.inverseOf (done s complex handled)) (now (out .entry)) (now (out .exit)) r) ⌝ }
+{
+    if !handled {
+        return Answer::Refused(Refusal::NotHandled, 0);
+    }
+    answers::invert(wk, wi, wn, wr, wm, n, complex, out)
+}
+
+// From a list to the list that undoes it.
+pub fn inverse(list: &[u8], out: &mut [u8]) -> Answer
+    ensures { λ r. ⌜ Gives recordsIn (lists.inverse (now (list .entry))) (now (out .entry)) (now (out .exit)) r ⌝ }
+{
+    let mut wk = [0u8; 64];
+    let mut wi = [0u8; 64];
+    let mut wn = [0u64; 64];
+    let mut wr = [0u64; 64];
+    let mut wm = [0u64; 64];
+    let data = read_sum(list, &mut wk, &mut wi, &mut wn, &mut wr, &mut wm);
+    match data {
+        AlgebraData::Refused(q, at, handled) => refuse_inverse(q, at, handled),
+        AlgebraData::Sum(n, complex, handled) => {
+            invert_read(&wk, &wi, &wn, &wr, &wm, n, complex, handled, out)
+        }
+    }
+}
+
+// ---- of a sum
+
+// The derivative of a sum that is handed over.
+pub fn derive(sum: &[u8], out: &mut [u8]) -> Answer
+    ensures { λ r. ⌜ OfBytes entriesIn making.derive (now (sum .entry)) (now (out .entry)) (now (out .exit)) r ⌝ }
+{
+    let mut ak = [0u8; 64];
+    let mut ai = [0u8; 64];
+    let mut an = [0u64; 64];
+    let mut ar = [0u64; 64];
+    let mut am = [0u64; 64];
+    let taken = entries::take_in(sum, &mut ak, &mut ai, &mut an, &mut ar, &mut am);
+    match taken {
+        Taken::Refused(q) => Answer::Refused(q, 0),
+        Taken::Sum(n) => answers::derive(&ak, &ai, &an, &ar, &am, n, out),
+    }
+}
+
+// The integral of a sum that is handed over.
+pub fn integrate(sum: &[u8], out: &mut [u8]) -> Answer
+    ensures { λ r. ⌜ OfBytes entriesIn making.integrate (now (sum .entry)) (now (out .entry)) (now (out .exit)) r ⌝ }
+{
+    let mut ak = [0u8; 64];
+    let mut ai = [0u8; 64];
+    let mut an = [0u64; 64];
+    let mut ar = [0u64; 64];
+    let mut am = [0u64; 64];
+    let taken = entries::take_in(sum, &mut ak, &mut ai, &mut an, &mut ar, &mut am);
+    match taken {
+        Taken::Refused(q) => Answer::Refused(q, 0),
+        Taken::Sum(n) => answers::integrate(&ak, &ai, &an, &ar, &am, n, out),
+    }
+}
+
+// A sum that is handed over, as a list.
+pub fn write(sum: &[u8], complex: bool, out: &mut [u8]) -> Answer
+    ensures { λ r. ⌜ OfBytes recordsIn (making.write complex) (now (sum .entry)) (now (out .entry)) (now (out .exit)) r ⌝ }
+{
+    let mut ak = [0u8; 64];
+    let mut ai = [0u8; 64];
+    let mut an = [0u64; 64];
+    let mut ar = [0u64; 64];
+    let mut am = [0u64; 64];
+    let taken = entries::take_in(sum, &mut ak, &mut ai, &mut an, &mut ar, &mut am);
+    match taken {
+        Taken::Refused(q) => Answer::Refused(q, 0),
+        Taken::Sum(n) => answers::write_sum(&ak, &ai, &an, &ar, &am, n, complex, out),
     }
 }

@@ -19,8 +19,20 @@ pub const CUT_OFF: usize = 5;
 
 pub const FAILED: usize = 6;
 
-// The row of reading, and what a row of an entry has: how many calls there were of each sort, and, one further, how many went as they should.
+// The rows of the entries, and what such a row has: how many calls there were of each sort, and, one further, how many went as they should.
 pub const READ: usize = 1;
+
+pub const DERIVE: usize = 2;
+
+pub const INTEGRATE: usize = 3;
+
+pub const WRITE: usize = 4;
+
+pub const DERIVATIVE: usize = 5;
+
+pub const INTEGRAL: usize = 6;
+
+pub const INVERSE: usize = 7;
 
 pub const ANSWERS: usize = 0;
 
@@ -126,6 +138,12 @@ pub fn summary(counts: &[u64; 64]) {
     print_line(counts, LISTS, b" lists, ");
     print_line(counts, SUMS, b" sums\n");
     summary_of(counts, READ, b"read: ");
+    summary_of(counts, DERIVE, b"derive: ");
+    summary_of(counts, INTEGRATE, b"integrate: ");
+    summary_of(counts, WRITE, b"write: ");
+    summary_of(counts, DERIVATIVE, b"derivative: ");
+    summary_of(counts, INTEGRAL, b"integral: ");
+    summary_of(counts, INVERSE, b"inverse: ");
     print_line(counts, SKIPPED, b" lines skipped, ");
     print_line(counts, BROKEN, b" broken, ");
     print_line(counts, CUT_OFF, b" cut off or too long\n");

@@ -1,14 +1,21 @@
 // The entries under test, each with its answer as a stored line has it.
 use crate::counts;
 use crate::text;
-use algebra::ReadAnswer;
+use answers::Numbers;
 ghost use Prim.Native.Nat.{_<_};
 
-// What a line is: an input, an answer of an entry, or something else.
+// What a line is: an input, an answer of an entry, or something else. An answer of `write` begins with the flag that was handed over.
 pub enum Keyword {
     List,
     Sum,
     Read,
+    Derive,
+    Integrate,
+    WriteReal,
+    WriteComplex,
+    Derivative,
+    Integral,
+    Inverse,
     Other,
 }
 
@@ -30,7 +37,45 @@ pub fn keyword_of(line: &[u8]) -> Keyword {
     if text::is_keyword(line, b"read") {
         return Keyword::Read;
     }
+    if text::is_keyword(line, b"derive") {
+        return Keyword::Derive;
+    }
+    if text::is_keyword(line, b"integrate") {
+        return Keyword::Integrate;
+    }
+    if text::is_keyword(line, b"write 0") {
+        return Keyword::WriteReal;
+    }
+    if text::is_keyword(line, b"write 1") {
+        return Keyword::WriteComplex;
+    }
+    if text::is_keyword(line, b"derivative") {
+        return Keyword::Derivative;
+    }
+    if text::is_keyword(line, b"integral") {
+        return Keyword::Integral;
+    }
+    if text::is_keyword(line, b"inverse") {
+        return Keyword::Inverse;
+    }
     Keyword::Other
+}
+
+// How long the keyword is.
+pub fn word_len(k: Keyword) -> usize {
+    match k {
+        Keyword::List => 4,
+        Keyword::Sum => 3,
+        Keyword::Read => 4,
+        Keyword::Derive => 6,
+        Keyword::Integrate => 9,
+        Keyword::WriteReal => 7,
+        Keyword::WriteComplex => 7,
+        Keyword::Derivative => 10,
+        Keyword::Integral => 8,
+        Keyword::Inverse => 7,
+        Keyword::Other => 0,
+    }
 }
 
 // The row in which an entry's calls are counted; a line that is no answer makes no call.
@@ -39,7 +84,35 @@ pub fn row(k: Keyword) -> usize
 {
     match k {
         Keyword::Read => counts::READ,
+        Keyword::Derive => counts::DERIVE,
+        Keyword::Integrate => counts::INTEGRATE,
+        Keyword::WriteReal => counts::WRITE,
+        Keyword::WriteComplex => counts::WRITE,
+        Keyword::Derivative => counts::DERIVATIVE,
+        Keyword::Integral => counts::INTEGRAL,
+        Keyword::Inverse => counts::INVERSE,
         _ => counts::LINES,
+    }
+}
+
+// Whether the entry is handed a sum; else it is handed a list.
+pub fn takes_sum(k: Keyword) -> bool {
+    match k {
+        Keyword::Derive => true,
+        Keyword::Integrate => true,
+        Keyword::WriteReal => true,
+        Keyword::WriteComplex => true,
+        _ => false,
+    }
+}
+
+// Whether the entry writes a sum; else it writes a list.
+pub fn writes_sum(k: Keyword) -> bool {
+    match k {
+        Keyword::Read => true,
+        Keyword::Derive => true,
+        Keyword::Integrate => true,
+        _ => false,
     }
 }
 
@@ -60,23 +133,30 @@ fn flag_of(complex: bool) -> u64 {
     if complex { 1 } else { 0 }
 }
 
-fn read(list: &[u8], out: &mut [u8]) -> Answer {
-    let answer = algebra::read(list, out);
-    match answer {
-        ReadAnswer::Sum(n, complex) => Answer {
-            number: 0,
-            place: 0,
-            count: n as u64,
-            flag: flag_of(complex),
-        },
-        ReadAnswer::Refused(r, place) => refusal(trees::refusal_no(r), place as u64),
+fn told(n: Numbers) -> Answer {
+    Answer {
+        number: n.number,
+        place: n.place as u64,
+        count: n.count as u64,
+        flag: flag_of(n.flag),
     }
+}
+
+fn given(a: answers::Answer) -> Answer {
+    told(answers::answer_numbers(a))
 }
 
 // What the entry of this keyword answers; 0 at 0 with nothing written, which no entry answers, where there is none.
 pub fn call(k: Keyword, input: &[u8], out: &mut [u8]) -> Answer {
     match k {
-        Keyword::Read => read(input, out),
+        Keyword::Read => told(algebra::read_numbers(algebra::read(input, out))),
+        Keyword::Derive => given(algebra::derive(input, out)),
+        Keyword::Integrate => given(algebra::integrate(input, out)),
+        Keyword::WriteReal => given(algebra::write(input, false, out)),
+        Keyword::WriteComplex => given(algebra::write(input, true, out)),
+        Keyword::Derivative => given(algebra::derivative(input, out)),
+        Keyword::Integral => given(algebra::integral(input, out)),
+        Keyword::Inverse => given(algebra::inverse(input, out)),
         _ => refusal(0, 0),
     }
 }

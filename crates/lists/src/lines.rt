@@ -80,27 +80,55 @@ fn number_place(line: &[u8], at: usize) -> Told {
     Told::Both(number, place, j)
 }
 
-// The answer of a line `read`; the entries go into want.
-fn read_stored(line: &[u8], want: &mut [u8]) -> Stored {
-    let both = number_place(line, 4);
-    let Told::Both(number, place, i) = both else {
-        return Stored::Broken;
-    };
-    let third = text::number_at(line, i);
-    let Number::Found(flag, j) = third else {
-        return Stored::Broken;
-    };
-    let decoded = text::decode(line, j, ENTRY, want);
+// Bytes of what the entry of this keyword writes one of.
+fn unit_of(k: Keyword) -> usize
+    ensures { λ r. ⌜ 1 ≤ r ⌝ }
+{
+    if entries::writes_sum(k) {
+        ENTRY
+    } else {
+        RECORD
+    }
+}
+
+// The answer whose number, place and flag are known; what is written is in the line from here on, and goes into want.
+fn stored_in(
+    line: &[u8],
+    at: usize,
+    k: Keyword,
+    number: u64,
+    place: u64,
+    flag: u64,
+    want: &mut [u8],
+) -> Stored {
+    let unit = unit_of(k);
+    let decoded = text::decode(line, at, unit, want);
     let Decoded::Bytes(n) = decoded else {
         return Stored::Broken;
     };
     let answer = Answer {
         number: number,
         place: place,
-        count: (n / ENTRY) as u64,
+        count: (n / unit) as u64,
         flag: flag,
     };
     Stored::Answer(answer, n)
+}
+
+// The answer of a line; that of `read` has a flag behind the place.
+fn stored_of(line: &[u8], k: Keyword, want: &mut [u8]) -> Stored {
+    let both = number_place(line, entries::word_len(k));
+    let Told::Both(number, place, i) = both else {
+        return Stored::Broken;
+    };
+    let Keyword::Read = k else {
+        return stored_in(line, i, k, number, place, 0, want);
+    };
+    let third = text::number_at(line, i);
+    let Number::Found(flag, j) = third else {
+        return Stored::Broken;
+    };
+    stored_in(line, j, k, number, place, flag, want)
 }
 
 // The calls on the first n bytes of the input, of whose output the first m bytes of want are stored.
@@ -125,24 +153,43 @@ fn replay(
     calls::replay(name, counts, k, &input[..n], answer, &want[..m]);
 }
 
-fn read_line(
+// Whether what is held is what the entry is handed.
+fn is_fit(k: Keyword, held: Held) -> bool {
+    match held {
+        Held::List(_) => !entries::takes_sum(k),
+        Held::Sum(_) => entries::takes_sum(k),
+        Held::Nothing => false,
+    }
+}
+
+fn held_bytes(held: Held) -> usize {
+    match held {
+        Held::List(n) => n,
+        Held::Sum(n) => n,
+        Held::Nothing => 0,
+    }
+}
+
+fn answer_line(
     name: &[u8],
     line: &[u8],
     counts: &mut [u64; 64],
+    k: Keyword,
     held: Held,
     input: &[u8],
     want: &mut [u8],
 ) {
-    let Held::List(n) = held else {
+    if !is_fit(k, held) {
         counts::note_line(counts, counts::BROKEN);
         return;
-    };
-    let stored = read_stored(line, want);
+    }
+    let n = held_bytes(held);
+    let stored = stored_of(line, k, want);
     let Stored::Answer(answer, m) = stored else {
         counts::note_line(counts, counts::BROKEN);
         return;
     };
-    replay(name, counts, Keyword::Read, input, n, answer, want, m);
+    replay(name, counts, k, input, n, answer, want, m);
 }
 
 // One line: what is held after it.
@@ -159,12 +206,12 @@ fn run(
     match k {
         Keyword::List => list_line(line, counts, input),
         Keyword::Sum => sum_line(line, counts, input),
-        Keyword::Read => {
-            read_line(name, line, counts, held, input, want);
-            held
-        }
         Keyword::Other => {
             counts::note_line(counts, counts::SKIPPED);
+            held
+        }
+        _ => {
+            answer_line(name, line, counts, k, held, input, want);
             held
         }
     }

@@ -1,27 +1,43 @@
--- The verdict on the list comes first. Assumes nothing.
-use mathlib.Core.Path.{sym, _∙_}
+-- A refusal is handed on; a sum is written. Assumes nothing.
 use borrow.Author.Needs.{needs}
-use Rattle.algebra.proofs.Reading.{list-refused, list-good}
+use Rattle.algebra.specs.Reading.{readList}
+use Rattle.algebra.proofs.Reading.{data-refused, data-held, data-sum}
 use Rattle.algebra.proofs.read.Statement.{statement}
 use Rattle.algebra.proofs.read.Tie as tie
 
-read-good-requires : tie.Need-read-good-requires
-read-good-requires c κs = sym (c .before .before .before .check .ensures .0) ∙ c .before .enum-told .given .1
+put-read-requires : tie.Need-put-read-requires
+put-read-requires c κs =
+    let start = c .before .before .before .before .before .before .before .before .before .before .before .before .before .before .before .before .before .before .before .before .before .before in
+    data-held _ _ (readList (start .args .list .now)) (c .before .before .before .before .before .before .before .data2 .given .1) (c .before .before .before .before .before .before .before .before .before .before .before .before .before .before .read-sum .ensures)
 
 returns : tie.Need-returns
-returns c = list-refused (c .before .before .before .before .before .before .args .list .now) (c .before .before .before .before .before .before .args .out .now) (sym (c .before .before .before .check .ensures .0) ∙ c .before .q .given .1)
+returns c =
+    let start = c .before .before .before .before .before .before .before .before .before .before .before .before .before .before .before .before in
+    data-refused _ _ (readList (start .args .list .now)) _ (c .before .«data» .given .1) (c .before .before .before .before .before .before .before .before .read-sum .ensures)
 
 returns-2 : tie.Need-returns-2
-returns-2 c = list-good (c .before .before .before .before .before .before .before .before .before .args .list .now) (c .before .before .before .before .before .before .before .before .before .args .out .now) _ (sym (c .before .before .before .before .before .before .check .ensures .0) ∙ c .before .before .before .before .enum-told .given .1) (c .before .before .read-good .ensures)
+returns-2 c =
+    let start = c .before .before .before .before .before .before .before .before .before .before .before .before .before .before .before .before .before .before .before .before .before .before .before .before .before in
+    data-sum _ _ (readList (start .args .list .now)) (c .before .before .before .before .before .before .before .before .before .before .data2 .given .1) (c .before .before .before .before .before .before .before .before .before .before .before .before .before .before .before .before .before .read-sum .ensures) (c .before .before .put-read .ensures)
 
 pub read-spec : {M : Type 1} → statement M
 read-spec =
     tie.close
     (tie.spec
+    (λ c. search needs)
+    (λ c. search needs)
+    (λ c. search needs)
+    (λ c. search needs)
+    (λ c. search needs)
     (λ c κs. search needs)
     (λ c. search needs)
     (λ c. search needs)
-    read-good-requires
+    (λ c. search needs)
+    (λ c. search needs)
+    (λ c. search needs)
+    (λ c. search needs)
+    (λ c. search needs)
+    put-read-requires
     returns
     (λ c. search needs)
     returns-2)

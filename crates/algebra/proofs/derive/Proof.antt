@@ -1,0 +1,39 @@
+-- The sum is taken and derived, or refused. Assumes nothing.
+use borrow.Author.Needs.{needs}
+use Rattle.answers.proofs.Taking.{bytes-refused, bytes-made, bytes-held}
+use Rattle.algebra.proofs.derive.Statement.{statement}
+use Rattle.algebra.proofs.derive.Tie as tie
+
+then-requires : tie.Need-derive-requires
+then-requires c κs = bytes-held (c .before .before .before .before .before .before .before .before .before .before .before .before .before .before .take-in .ensures .1 _ (c .before .before .before .before .before .before .before .taken2 .given .1))
+
+returns : tie.Need-returns
+returns c = bytes-refused (c .before .before .before .before .before .before .before .before .take-in .ensures .0) (c .before .before .before .before .before .before .before .before .before .before .before .before .before .before .before .before .args .out .now) (c .before .taken .given .1)
+
+returns-2 : tie.Need-returns-2
+returns-2 c =
+    let took = c .before .before .before .before .before .before .before .before .before .before .before .before .before .before .before .before .before .take-in .ensures in
+    let given = c .before .before .before .before .before .before .before .before .before .before .taken2 .given .1 in
+    bytes-made (took .0) given (took .1 _ given) (c .before .before .derive .ensures)
+
+pub derive-spec : {M : Type 1} → statement M
+derive-spec =
+    tie.close
+    (tie.spec
+    (λ c. search needs)
+    (λ c. search needs)
+    (λ c. search needs)
+    (λ c. search needs)
+    (λ c. search needs)
+    (λ c κs. search needs)
+    (λ c. search needs)
+    (λ c. search needs)
+    (λ c. search needs)
+    (λ c. search needs)
+    (λ c. search needs)
+    (λ c. search needs)
+    (λ c. search needs)
+    then-requires
+    returns
+    (λ c. search needs)
+    returns-2)

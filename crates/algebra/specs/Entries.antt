@@ -1,0 +1,37 @@
+-- The entries that make a list of a list.
+use mathlib.Core.Bool.{Bool, true, false, cond}
+use mathlib.Core.List.{List}
+use Prim.Native.Nat.{ℕ}
+use lib.Dec.{leb}
+use Rattle.trees.specs.declared.Refusal.{Refusal}
+use Rattle.trees.specs.declared.Refusal.the-variants.{NotHandled}
+use Rattle.trees.specs.Refusals.{refusalNo}
+use Rattle.trees.specs.Sums.{Sum}
+use Rattle.bodies.specs.Reading as reading
+use Rattle.bodies.specs.Reading.{Read, done}
+use Rattle.answers.specs.Making.{Made, refusedAt, invert, deriveAndWrite, integrateAndWrite}
+use Rattle.algebra.specs.Reading.{readList}
+
+-- what was read goes on with its complex flag
+abbrev pub afterRead : Read → (Bool → Sum → Made) → Made
+afterRead (done s c h) f = f c s
+afterRead (reading.refusedAt q at h) f = refusedAt q at
+
+unfoldable pub derivative : List ℕ → Made
+derivative l = afterRead (readList l) deriveAndWrite
+
+unfoldable pub integral : List ℕ → Made
+integral l = afterRead (readList l) integrateAndWrite
+
+-- 10, at place 0, where what was read doesn't count as handled: it replaces 1 to 9, never 11 to 17
+abbrev pub unhandled : Refusal → ℕ → Made
+unhandled q at = cond (leb (refusalNo q) 9) (refusedAt NotHandled 0) (refusedAt q at)
+
+abbrev pub inverseOf : Read → Made
+inverseOf (done s c true) = invert c s
+inverseOf (done s c false) = refusedAt NotHandled 0
+inverseOf (reading.refusedAt q at true) = refusedAt q at
+inverseOf (reading.refusedAt q at false) = unhandled q at
+
+unfoldable pub inverse : List ℕ → Made
+inverse l = inverseOf (readList l)

@@ -1,0 +1,3 @@
+-- The root of answers' definitions.
+pub mod Promises
+pub mod Making
