@@ -8,14 +8,14 @@ use lib.Ieee.{fin}
 use Rattle.numbers.specs.declared.Ordering.{Ordering}
 use Rattle.numbers.specs.declared.Ordering.the-variants.{Less, Equal, Greater}
 use Rattle.cells.specs.Book.{Book, at, Plain}
-use Rattle.trees.specs.Kinds.{X, hasNumber}
+use Rattle.trees.specs.Kinds.{X, Log, CosH, hasNumber}
 use Rattle.trees.specs.Sums.{Sum}
 use Rattle.trees.specs.Order.{cmpTerm}
 use Rattle.sums.specs.Lies.{Lies}
 
 -- the rules of a kind, on the cell's own numbers: 0 is the pattern of +0
 abbrev pub headOk : ℕ → ℕ → ℕ → Bool
-headOk k n b = leb 1 k && leb k 8 && (eqb k 1 || eqb k 3 || eqb b 0) && Bool·beq (eqb n 0) (eqb k 1)
+headOk k n b = leb X k && leb k CosH && (eqb k X || eqb k Log || eqb b 0) && Bool·beq (eqb n 0) (eqb k X)
 
 -- the cell at k may be an entry of a good sum that goes on up to e: its numbers are finite, its kind is 1 to 8, it has +0 where its kind has no
 -- number, it has an inside unless it is an X, and that ends by e

@@ -21,8 +21,9 @@ pub fn finite_bits(b: u64) -> bool
 fn good_head(kind: u8, inside: u8, num: u64) -> bool
     ensures { λ r. ⌜ r ≡ headOk kind inside num ⌝ }
 {
-    let rules = (1 <= kind) & (kind <= 8) & ((kind == 1) | (kind == 3) | (num == 0));
-    rules & ((inside == 0) == (kind == 1))
+    let known = (trees::X <= kind) & (kind <= trees::COSH);
+    let rules = known & ((kind == trees::X) | (kind == trees::LOG) | (num == 0));
+    rules & ((inside == 0) == (kind == trees::X))
 }
 
 // The cell at k by itself, with an inside that ends by `end`.
