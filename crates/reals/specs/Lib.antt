@@ -1,0 +1,2 @@
+-- The root of reals' definitions.
+pub mod Reals

@@ -1,0 +1,69 @@
+-- Document 01's lists, computed: x + x³ derived, x² tripled, bare x and nothing, each run at 2; and a value that isn't finite, with its place. Assumes nothing.
+use mathlib.Core.Path.{_≡_, refl}
+use mathlib.Core.Bool.{false}
+use mathlib.Core.List.{List, [], _∷_}
+use mathlib.Core.Option.{none, some}
+use lib.IntN.{pos}
+use lib.Ieee.{Float, fin, binary64, ofBits, toBits, eq, lt, add, mul}
+use Rattle.numbers.specs.Signs.{zero64, one64}
+use Rattle.numbers.specs.Numbers.{smallWhole, belowEpsilon}
+use Rattle.complex.specs.Arith as complex
+use Rattle.trees.specs.declared.Refusal.the-variants.{NotFinite}
+use Rattle.trees.specs.Kinds as kinds
+use Rattle.trees.specs.Sums.{Sum, and}
+use Rattle.records.specs.Names.{kindOf, primitiveOf}
+use Rattle.records.specs.Tree.{size, count}
+use Rattle.drafts.specs.Writing.{append, Written, wrote, refused}
+use Rattle.writer.specs.ToNodes.{two64, form, write, toNodes}
+use Rattle.writer.specs.Count.{cost, costs, recordsFor}
+use Rattle.runner.specs.declared.RunAnswer.{RunAnswer}
+use Rattle.runner.specs.declared.RunAnswer.the-variants.{Value, Refused}
+use Rattle.runner.specs.Primitives.{times, power, leave, apply, act}
+use Rattle.runner.specs.Running.{runs, runNodes}
+use Rattle.speeds.specs.Value.{Power, Terms, nothing, term, termValue, plusTerms, value, shapes, inTerm, inSum, inAll, firstNotFinite}
+use Rattle.speeds.specs.Value as value
+use Rattle.speeds.specs.Promise.{peakOf}
+
+abbrev three64 : Float
+three64 = ofBits binary64 0x4008000000000000
+
+-- c times x to the p, before the rest
+abbrev x-to : Float → Float → Sum → Sum
+x-to p c r = and kinds.X p Sum.none (complex.real c) r
+
+abbrev run-written : Written → Float → RunAnswer
+run-written (wrote ns) x = runNodes ns x
+run-written (refused q) x = Refused q 0
+
+-- 1 + 3x²
+abbrev sum : Sum
+sum = x-to zero64 one64 (x-to two64 three64 Sum.none)
+
+abbrev terms : List Power
+terms = value.power 0 one64 ∷ value.power 2 three64 ∷ []
+
+listed : Terms sum terms
+unfolding ofBits eq smallWhole
+listed = term refl refl refl (term refl refl refl nothing)
+
+-- at 2: 13, 11 steps, peak 3
+promised : (value two64 terms ≡ fin false 13 (pos 0)) × (recordsFor (shapes terms) ≡ 11) × (peakOf terms ≡ 3) × (firstNotFinite (inAll two64 terms) ≡ none)
+unfolding ofBits eq add mul times termValue plusTerms value shapes cost costs recordsFor peakOf inTerm inSum inAll firstNotFinite
+promised = (refl, refl, refl, refl)
+
+pub runs-at-2 :
+    (run-written (toNodes false sum) two64 ≡ Value (fin false 13 (pos 0)) 11 3)
+    × (run-written (toNodes false (x-to two64 three64 Sum.none)) two64 ≡ Value (fin false 3 (pos 2)) 4 2)
+    × (run-written (toNodes false (x-to one64 one64 Sum.none)) two64 ≡ Value two64 1 1)
+    × (run-written (toNodes false (x-to one64 zero64 Sum.none)) two64 ≡ Value zero64 2 2)
+unfolding ofBits toBits eq lt add mul belowEpsilon smallWhole form write append size count kindOf primitiveOf times power leave apply act runs runNodes
+runs-at-2 = (refl, refl, refl, refl)
+
+-- 2 to the 1000
+abbrev large : Float
+large = ofBits binary64 0x7e70000000000000
+
+-- its square isn't finite, and is formed at place 7
+pub refused-at-7 : (run-written (toNodes false sum) large ≡ Refused NotFinite 7) × (firstNotFinite (inAll large terms) ≡ some 7)
+unfolding ofBits toBits eq lt add mul belowEpsilon smallWhole form write append size count kindOf primitiveOf times power leave apply act runs runNodes termValue plusTerms cost inTerm inSum inAll firstNotFinite
+refused-at-7 = (refl, refl)

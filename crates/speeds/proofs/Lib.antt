@@ -1,0 +1,10 @@
+-- The root of speeds' laws.
+pub mod Steps
+pub mod Pieces
+pub mod Terms
+pub mod Rising
+pub mod Building
+pub mod Whole
+pub mod Theorem
+pub mod Finite
+pub mod Examples

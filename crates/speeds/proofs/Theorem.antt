@@ -1,0 +1,63 @@
+-- Every good sum of whole powers has a list, and it runs as document 01 says. Assumes nothing.
+use Prim.Native.Nat.{ℕ}
+use mathlib.Core.Path.{_≡_, sym, ap, _∙_}
+use mathlib.Core.Bool.{false}
+use mathlib.Core.List.{List, [], _∷_}
+use mathlib.Core.Option.{Option}
+use native.Mathlib.Omega.{arith}
+use lib.Dec.{T}
+use lib.Ieee.{Float}
+use lib.Ieee.Bits.{is-true}
+use lib.Ieee.Scale.{finite}
+use Rattle.trees.specs.Kinds as kinds
+use Rattle.trees.specs.Sums.{Sum, size as entries, entry}
+use Rattle.trees.specs.Good.{Good}
+use Rattle.sums.proofs.Walk.{good-and}
+use Rattle.records.specs.Tree.{Nodes, size, encode}
+use Rattle.records.proofs.Theorem.{parse-encode}
+use Rattle.drafts.specs.Writing.{wrote}
+use Rattle.drafts.proofs.Fine.{Fine, fine-good}
+use Rattle.writer.specs.Count as count
+use Rattle.writer.specs.Count.{Powers}
+use Rattle.writer.proofs.Count.{record-count}
+use Rattle.runner.specs.Running.{ended, runNodes, runList}
+use Rattle.speeds.specs.Value.{Power, Terms, nothing, zero-term, term, value, shapes}
+use Rattle.speeds.specs.Promise.{peakOf, PowerSum}
+use Rattle.speeds.proofs.Steps.{state, out}
+use Rattle.speeds.proofs.Terms.{form-is, can-write, one-real}
+use Rattle.speeds.proofs.Rising.{rising, few-terms}
+use Rattle.speeds.proofs.Whole.{whole-list}
+
+wrote-is : {a b : Nodes} → wrote a ≡ wrote b → a ≡ b
+wrote-is h = cc
+
+-- such a sum is a sum of powers
+powers : (left : ℕ) {s : Sum} {ts : List Power} → Good left s → Terms s ts → Powers false s (shapes ts)
+unfolding shapes
+powers left g nothing = count.nothing
+powers left g (zero-term {k = l} {p} {j} {c} {r = s} z t) = count.zero z (powers left (good-and left (entry l (entries j) p c) j s g .rest) t)
+powers left g (term {p} {k = l} {j} {c} {r = s} z re w t) =
+    let f = good-and left (entry kinds.X (entries j) p c) j s g in
+    rw (form-is p l w, one-real c re) at (count.term {p = p} {j = j} {c = c} z (can-write c (f .entry-good .re) re) (powers left (f .rest) t))
+
+-- a list that keeps the rules runs as its bytes do
+bytes-run : (ns : Nodes) (x : Float) → Fine 2048 129 ns → T (finite x) → runList (encode ns) x ≡ runNodes ns x
+unfolding runList
+bytes-run ns x f fx =
+    rw (fine-good ns (omega arith) (omega arith) f, is-true (finite x) fx, parse-encode ns record { fields = f .fields; ok = f .ok; few = f .few })
+
+pub power-sum : (left : ℕ) (s : Sum) (ts : List Power) → Good left s → Terms s ts → (ns : Nodes) × PowerSum s ts ns
+unfolding runNodes
+power-sum left s ts g t =
+    let up = rising left g t in
+    let h = whole-list left g t up (few-terms t up) in
+    let k = record-count (powers left g t) in (
+      h .list,
+      record {
+        written = h .written;
+        records = ap size (wrote-is (sym (h .written) ∙ k .written)) ∙ k .counted;
+        gives = λ x fx e. ap ended (h .run x fx ∙ ap (λ (o : Option ℕ). out o (state (value x ts ∷ []) (size (h .list)) (peakOf ts))) e);
+        refuses = λ x at fx e. ap ended (h .run x fx ∙ ap (λ (o : Option ℕ). out o (state (value x ts ∷ []) (size (h .list)) (peakOf ts))) e);
+        bytes = λ x fx. bytes-run (h .list) x (h .fine) fx;
+      },
+    )

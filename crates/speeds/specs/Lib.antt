@@ -1,0 +1,3 @@
+-- The root of speeds' definitions.
+pub mod Value
+pub mod Promise
