@@ -4,6 +4,7 @@ use answers::Numbers;
 use entries::Taken;
 use env::AlgebraData;
 use records::Verdict;
+use runner::RunAnswer;
 use trees::Refusal;
 ghost use mathlib.Core.Path.{_≡_};
 ghost use Prim.Native.Nat.{_+_, _≤_};
@@ -15,6 +16,7 @@ ghost use Rattle.records.specs.Tree.{recordsIn};
 ghost use Rattle.entries.specs.Encoding.{entriesIn};
 ghost use Rattle.bodies.specs.Reading.{done, refusedAt};
 ghost use Rattle.env.specs.Data.{DataAs};
+ghost use Rattle.runner.specs.Running.{runList};
 ghost use Rattle.answers.specs.Promises.{Promise};
 ghost use Rattle.answers.specs.Making as making;
 ghost use Rattle.answers.specs.Making.{answered, Gives, OfBytes};
@@ -255,4 +257,13 @@ pub fn write(sum: &[u8], complex: bool, out: &mut [u8]) -> Answer
         Taken::Refused(q) => Answer::Refused(q, 0),
         Taken::Sum(n) => answers::write_sum(&ak, &ai, &an, &ar, &am, n, complex, out),
     }
+}
+
+// ---- of a list and a number
+
+// The value of a list at x, with the records run and the most values there were at once.
+pub fn run(list: &[u8], x: f64) -> RunAnswer
+    ensures { λ r. ⌜ r ≡ runList (now (list .entry)) x ⌝ }
+{
+    runner::run(list, x)
 }

@@ -14,11 +14,13 @@ use Rattle.trees.specs.Sums.{Sum, size}
 use Rattle.trees.specs.Map.{Outcome, sum, refused}
 use Rattle.records.specs.Tree as tree
 use Rattle.records.proofs.Bytes.{take-sets}
+use Rattle.entries.specs.declared.Taken.{Taken}
+use Rattle.entries.specs.declared.Taken.the-variants as taken
 use Rattle.entries.specs.Encoding.{encodeSum}
 use Rattle.drafts.specs.Writing as writing
 use Rattle.answers.specs.declared.Answer.{Answer}
 use Rattle.answers.specs.declared.Answer.the-variants as answer
-use Rattle.answers.specs.Making.{Made, made, refusedAt, ofOutcome, ofSum, ofList, Gives}
+use Rattle.answers.specs.Making.{Made, made, refusedAt, ofOutcome, ofSum, ofList, Gives, OfBytes}
 
 -- n entries or records were made, and their bytes are the output's first
 pub record Success (m : Made) (n : ℕ) (room : ℕ) (out out′ : List ℕ) : Type 0 where
@@ -89,3 +91,20 @@ refused-outcome (refused p) g h e = e
 -- the first bytes of the output are those written
 pub first-bytes : (bytes out : List ℕ) (k : ℕ) → k ≡ length bytes → k ≤ length out → take k (sets out 0 bytes) ≡ bytes
 first-bytes bytes out k e l = let z : k ≡ 0 + length bytes = omega (arith, e) in ap (λ (n : ℕ). take n (sets out 0 bytes)) z ∙ take-sets bytes out 0 (omega (arith, e))
+
+-- ---- a refusal changes no byte
+
+pub refusal-quiet : (room : List ℕ → ℕ) (m : Made) {out out′ : List ℕ} {a : Answer} {q : Refusal} {at : ℕ} → Gives room m out out′ a → a ≡ answer.Refused q at → out′ ≡ out
+refusal-quiet room (refusedAt p i) g e = g .written
+refusal-quiet room (made k bytes) {out} {out′} {a} {q} {at} g e = go (leb k (room out)) (sym e ∙ g .answered) (g .written)
+  where
+    go : (b : Bool) → answer.Refused q at ≡ cond b (answer.Done k) (answer.Refused OutputRoom 0) → out′ ≡ cond b (sets out 0 bytes) out → out′ ≡ out
+    go true d w = absurd (not-done (sym d))
+    go false d w = w
+
+pub bytes-quiet : {room : List ℕ → ℕ} {f : Sum → Made} {l out out′ : List ℕ} {a : Answer} {q : Refusal} {at : ℕ} → OfBytes room f l out out′ a → a ≡ answer.Refused q at → out′ ≡ out
+bytes-quiet {room} {f} {l} {out} {out′} {a} p e = go (p .weight) refl
+  where
+    go : (t : Taken) → p .weight ≡ t → out′ ≡ out
+    go (taken.Refused z) i = refusal-quiet room (refusedAt z 0) (p .refuses z i) e
+    go (taken.Sum n) i = let s = p .weighed .good n .0 i in refusal-quiet room (f (s .0)) (p .takes n i (s .0) (s .1) (s .3)) e

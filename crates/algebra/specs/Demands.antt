@@ -1,0 +1,69 @@
+-- The eight entries side by side: what each may answer, in document 01's numbers.
+use Prim.Native.Nat.{ℕ}
+use mathlib.Core.Path.{_≡_}
+use mathlib.Core.Bool.{Bool, false}
+use mathlib.Core.List.{List}
+use lib.Ieee.{Float}
+use Rattle.numbers.specs.Signs.{zero64}
+use Rattle.trees.specs.declared.Refusal.{Refusal}
+use Rattle.trees.specs.Refusals.{refusalNo}
+use Rattle.records.specs.Tree.{recordsIn}
+use Rattle.entries.specs.Encoding.{entriesIn}
+use Rattle.runner.specs.declared.RunAnswer.{RunAnswer}
+use Rattle.runner.specs.declared.RunAnswer.the-variants as ran
+use Rattle.runner.specs.Running.{runList}
+use Rattle.answers.specs.declared.Answer.{Answer}
+use Rattle.answers.specs.declared.Answer.the-variants as given
+use Rattle.answers.specs.Promises.{Promise}
+use Rattle.answers.specs.Making as making
+use Rattle.answers.specs.Making.{Gives, OfBytes}
+use Rattle.algebra.specs.declared.ReadAnswer.{ReadAnswer}
+use Rattle.algebra.specs.declared.ReadAnswer.the-variants as answer
+use Rattle.algebra.specs.Reading.{readList, answerOf, bytesOf}
+use Rattle.algebra.specs.Entries as lists
+
+-- write is handed a flag, and run a number
+pub data Entry : Type 0 where
+  read derive integrate derivative integral inverse : Entry
+  write : Bool → Entry
+  run : Float → Entry
+
+-- number, place and counts; the flag is read's, value, steps and peak are run's
+pub record Reply : Type 0 where
+  pub number : ℕ
+  pub place : ℕ
+  pub count : ℕ
+  pub flag : Bool
+  pub value : Float
+  pub steps : ℕ
+  pub peak : ℕ
+
+-- a refusal has zero counts
+abbrev pub refusing : Refusal → ℕ → Reply
+refusing q at = record { number = refusalNo q; place = at; count = 0; flag = false; value = zero64; steps = 0; peak = 0 }
+
+abbrev pub wrote : ℕ → Bool → Reply
+wrote n c = record { number = 0; place = 0; count = n; flag = c; value = zero64; steps = 0; peak = 0 }
+
+abbrev pub ofRead : ReadAnswer → Reply
+ofRead (answer.Sum n c) = wrote n c
+ofRead (answer.Refused q at) = refusing q at
+
+abbrev pub ofAnswer : Answer → Reply
+ofAnswer (given.Done n) = wrote n false
+ofAnswer (given.Refused q at) = refusing q at
+
+abbrev pub ofRun : RunAnswer → Reply
+ofRun (ran.Value v steps peak) = record { number = 0; place = 0; count = 0; flag = false; value = v; steps = steps; peak = peak }
+ofRun (ran.Refused q at) = refusing q at
+
+-- of the input l and an output that was out and is out′ then; run has no output
+abbrev pub Promised : Entry → List ℕ → List ℕ → List ℕ → Reply → Type 0
+Promised read l out out′ r = (a : ReadAnswer) × (r ≡ ofRead a) × Promise (answerOf (readList l)) (bytesOf (readList l)) out out′ a
+Promised derive l out out′ r = (a : Answer) × (r ≡ ofAnswer a) × OfBytes entriesIn making.derive l out out′ a
+Promised integrate l out out′ r = (a : Answer) × (r ≡ ofAnswer a) × OfBytes entriesIn making.integrate l out out′ a
+Promised (write c) l out out′ r = (a : Answer) × (r ≡ ofAnswer a) × OfBytes recordsIn (making.write c) l out out′ a
+Promised derivative l out out′ r = (a : Answer) × (r ≡ ofAnswer a) × Gives recordsIn (lists.derivative l) out out′ a
+Promised integral l out out′ r = (a : Answer) × (r ≡ ofAnswer a) × Gives recordsIn (lists.integral l) out out′ a
+Promised inverse l out out′ r = (a : Answer) × (r ≡ ofAnswer a) × Gives recordsIn (lists.inverse l) out out′ a
+Promised (run x) l out out′ r = (r ≡ ofRun (runList l x)) × (out′ ≡ out)
