@@ -11,17 +11,14 @@ use lib.ListN.{take}
 use borrow.Author.Tests.{le-leb}
 use Rattle.trees.specs.Sums.{Sum}
 use Rattle.trees.specs.Map.{sum}
-use Rattle.terms.specs.Singles.{GoodSum}
 use Rattle.records.specs.declared.Verdict.{Verdict}
 use Rattle.records.specs.declared.Verdict.the-variants as verdicts
 use Rattle.records.specs.Rules.{verdict}
 use Rattle.records.specs.Tree.{Nodes, size, encode, parse, recordsIn}
 use Rattle.records.proofs.Codes.{length-encode}
-use Rattle.records.proofs.Theorem.{parse-encode}
 use Rattle.bodies.specs.Reading.{done, readNodes}
 use Rattle.calculus.specs.Derivative as derivatives
 use Rattle.calculus.proofs.Good.{derive-good}
-use Rattle.writer.proofs.Good.{written-good, written-formed}
 use Rattle.drafts.specs.Writing.{wrote}
 use Rattle.runner.specs.declared.RunAnswer.the-variants.{Value}
 use Rattle.runner.specs.Running.{runNodes, runList}
@@ -57,17 +54,8 @@ real-terms r Speed.nothing = terms.nothing
 real-terms r (Speed.zero-term z w) = terms.zero-term z (real-terms (r .2) w)
 real-terms r (Speed.term z p w) = terms.term z (r .0) p (real-terms (r .2) w)
 
-is-true : (t : Bool) → T t → t ≡ true
-is-true true h = refl
-is-true false h = absurd h
-
--- a good list, run from its bytes
-run-encoded : (ns : Nodes) (x : Float) → verdict (encode ns) ≡ verdicts.Good → parse (encode ns) ≡ ns → T (finite x) → runList (encode ns) x ≡ runNodes ns x
-unfolding runList
-run-encoded ns x v p f = rw (v, p, is-true (finite x) f) refl
-
 -- ns is the list of the derivative
-module _ (l : List ℕ) {s d : Sum} {h : Bool} {ts : List Power} {ns : Nodes} (read : readList l ≡ done s false h) (derived : derivatives.derive s ≡ sum d) (good : GoodSum d) (p : PowerSum d ts ns) where
+module _ (l : List ℕ) {s d : Sum} {h : Bool} {ts : List Power} {ns : Nodes} (read : readList l ≡ done s false h) (derived : derivatives.derive s ≡ sum d) (p : PowerSum d ts ns) where
   -- what derivative makes of l
   made-is : derivative l ≡ ofList (wrote ns)
   unfolding derivative deriveAndWrite write
@@ -89,9 +77,7 @@ module _ (l : List ℕ) {s d : Sum} {h : Bool} {ts : List Power} {ns : Nodes} (r
         ∙ first-bytes (encode ns) out (24 * records ts) (omega (arith, p .records, length-encode ns)) (omega (arith, p .records))
 
     pub run-is : (x : Float) → T (finite x) → runList (take (24 * records ts) out′) x ≡ runNodes ns x
-    run-is x f =
-        ap (λ (b : List ℕ). runList b x) first
-        ∙ run-encoded ns x (written-good false d ns good (p .written)) (parse-encode ns (written-formed false d ns good (p .written))) f
+    run-is x f = ap (λ (b : List ℕ). runList b x) first ∙ p .bytes x f
 
 -- a list that is read without a complex step, the terms of whose derivative that aren't zero are whole powers from 0 to 64
 pub demand-3 : (l : List ℕ) {s d : Sum} {h : Bool} (ts : List Power) → readList l ≡ done s false h → derivatives.derive s ≡ sum d → Whole d ts → Speed l ts
@@ -100,7 +86,7 @@ demand-3 l {s} {d} ts read derived whole =
     let list = power-sum 4 d ts (good .good) (real-terms (derive-real s (list-real l read) derived) whole) in
     let p = list .1 in
     record {
-      writes = λ out out′ r room g. answers l read derived good p room g;
-      gives = λ out out′ r x room g f e. run-is l read derived good p room g x f ∙ p .gives x f e ∙ ap (λ (n : ℕ). Value (terms.value x ts) n (peakOf ts)) (p .records);
-      refuses = λ out out′ r x at room g f e. run-is l read derived good p room g x f ∙ p .refuses x at f e;
+      writes = λ out out′ r room g. answers l read derived p room g;
+      gives = λ out out′ r x room g f e. run-is l read derived p room g x f ∙ p .gives x f e ∙ ap (λ (n : ℕ). Value (terms.value x ts) n (peakOf ts)) (p .records);
+      refuses = λ out out′ r x at room g f e. run-is l read derived p room g x f ∙ p .refuses x at f e;
     }

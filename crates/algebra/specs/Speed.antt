@@ -19,7 +19,8 @@ use Rattle.records.specs.Tree.{recordsIn}
 use Rattle.writer.specs.Count.{recordsFor}
 use Rattle.runner.specs.declared.RunAnswer.the-variants.{Value, Refused}
 use Rattle.runner.specs.Running.{runList}
-use Rattle.speeds.specs.Value.{Power, power, value, shapes, inAll, firstNotFinite}
+use Rattle.speeds.specs.Value.{Power, power, value}
+use Rattle.speeds.specs.Places.{shapes, inAll, firstNotFinite}
 use Rattle.speeds.specs.Promise.{peakOf}
 use Rattle.answers.specs.declared.Answer.{Answer}
 use Rattle.answers.specs.declared.Answer.the-variants.{Done}

@@ -16,7 +16,7 @@ use Rattle.records.specs.declared.Primitive.the-variants as prim
 use Rattle.records.specs.declared.Verdict.the-variants.{Good}
 use Rattle.records.specs.Names.{primitiveNo, kindOf}
 use Rattle.records.specs.Tree.{Nodes, end, rec, size, height, encode}
-use Rattle.records.specs.Rules.{fieldsOk, isA, Fields, okNodes, AllFields, verdict, WellFormed}
+use Rattle.records.specs.Rules.{fieldsOk, isA, Fields, okNodes, AllFields, verdict}
 use Rattle.records.proofs.Theorem.{verdict-encode}
 use Rattle.drafts.specs.Writing.{push, pushPair, does, body, append, one, two, wrapped, numberRecord}
 use Rattle.drafts.proofs.Laws.{size-append}
@@ -179,8 +179,6 @@ fine-wrapped {n} {h} ns a f =
     }
 
 -- a list that is fine, and neither too long nor too deep, is good
-pub fine-formed : {n h : ℕ} (ns : Nodes) → n ≤ 2048 → Fine n h ns → WellFormed ns
-fine-formed ns a f = record { fields = f .fields; ok = f .ok; few = omega (arith, f .few) }
-
 pub fine-good : {n h : ℕ} (ns : Nodes) → n ≤ 2048 → h ≤ 129 → Fine n h ns → verdict (encode ns) ≡ Good
-fine-good ns a b f = verdict-encode ns (fine-formed ns a f) ∙ rw (le-leb (height ns) 129 (omega (arith, f .low)))
+fine-good ns a b f =
+    verdict-encode ns (record { fields = f .fields; ok = f .ok; few = omega (arith, f .few) }) ∙ rw (le-leb (height ns) 129 (omega (arith, f .low)))

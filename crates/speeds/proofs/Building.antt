@@ -18,7 +18,8 @@ use Rattle.records.specs.declared.Primitive.the-variants as prim
 use Rattle.records.specs.Tree.{Nodes, size}
 use Rattle.drafts.specs.Writing.{push, does, append, one, two, wrapped}
 use Rattle.drafts.proofs.Fine.{Fine, fine-more, fine-one, fine-append, fine-say, fine-wrapped, plain-does}
-use Rattle.speeds.specs.Value.{Power, power, termValue, costOf, isX, Formed, formed, inTerm, inSum, unlessFinite, firstNotFinite}
+use Rattle.speeds.specs.Value.{Power, power, termValue}
+use Rattle.speeds.specs.Places.{costOf, isX, Formed, formed, inTerm, inSum, unlessFinite, firstNotFinite}
 use Rattle.speeds.proofs.Steps.{or, or-join, bad, restate, identity-out, multiplies}
 use Rattle.speeds.proofs.Pieces.{Yields, end-yields, then-yields, join-yields, dup-yields}
 use Rattle.speeds.proofs.Terms.{piece, piece-yields, piece-fine, zero-number, zero-fine, or-unless, reyield}

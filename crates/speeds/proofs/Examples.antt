@@ -1,18 +1,21 @@
 -- Document 01's lists, computed: x + x³ derived, x² tripled, bare x and nothing, each run at 2; and a value that isn't finite, with its place. Assumes nothing.
 use mathlib.Core.Path.{_≡_, refl}
-use mathlib.Core.Bool.{false}
+use mathlib.Core.Bool.{false, true≢false}
 use mathlib.Core.List.{List, [], _∷_}
 use mathlib.Core.Option.{none, some}
+use lib.Dec.{lit≤}
 use lib.IntN.{pos}
-use lib.Ieee.{Float, fin, binary64, ofBits, toBits, eq, lt, add, mul}
+use lib.Ieee.{Float, fin, binary64, ofBits, toBits, eq, lt, add, mul, fits}
 use Rattle.numbers.specs.Signs.{zero64, one64}
 use Rattle.numbers.specs.Numbers.{smallWhole, belowEpsilon}
 use Rattle.complex.specs.Arith as complex
 use Rattle.trees.specs.declared.Refusal.the-variants.{NotFinite}
 use Rattle.trees.specs.Kinds as kinds
-use Rattle.trees.specs.Sums.{Sum, and}
+use Rattle.trees.specs.Sums.{Sum, and, len}
+use Rattle.trees.specs.Order.{cmpEach}
+use Rattle.trees.specs.Good.{Good}
 use Rattle.records.specs.Names.{kindOf, primitiveOf}
-use Rattle.records.specs.Tree.{size, count}
+use Rattle.records.specs.Tree.{Nodes, size, count}
 use Rattle.drafts.specs.Writing.{append, Written, wrote, refused}
 use Rattle.writer.specs.ToNodes.{two64, form, write, toNodes}
 use Rattle.writer.specs.Count.{cost, costs, recordsFor}
@@ -20,9 +23,11 @@ use Rattle.runner.specs.declared.RunAnswer.{RunAnswer}
 use Rattle.runner.specs.declared.RunAnswer.the-variants.{Value, Refused}
 use Rattle.runner.specs.Primitives.{times, power, leave, apply, act}
 use Rattle.runner.specs.Running.{runs, runNodes}
-use Rattle.speeds.specs.Value.{Power, Terms, nothing, term, termValue, plusTerms, value, shapes, inTerm, inSum, inAll, firstNotFinite}
+use Rattle.speeds.specs.Value.{Power, Terms, nothing, term, termValue, plusTerms, value}
+use Rattle.speeds.specs.Places.{shapes, inTerm, inSum, inAll, firstNotFinite}
 use Rattle.speeds.specs.Value as value
-use Rattle.speeds.specs.Promise.{peakOf}
+use Rattle.speeds.specs.Promise.{peakOf, PowerSum}
+use Rattle.speeds.proofs.Theorem.{power-sum}
 
 abbrev three64 : Float
 three64 = ofBits binary64 0x4008000000000000
@@ -42,15 +47,30 @@ sum = x-to zero64 one64 (x-to two64 three64 Sum.none)
 abbrev terms : List Power
 terms = value.power 0 one64 ∷ value.power 2 three64 ∷ []
 
+-- its terms
 listed : Terms sum terms
 unfolding ofBits eq smallWhole
 listed = term refl refl refl (term refl refl refl nothing)
+
+good : Good 1 sum
+unfolding Good ofBits fits lt cmpEach len
+good = (
+  record { least = lit≤ tt; most = lit≤ tt; number = tt; none-else = λ h. absurd (true≢false h); re = tt; im = tt; inside = refl },
+  tt,
+  refl,
+  (record { least = lit≤ tt; most = lit≤ tt; number = tt; none-else = λ h. absurd (true≢false h); re = tt; im = tt; inside = refl }, tt, tt, tt),
+)
+
+-- so the theorem speaks of it
+pub written : (ns : Nodes) × PowerSum sum terms ns
+written = power-sum 1 sum terms good listed
 
 -- at 2: 13, 11 steps, peak 3
 promised : (value two64 terms ≡ fin false 13 (pos 0)) × (recordsFor (shapes terms) ≡ 11) × (peakOf terms ≡ 3) × (firstNotFinite (inAll two64 terms) ≡ none)
 unfolding ofBits eq add mul times termValue plusTerms value shapes cost costs recordsFor peakOf inTerm inSum inAll firstNotFinite
 promised = (refl, refl, refl, refl)
 
+-- and as it runs; then 3x², x, and 0 times x
 pub runs-at-2 :
     (run-written (toNodes false sum) two64 ≡ Value (fin false 13 (pos 0)) 11 3)
     × (run-written (toNodes false (x-to two64 three64 Sum.none)) two64 ≡ Value (fin false 3 (pos 2)) 4 2)

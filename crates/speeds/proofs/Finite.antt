@@ -16,11 +16,13 @@ use Rattle.numbers.specs.Ops.{_⊕_, _⊗_}
 use Rattle.numbers.proofs.Bools.{bool-ext, and-true, T-of}
 use Rattle.numbers.proofs.Finite.{add-finite, mul-finite}
 use Rattle.runner.specs.Primitives.{times}
-use Rattle.speeds.specs.Value.{Power, power, termValue, timesUnless, plusTerms, value, costOf, isX, formedUnless, inTerm, inSum, inAll, unlessFinite, firstNotFinite}
+use Rattle.speeds.specs.Value.{Power, power, termValue, timesUnless, plusTerms, value}
+use Rattle.speeds.specs.Places.{costOf, isX, formedUnless, inTerm, inSum, inAll, unlessFinite, firstNotFinite}
 use Rattle.speeds.proofs.Steps.{or, bad}
 use Rattle.speeds.proofs.Building.{in-sum}
 use Rattle.speeds.proofs.Whole.{in-all}
 
+-- no place
 isNone : Option ℕ → Bool
 isNone none = true
 isNone (some at) = false
@@ -103,6 +105,7 @@ module _ (x : Float) (fx : T (finite x)) where
       ∙ ap (λ (t : Bool). t && isNone (firstNotFinite (inSum (a + costOf k c) x (termValue x k c) ts))) (term-finite a k c)
       ∙ sum-finite (a + costOf k c) (termValue x k c) ts
 
+  -- every value formed is finite where the value of the terms is
   pub value-finite : (ts : List Power) → (firstNotFinite (inAll x ts) ≡ none) ↔ T (finite (value x ts))
   unfolding isNone
   value-finite ts = (λ e. T-of (sym (all-finite ts) ∙ ap isNone e), λ t. is-none (firstNotFinite (inAll x ts)) (all-finite ts ∙ is-true (finite (value x ts)) t))

@@ -5,6 +5,6 @@ pub mod Terms
 pub mod Rising
 pub mod Building
 pub mod Whole
-pub mod Theorem
 pub mod Finite
+pub mod Theorem
 pub mod Examples

@@ -24,7 +24,7 @@ use Rattle.records.specs.Tree.{Nodes, end, rec, size}
 use Rattle.drafts.specs.Writing.{push, does, append, one}
 use Rattle.runner.specs.Primitives.{times, power, went, ifFinite, leave, apply, wayOf, act}
 use Rattle.runner.specs.Running.{Running, Out, done, refusedAt, andThen, settle, runBy, runs}
-use Rattle.speeds.specs.Value.{unlessFinite}
+use Rattle.speeds.specs.Places.{unlessFinite}
 
 -- ---- how a run ends
 

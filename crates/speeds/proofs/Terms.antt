@@ -36,7 +36,8 @@ use Rattle.drafts.proofs.Fine.{Fine, fine-more, fine-end, fine-append, fine-two
 use Rattle.writer.specs.ToNodes.{Form, half64, two64, choose, form, isBare, isConstant, isEmpty, before, plus, writePower, timesCoef, write}
 use Rattle.writer.specs.Count.{cost}
 use Rattle.runner.specs.Primitives.{times}
-use Rattle.speeds.specs.Value.{termValue, timesUnless, formOf, costOf, isX, formedUnless, inTerm, unlessFinite, firstNotFinite}
+use Rattle.speeds.specs.Value.{termValue, timesUnless}
+use Rattle.speeds.specs.Places.{formOf, costOf, isX, formedUnless, inTerm, unlessFinite, firstNotFinite}
 use Rattle.speeds.proofs.Steps.{state, out, or, or-none, bad, number-finite, adds, multiplies, raises}
 use Rattle.speeds.proofs.Pieces.{Yields, end-yields, then-yields, square-yields}
 

@@ -1,14 +1,15 @@
 -- Every good sum of whole powers has a list, and it runs as document 01 says. Assumes nothing.
 use Prim.Native.Nat.{ℕ}
-use mathlib.Core.Path.{_≡_, sym, ap, _∙_}
+use mathlib.Core.Path.{_≡_, refl, sym, ap, _∙_}
 use mathlib.Core.Bool.{false}
 use mathlib.Core.List.{List, [], _∷_}
-use mathlib.Core.Option.{Option}
+use mathlib.Core.Option.{Option, none, some}
 use native.Mathlib.Omega.{arith}
 use lib.Dec.{T}
 use lib.Ieee.{Float}
 use lib.Ieee.Bits.{is-true}
 use lib.Ieee.Scale.{finite}
+use Rattle.trees.specs.declared.Refusal.the-variants.{NotFinite}
 use Rattle.trees.specs.Kinds as kinds
 use Rattle.trees.specs.Sums.{Sum, size as entries, entry}
 use Rattle.trees.specs.Good.{Good}
@@ -20,13 +21,16 @@ use Rattle.drafts.proofs.Fine.{Fine, fine-good}
 use Rattle.writer.specs.Count as count
 use Rattle.writer.specs.Count.{Powers}
 use Rattle.writer.proofs.Count.{record-count}
+use Rattle.runner.specs.declared.RunAnswer.the-variants.{Value, Refused}
 use Rattle.runner.specs.Running.{ended, runNodes, runList}
-use Rattle.speeds.specs.Value.{Power, Terms, nothing, zero-term, term, value, shapes}
+use Rattle.speeds.specs.Value.{Power, Terms, nothing, zero-term, term, value}
+use Rattle.speeds.specs.Places.{shapes, inAll, firstNotFinite}
 use Rattle.speeds.specs.Promise.{peakOf, PowerSum}
 use Rattle.speeds.proofs.Steps.{state, out}
 use Rattle.speeds.proofs.Terms.{form-is, can-write, one-real}
 use Rattle.speeds.proofs.Rising.{rising, few-terms}
 use Rattle.speeds.proofs.Whole.{whole-list}
+use Rattle.speeds.proofs.Finite.{value-finite}
 
 wrote-is : {a b : Nodes} → wrote a ≡ wrote b → a ≡ b
 wrote-is h = cc
@@ -46,6 +50,7 @@ unfolding runList
 bytes-run ns x f fx =
     rw (fine-good ns (omega arith) (omega arith) f, is-true (finite x) fx, parse-encode ns record { fields = f .fields; ok = f .ok; few = f .few })
 
+-- the list that is written for a good sum of whole powers
 pub power-sum : (left : ℕ) (s : Sum) (ts : List Power) → Good left s → Terms s ts → (ns : Nodes) × PowerSum s ts ns
 unfolding runNodes
 power-sum left s ts g t =
@@ -61,3 +66,15 @@ power-sum left s ts g t =
         bytes = λ x fx. bytes-run (h .list) x (h .fine) fx;
       },
     )
+
+-- where the value of the terms is finite, every value formed is, and the run gives it; else it is refused with 15
+module _ {s : Sum} {ts : List Power} {ns : Nodes} (p : PowerSum s ts ns) (x : Float) (fx : T (finite x)) where
+  pub gives-finite : T (finite (value x ts)) → runNodes ns x ≡ Value (value x ts) (size ns) (peakOf ts)
+  gives-finite t = p .gives x fx (value-finite x fx ts .1 t)
+
+  pub refuses-else : (T (finite (value x ts)) → ⊥) → (at : ℕ) × (runNodes ns x ≡ Refused NotFinite at)
+  refuses-else n = go (firstNotFinite (inAll x ts)) refl
+    where
+      go : (o : Option ℕ) → firstNotFinite (inAll x ts) ≡ o → (at : ℕ) × (runNodes ns x ≡ Refused NotFinite at)
+      go none e = absurd (n (value-finite x fx ts .0 e))
+      go (some at) e = (at, p .refuses x at fx e)

@@ -29,7 +29,8 @@ use Rattle.writer.specs.ToNodes.{isBare, write}
 use Rattle.writer.specs.Count.{cost}
 use Rattle.runner.specs.Primitives.{times}
 use Rattle.runner.specs.Running.{runs}
-use Rattle.speeds.specs.Value.{Power, power, Terms, nothing, zero-term, term, termValue, plusTerms, value, formOf, costOf, isX, inTerm, inSum, inAll, firstNotFinite}
+use Rattle.speeds.specs.Value.{Power, power, Terms, nothing, zero-term, term, termValue, plusTerms, value}
+use Rattle.speeds.specs.Places.{formOf, costOf, isX, inTerm, inSum, inAll, firstNotFinite}
 use Rattle.speeds.specs.Promise.{peakOf}
 use Rattle.speeds.proofs.Steps.{state, out, or, or-none, bad}
 use Rattle.speeds.proofs.Terms.{piece, piece-size, write-zero, write-term}

@@ -16,7 +16,8 @@ use Rattle.writer.specs.ToNodes.{toNodes}
 use Rattle.writer.specs.Count.{recordsFor}
 use Rattle.runner.specs.declared.RunAnswer.the-variants.{Value, Refused}
 use Rattle.runner.specs.Running.{runNodes, runList}
-use Rattle.speeds.specs.Value.{Power, power, value, shapes, isX, inAll, firstNotFinite}
+use Rattle.speeds.specs.Value.{Power, power, value}
+use Rattle.speeds.specs.Places.{shapes, isX, inAll, firstNotFinite}
 
 -- n terms: n + 1, but 1 for bare x and 2 for none
 unfoldable pub peakOf : List Power → ℕ

@@ -19,9 +19,9 @@ use Rattle.records.specs.declared.Primitive.{Primitive}
 use Rattle.records.specs.declared.Primitive.the-variants as prim
 use Rattle.records.specs.declared.Verdict.the-variants as verdicts
 use Rattle.records.specs.Tree.{Nodes, end, rec, encode}
-use Rattle.records.specs.Rules.{WellFormed, verdict}
+use Rattle.records.specs.Rules.{verdict}
 use Rattle.drafts.specs.Writing.{push, does, append, one, two, Written, wrote, refused, andThen, number, numberRecord, canWrite, ifCan}
-use Rattle.drafts.proofs.Fine.{Fine, fine-more, fine-end, fine-one, fine-append, fine-two, fine-say, fine-wrapped, fine-formed, fine-good, plain-does, plain-push, plain-number}
+use Rattle.drafts.proofs.Fine.{Fine, fine-more, fine-end, fine-one, fine-append, fine-two, fine-say, fine-wrapped, fine-good, plain-does, plain-push, plain-number}
 use Rattle.writer.specs.ToNodes.{Form, constant, root, bare, square, power, form, isBare, isConstant, isEmpty, choose, primitiveFor, functionOf, before, writePower, writeTerm, timesCoef, plus, close, turn, write, toNodes}
 
 -- ---- what is written is written in parts
@@ -151,12 +151,7 @@ keeps flag (suc left) (and k p i c r) g id n h ns ms l a f e =
     (turn-fine flag k p i c r (good-fits p (g .0 .number)) (good-fits (c .re) (g .0 .re)) (good-fits (c .im) (g .0 .im)) (keeps flag left i (g .1)) (keeps flag (suc left) r (g .3))
     (complex.same c complex.zero) (eqb k kinds.X) id n h ns ms l (omega arith) f e) (omega arith) (omega arith)
 
-written-fine : (flag : Bool) (s : Sum) (ns : Nodes) → GoodSum s → toNodes flag s ≡ wrote ns → Fine (0 + 10 * size s + 2) (1 + 2 * size s) ns
-written-fine flag s ns g e = keeps flag 4 s (g .good) false 0 1 end ns (omega arith) (omega (arith, g .room)) (fine-end 1) e
-
 -- what a good sum is written as is a good list
 pub written-good : (flag : Bool) (s : Sum) (ns : Nodes) → GoodSum s → toNodes flag s ≡ wrote ns → verdict (encode ns) ≡ verdicts.Good
-written-good flag s ns g e = fine-good ns (omega (arith, g .room)) (omega (arith, g .room)) (written-fine flag s ns g e)
-
-pub written-formed : (flag : Bool) (s : Sum) (ns : Nodes) → GoodSum s → toNodes flag s ≡ wrote ns → WellFormed ns
-written-formed flag s ns g e = fine-formed ns (omega (arith, g .room)) (written-fine flag s ns g e)
+written-good flag s ns g e =
+    fine-good ns (omega (arith, g .room)) (omega (arith, g .room)) (keeps flag 4 s (g .good) false 0 1 end ns (omega arith) (omega (arith, g .room)) (fine-end 1) e)
