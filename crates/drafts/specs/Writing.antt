@@ -17,25 +17,25 @@ use Rattle.records.specs.Tree.{Nodes, end, rec, size}
 
 -- ---- records; what a kind does not use is zero
 
-abbrev pub record-of : Kind → ℕ → ℕ → ℕ → ℕ → ℕ → Record
-record-of k code args inside re im = record { kind = kindNo k; code = code; args = args; blank = 0; inside = inside; re = re; im = im }
+abbrev pub recordOf : Kind → ℕ → ℕ → ℕ → ℕ → ℕ → Record
+recordOf k code args inside re im = record { kind = kindNo k; code = code; args = args; blank = 0; inside = inside; re = re; im = im }
 
 -- a real number, and a pair, pushed
 abbrev pub push : Float → Record
-push x = record-of kind.RealPush 0 0 0 (toBits binary64 x) 0
+push x = recordOf kind.RealPush 0 0 0 (toBits binary64 x) 0
 
 abbrev pub pushPair : Complex → Record
-pushPair c = record-of kind.ComplexPush 0 0 0 (toBits binary64 (c .re)) (toBits binary64 (c .im))
+pushPair c = recordOf kind.ComplexPush 0 0 0 (toBits binary64 (c .re)) (toBits binary64 (c .im))
 
 abbrev pub does : Primitive → Record
-does p = record-of kind.Primitive (primitiveNo p) 0 0 0 0
+does p = recordOf kind.Primitive (primitiveNo p) 0 0 0 0
 
 -- On, and its body of 1 argument, with how many records lie inside
 abbrev pub on : ℕ → Record
-on n = record-of kind.Modifier (modifierNo modifier.On) 0 n 0 0
+on n = recordOf kind.Modifier (modifierNo modifier.On) 0 n 0 0
 
 abbrev pub body : ℕ → Record
-body n = record-of kind.Body 0 1 n 0 0
+body n = recordOf kind.Body 0 1 n 0 0
 
 -- ---- lists
 

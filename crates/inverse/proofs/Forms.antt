@@ -5,12 +5,12 @@ use mathlib.Core.List.{List, [], _∷_, _++_}
 use Rattle.complex.specs.declared.Complex.{Complex}
 use Rattle.complex.specs.Arith as complex
 use Rattle.numbers.specs.Signs.{one64}
-use lib.Ieee.{Float, eq, neg, ofBits}
+use lib.Ieee.{Float, binary64, eq, neg, ofBits}
 use Rattle.trees.specs.declared.Refusal.the-variants.{TooComplex, NeedsMath}
 use Rattle.records.specs.declared.Primitive.the-variants as prim
 use Rattle.records.specs.Tree.{end}
 use Rattle.drafts.specs.Writing.{refused}
-use Rattle.inverse.specs.Inverse.{Word, num, act, spell, half64, two64, four64, minusFour64, minusOne64, lessConstant, overFactor, unpower, isInt, ofPower, simpleQuadratic, root, larger, fullQuadratic, linear, ofConstant, ofQuadratic}
+use Rattle.inverse.specs.Inverse.{Word, num, act, spell, half64, two64, minusFour64, minusOne64, lessConstant, overFactor, unpower, isInt, ofPower, simpleQuadratic, root, larger, fullQuadratic, linear, ofConstant, ofQuadratic}
 use Rattle.inverse.specs.Steps.{byOthers}
 use Rattle.inverse.specs.declared.Others.{Others}
 use Rattle.inverse.specs.declared.Others.the-variants.{Nothing, Power, TooMuch}
@@ -35,6 +35,9 @@ module _ (k : Complex) {t : Bool} (e : t ≡ complex.same k complex.one) where
 pub minus-one : neg one64 ≡ minusOne64
 unfolding ofBits neg
 minus-one = refl
+
+abbrev pub four64 : Float
+four64 = ofBits binary64 0x4010000000000000
 
 minus-four : neg four64 ≡ minusFour64
 unfolding ofBits neg

@@ -36,9 +36,6 @@ half64 = ofBits binary64 0x3fe0000000000000
 abbrev pub two64 : Float
 two64 = ofBits binary64 0x4000000000000000
 
-abbrev pub four64 : Float
-four64 = ofBits binary64 0x4010000000000000
-
 abbrev pub minusFour64 : Float
 minusFour64 = ofBits binary64 0xc010000000000000
 

@@ -29,11 +29,12 @@ use Rattle.trees.specs.Kinds as kinds
 use Rattle.trees.specs.Good.{isNumber}
 use Rattle.trees.specs.Sums.{Sum, and}
 use Rattle.records.specs.declared.Primitive.the-variants as prim
+use Rattle.records.specs.Names.{choose}
 use Rattle.records.specs.Tree.{Nodes, end, size}
 use Rattle.drafts.specs.Writing.{push, does, append, one, two, Written, andThen, canWrite}
 use Rattle.drafts.proofs.Laws.{append-end, append-join, size-append}
 use Rattle.drafts.proofs.Fine.{Fine, fine-more, fine-end, fine-append, fine-two, plain-does, plain-push}
-use Rattle.writer.specs.ToNodes.{Form, half64, two64, choose, form, isBare, isConstant, isEmpty, before, plus, writePower, timesCoef, write}
+use Rattle.writer.specs.ToNodes.{Form, half64, two64, form, isBare, isConstant, isEmpty, before, plus, writePower, timesCoef, write}
 use Rattle.writer.specs.Count.{cost}
 use Rattle.runner.specs.Primitives.{times}
 use Rattle.speeds.specs.Value.{termValue, timesUnless}

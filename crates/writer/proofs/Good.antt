@@ -18,11 +18,12 @@ use Rattle.terms.specs.Singles.{GoodSum}
 use Rattle.records.specs.declared.Primitive.{Primitive}
 use Rattle.records.specs.declared.Primitive.the-variants as prim
 use Rattle.records.specs.declared.Verdict.the-variants as verdicts
+use Rattle.records.specs.Names.{choose}
 use Rattle.records.specs.Tree.{Nodes, end, rec, encode}
 use Rattle.records.specs.Rules.{verdict}
 use Rattle.drafts.specs.Writing.{push, does, append, one, two, Written, wrote, refused, andThen, number, numberRecord, canWrite, ifCan}
 use Rattle.drafts.proofs.Fine.{Fine, fine-more, fine-end, fine-one, fine-append, fine-two, fine-say, fine-wrapped, fine-good, plain-does, plain-push, plain-number}
-use Rattle.writer.specs.ToNodes.{Form, constant, root, bare, square, power, form, isBare, isConstant, isEmpty, choose, primitiveFor, functionOf, before, writePower, writeTerm, timesCoef, plus, close, turn, write, toNodes}
+use Rattle.writer.specs.ToNodes.{Form, constant, root, bare, square, power, form, isBare, isConstant, isEmpty, primitiveFor, functionOf, before, writePower, writeTerm, timesCoef, plus, close, turn, write, toNodes}
 
 -- ---- what is written is written in parts
 

@@ -10,6 +10,7 @@ use Rattle.trees.specs.Kinds as kinds
 use Rattle.trees.specs.Sums.{Sum, none, and}
 use Rattle.records.specs.declared.Primitive.{Primitive}
 use Rattle.records.specs.declared.Primitive.the-variants as prim
+use Rattle.records.specs.Names.{choose}
 use Rattle.records.specs.Tree.{Nodes, end, rec}
 use Rattle.drafts.specs.Writing.{push, does, append, one, two, wrapped, Written, wrote, andThen, number}
 
@@ -24,10 +25,6 @@ two64 = ofBits binary64 0x4000000000000000
 -- the arms of the Rust's match on a power, which are compared as numbers
 pub data Form : Type 0 where
   constant root bare square power : Form
-
-abbrev pub choose : {A : Type 0} → Bool → A → A → A
-choose true a b = a
-choose false a b = b
 
 unfoldable pub form : Float → Form
 form p = choose (eq p zero64) constant (choose (eq p half64) root (choose (eq p one64) bare (choose (eq p two64) square power)))
