@@ -1,7 +1,7 @@
 -- Demand 3, for every byte list that is read without a complex step. Assumes nothing.
 use Prim.Native.Nat.{ℕ, _*_, _≤_}
 use native.Mathlib.Omega.{arith}
-use mathlib.Core.Path.{_≡_, refl, ap, subst, _∙_}
+use mathlib.Core.Path.{_≡_, ap, subst, _∙_}
 use mathlib.Core.Bool.{Bool, true, false}
 use mathlib.Core.List.{List}
 use lib.Dec.{T, leb}
@@ -25,8 +25,7 @@ use Rattle.runner.specs.Running.{runNodes, runList}
 use Rattle.reals.specs.Reals.{RealSum}
 use Rattle.reals.proofs.Reading.{read-real}
 use Rattle.reals.proofs.Calculus.{derive-real}
-use Rattle.speeds.specs.Value.{Power}
-use Rattle.speeds.specs.Value as terms
+use Rattle.speeds.specs.Value.{Power, Terms, value}
 use Rattle.speeds.specs.Promise.{peakOf, PowerSum}
 use Rattle.speeds.proofs.Theorem.{power-sum}
 use Rattle.answers.specs.declared.Answer.{Answer}
@@ -35,8 +34,7 @@ use Rattle.answers.specs.Making.{Made, ofList, write, deriveAndWrite, Gives}
 use Rattle.answers.proofs.Told.{first-bytes}
 use Rattle.algebra.specs.Reading.{byVerdict, readList}
 use Rattle.algebra.specs.Entries.{derivative}
-use Rattle.algebra.specs.Speed
-use Rattle.algebra.specs.Speed.{Whole, records, Speed}
+use Rattle.algebra.specs.Speed.{records, Speed}
 use Rattle.algebra.proofs.Reading.{sum-good}
 
 -- without a complex step there are no imaginary parts
@@ -47,12 +45,6 @@ by-real (verdicts.Refused q) ns e = let z : _≡_ {A = ℕ} 0 1 = cc in absurd (
 list-real : (l : List ℕ) {s : Sum} {h : Bool} → readList l ≡ done s false h → RealSum s
 unfolding readList
 list-real l e = by-real (verdict l) (parse l) e
-
-real-terms : {d : Sum} {ts : List Power} → RealSum d → Whole d ts → terms.Terms d ts
-unfolding RealSum
-real-terms r Speed.nothing = terms.nothing
-real-terms r (Speed.zero-term z w) = terms.zero-term z (real-terms (r .2) w)
-real-terms r (Speed.term z p w) = terms.term z (r .0) p (real-terms (r .2) w)
 
 -- ns is the list of the derivative
 module _ (l : List ℕ) {s d : Sum} {h : Bool} {ts : List Power} {ns : Nodes} (read : readList l ≡ done s false h) (derived : derivatives.derive s ≡ sum d) (p : PowerSum d ts ns) where
@@ -80,13 +72,13 @@ module _ (l : List ℕ) {s d : Sum} {h : Bool} {ts : List Power} {ns : Nodes} (r
     run-is x f = ap (λ (b : List ℕ). runList b x) first ∙ p .bytes x f
 
 -- a list that is read without a complex step, the terms of whose derivative that aren't zero are whole powers from 0 to 64
-pub demand-3 : (l : List ℕ) {s d : Sum} {h : Bool} (ts : List Power) → readList l ≡ done s false h → derivatives.derive s ≡ sum d → Whole d ts → Speed l ts
-demand-3 l {s} {d} ts read derived whole =
+pub demand-3 : (l : List ℕ) {s d : Sum} {h : Bool} (ts : List Power) → readList l ≡ done s false h → derivatives.derive s ≡ sum d → Terms d ts → Speed l ts
+demand-3 l {s} {d} ts read derived terms =
     let good = derive-good s (sum-good l read) derived in
-    let list = power-sum 4 d ts (good .good) (real-terms (derive-real s (list-real l read) derived) whole) in
+    let list = power-sum 4 d ts (good .good) (derive-real s (list-real l read) derived) terms in
     let p = list .1 in
     record {
       writes = λ out out′ r room g. answers l read derived p room g;
-      gives = λ out out′ r x room g f e. run-is l read derived p room g x f ∙ p .gives x f e ∙ ap (λ (n : ℕ). Value (terms.value x ts) n (peakOf ts)) (p .records);
+      gives = λ out out′ r x room g f e. run-is l read derived p room g x f ∙ p .gives x f e ∙ ap (λ (n : ℕ). Value (value x ts) n (peakOf ts)) (p .records);
       refuses = λ out out′ r x at room g f e. run-is l read derived p room g x f ∙ p .refuses x at f e;
     }

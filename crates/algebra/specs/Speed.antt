@@ -1,37 +1,24 @@
 -- Demand 3, from bytes to bits: the list that `derivative` writes for a formula of whole powers, and its run.
 use Prim.Native.Nat.{ℕ, _*_, _≤_}
 use mathlib.Core.Path.{_≡_}
-use mathlib.Core.Bool.{true, false}
-use mathlib.Core.List.{List, [], _∷_}
+use mathlib.Core.List.{List}
 use mathlib.Core.Option.{none, some}
 use lib.Dec.{T}
 use lib.Ieee.{Float}
 use lib.Ieee.Scale.{finite}
 use lib.ListN.{take}
-use Rattle.numbers.specs.declared.SmallWhole.the-variants.{Is}
-use Rattle.numbers.specs.Numbers.{smallWhole}
-use Rattle.complex.specs.declared.Complex.{Complex}
-use Rattle.complex.specs.Arith as complex
 use Rattle.trees.specs.declared.Refusal.the-variants.{NotFinite}
-use Rattle.trees.specs.Kinds as kinds
-use Rattle.trees.specs.Sums.{Sum, and}
 use Rattle.records.specs.Tree.{recordsIn}
 use Rattle.writer.specs.Count.{recordsFor}
 use Rattle.runner.specs.declared.RunAnswer.the-variants.{Value, Refused}
 use Rattle.runner.specs.Running.{runList}
-use Rattle.speeds.specs.Value.{Power, power, value}
+use Rattle.speeds.specs.Value.{Power, value}
 use Rattle.speeds.specs.Places.{shapes, inAll, firstNotFinite}
 use Rattle.speeds.specs.Promise.{peakOf}
 use Rattle.answers.specs.declared.Answer.{Answer}
 use Rattle.answers.specs.declared.Answer.the-variants.{Done}
 use Rattle.answers.specs.Making.{Gives}
 use Rattle.algebra.specs.Entries.{derivative}
-
--- the terms of the sum that aren't zero are x to whole powers from 0 to 64, and ts lists them with the real parts of their coefficients
-pub data Whole : Sum → List Power → Type 0 where
-  nothing : Whole Sum.none []
-  zero-term : {k : ℕ} {p : Float} {j : Sum} {c : Complex} {r : Sum} {ts : List Power} → complex.same c complex.zero ≡ true → Whole r ts → Whole (and k p j c r) ts
-  term : {p : Float} {k : ℕ} {j : Sum} {c : Complex} {r : Sum} {ts : List Power} → complex.same c complex.zero ≡ false → smallWhole p ≡ Is k → Whole r ts → Whole (and kinds.X p j c r) (power k (c .re) ∷ ts)
 
 -- document 01's number of records for these terms
 abbrev pub records : List Power → ℕ

@@ -19,6 +19,7 @@ use Rattle.records.specs.Tree.{Nodes, size, count}
 use Rattle.drafts.specs.Writing.{append, Written, wrote, refused}
 use Rattle.writer.specs.ToNodes.{two64, form, write, toNodes}
 use Rattle.writer.specs.Count.{cost, costs, recordsFor}
+use Rattle.reals.specs.Reals.{RealSum}
 use Rattle.runner.specs.declared.RunAnswer.{RunAnswer}
 use Rattle.runner.specs.declared.RunAnswer.the-variants.{Value, Refused}
 use Rattle.runner.specs.Primitives.{times, power, leave, apply, act}
@@ -50,7 +51,12 @@ terms = value.power 0 one64 ∷ value.power 2 three64 ∷ []
 -- its terms
 listed : Terms sum terms
 unfolding ofBits eq smallWhole
-listed = term refl refl refl (term refl refl refl nothing)
+listed = term refl refl (term refl refl nothing)
+
+-- it has no imaginary parts
+real : RealSum sum
+unfolding RealSum ofBits
+real = (refl, tt, (refl, tt, tt))
 
 good : Good 1 sum
 unfolding Good ofBits fits lt cmpEach len
@@ -63,7 +69,7 @@ good = (
 
 -- so the theorem speaks of it
 pub written : (ns : Nodes) × PowerSum sum terms ns
-written = power-sum 1 sum terms good listed
+written = power-sum 1 sum terms good real listed
 
 -- at 2: 13, 11 steps, peak 3
 promised : (value two64 terms ≡ fin false 13 (pos 0)) × (recordsFor (shapes terms) ≡ 11) × (peakOf terms ≡ 3) × (firstNotFinite (inAll two64 terms) ≡ none)

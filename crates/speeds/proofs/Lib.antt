@@ -2,6 +2,7 @@
 pub mod Steps
 pub mod Pieces
 pub mod Terms
+pub mod Listed
 pub mod Rising
 pub mod Building
 pub mod Whole

@@ -1,5 +1,5 @@
 -- The powers of a good sum rise strictly, so there are at most 65 of them. Assumes nothing.
-use Prim.Native.Nat.{ℕ, zero, suc, _+_, _-_, _≤_, _<_}
+use Prim.Native.Nat.{ℕ, suc, _+_, _-_, _≤_, _<_}
 use mathlib.Core.Path.{_≡_, refl, sym, _∙_}
 use mathlib.Core.Bool.{true}
 use mathlib.Core.List.{List, [], _∷_}
@@ -22,7 +22,8 @@ use Rattle.trees.specs.Good.{isEmpty, Before, Good}
 use Rattle.trees.specs.Order.{cmpEach, cmpTerm}
 use Rattle.trees.proofs.Order.{Key, good-key, term-chain}
 use Rattle.sums.proofs.Walk.{GoodFirst, good-and}
-use Rattle.speeds.specs.Value.{Power, power, Terms, nothing, zero-term, term}
+use Rattle.speeds.specs.Value.{Power, power}
+use Rattle.speeds.proofs.Listed.{Listed, nothing, zero-term, term}
 
 -- strictly rising, from lo on
 abbrev pub Rising : ℕ → List Power → Type 0
@@ -64,7 +65,7 @@ module _ (left : ℕ) where
       term-chain (entry k (size i) p complex.zero) i (entry l (size j) q complex.zero) j (entry l′ (size j′) q′ complex.zero) j′ K (first-key f) (first-key (first-good l′ q′ j′ d′ r′ (f .rest)))
       .less b (f .before)
 
-  above : {r : Sum} {ts : List Power} (p : Float) (i : Sum) (k : ℕ) → TermKey kinds.X p i → isEmpty i ≡ true → smallWhole p ≡ Is k → Good left r → Terms r ts → Before kinds.X p i r → Rising (suc k) ts
+  above : {r : Sum} {ts : List Power} (p : Float) (i : Sum) (k : ℕ) → TermKey kinds.X p i → isEmpty i ≡ true → smallWhole p ≡ Is k → Good left r → Listed r ts → Before kinds.X p i r → Rising (suc k) ts
   above p i k K e w g nothing b = tt
   above p i k K e w g (zero-term {k = l} {p = q} {j} {c = d} {r} z t) b =
       above p i k K e w (first-good l q j d r g .rest) t (before-rest kinds.X l p q i j d r K g b)
@@ -72,14 +73,14 @@ module _ (left : ℕ) where
       let f = first-good kinds.X q j d r g in
       (powers-less p q i j (size i) (size j) k l e (f .entry-good .inside) w wq b, above q j l (first-key f) (f .entry-good .inside) wq (f .rest) t (f .before))
 
-  pub rising : {s : Sum} {ts : List Power} → Good left s → Terms s ts → Rising 0 ts
+  pub rising : {s : Sum} {ts : List Power} → Good left s → Listed s ts → Rising 0 ts
   rising g nothing = tt
   rising g (zero-term {k = l} {p = q} {j} {c = d} {r} z t) = rising (first-good l q j d r g .rest) t
   rising g (term {p = q} {k = l} {j} {c = d} {r} z re wq t) =
       let f = first-good kinds.X q j d r g in
       (omega arith, above q j l (first-key f) (f .entry-good .inside) wq (f .rest) t (f .before))
 
-at-most : {s : Sum} {ts : List Power} (lo : ℕ) → Terms s ts → Rising lo ts → lo ≤ 65 → lo + length ts ≤ 65
+at-most : {s : Sum} {ts : List Power} (lo : ℕ) → Listed s ts → Rising lo ts → lo ≤ 65 → lo + length ts ≤ 65
 at-most lo nothing up h = omega arith
 at-most lo (zero-term z t) up h = at-most lo t up h
 at-most lo (term {p} {k} z re w t) up h =
@@ -88,5 +89,5 @@ at-most lo (term {p} {k} z re w t) up h =
     let c = up .0 in
     omega arith
 
-pub few-terms : {s : Sum} {ts : List Power} → Terms s ts → Rising 0 ts → length ts ≤ 65
+pub few-terms : {s : Sum} {ts : List Power} → Listed s ts → Rising 0 ts → length ts ≤ 65
 few-terms t up = let h = at-most 0 t up (omega arith) in omega arith

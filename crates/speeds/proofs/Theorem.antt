@@ -1,4 +1,4 @@
--- Every good sum of whole powers has a list, and it runs as document 01 says. Assumes nothing.
+-- Every good sum of whole powers without imaginary parts has a list, and it runs as document 01 says. Assumes nothing.
 use Prim.Native.Nat.{ℕ}
 use mathlib.Core.Path.{_≡_, refl, sym, ap, _∙_}
 use mathlib.Core.Bool.{false}
@@ -21,11 +21,13 @@ use Rattle.drafts.proofs.Fine.{Fine, fine-good}
 use Rattle.writer.specs.Count as count
 use Rattle.writer.specs.Count.{Powers}
 use Rattle.writer.proofs.Count.{record-count}
+use Rattle.reals.specs.Reals.{RealSum}
 use Rattle.runner.specs.declared.RunAnswer.the-variants.{Value, Refused}
 use Rattle.runner.specs.Running.{ended, runNodes, runList}
-use Rattle.speeds.specs.Value.{Power, Terms, nothing, zero-term, term, value}
+use Rattle.speeds.specs.Value.{Power, Terms, value}
 use Rattle.speeds.specs.Places.{shapes, inAll, firstNotFinite}
 use Rattle.speeds.specs.Promise.{peakOf, PowerSum}
+use Rattle.speeds.proofs.Listed.{Listed, listed, nothing, zero-term, term}
 use Rattle.speeds.proofs.Steps.{state, out}
 use Rattle.speeds.proofs.Terms.{form-is, can-write, one-real}
 use Rattle.speeds.proofs.Rising.{rising, few-terms}
@@ -36,7 +38,7 @@ wrote-is : {a b : Nodes} → wrote a ≡ wrote b → a ≡ b
 wrote-is h = cc
 
 -- such a sum is a sum of powers
-powers : (left : ℕ) {s : Sum} {ts : List Power} → Good left s → Terms s ts → Powers false s (shapes ts)
+powers : (left : ℕ) {s : Sum} {ts : List Power} → Good left s → Listed s ts → Powers false s (shapes ts)
 unfolding shapes
 powers left g nothing = count.nothing
 powers left g (zero-term {k = l} {p} {j} {c} {r = s} z t) = count.zero z (powers left (good-and left (entry l (entries j) p c) j s g .rest) t)
@@ -50,10 +52,11 @@ unfolding runList
 bytes-run ns x f fx =
     rw (fine-good ns (omega arith) (omega arith) f, is-true (finite x) fx, parse-encode ns record { fields = f .fields; ok = f .ok; few = f .few })
 
--- the list that is written for a good sum of whole powers
-pub power-sum : (left : ℕ) (s : Sum) (ts : List Power) → Good left s → Terms s ts → (ns : Nodes) × PowerSum s ts ns
+-- the list that is written for a good sum of whole powers without imaginary parts
+pub power-sum : (left : ℕ) (s : Sum) (ts : List Power) → Good left s → RealSum s → Terms s ts → (ns : Nodes) × PowerSum s ts ns
 unfolding runNodes
-power-sum left s ts g t =
+power-sum left s ts g real terms =
+    let t = listed real terms in
     let up = rising left g t in
     let h = whole-list left g t up (few-terms t up) in
     let k = record-count (powers left g t) in (

@@ -29,9 +29,10 @@ use Rattle.writer.specs.ToNodes.{isBare, write}
 use Rattle.writer.specs.Count.{cost}
 use Rattle.runner.specs.Primitives.{times}
 use Rattle.runner.specs.Running.{runs}
-use Rattle.speeds.specs.Value.{Power, power, Terms, nothing, zero-term, term, termValue, plusTerms, value}
+use Rattle.speeds.specs.Value.{Power, power, termValue, plusTerms, value}
 use Rattle.speeds.specs.Places.{formOf, costOf, isX, inTerm, inSum, inAll, firstNotFinite}
 use Rattle.speeds.specs.Promise.{peakOf}
+use Rattle.speeds.proofs.Listed.{Listed, nothing, zero-term, term}
 use Rattle.speeds.proofs.Steps.{state, out, or, or-none, bad}
 use Rattle.speeds.proofs.Terms.{piece, piece-size, write-zero, write-term}
 use Rattle.speeds.proofs.Building.{first-append, same-places, Built, rebuild, built-zero, built-x, built-term, built-join, built-dup}
@@ -78,7 +79,7 @@ module _ (left : ℕ) where
   first-good l q j d r g = good-and left (entry l (entries j) q d) j r g
 
   -- something is written
-  more : {s : Sum} {ts : List Power} → Good left s → Terms s ts → (id : Bool) (a : Record) (i m : Nodes) (n d : ℕ) (r : Float → Float) (k : ℕ) (b : Float → ℕ → Option ℕ) → n + 7 * length ts ≤ 2048 → 1 ≤ k
+  more : {s : Sum} {ts : List Power} → Good left s → Listed s ts → (id : Bool) (a : Record) (i m : Nodes) (n d : ℕ) (r : Float → Float) (k : ℕ) (b : Float → ℕ → Option ℕ) → n + 7 * length ts ≤ 2048 → 1 ≤ k
       → Built (rec a i m) n d r (suc k) b
       → More s id (rec a i m) (n + 7 * length ts) (d + 2 * length ts) (λ x. plusTerms x (r x) ts) (suc (k + length ts))
       (λ x at. or (b x (at + 2 * length ts)) (firstNotFinite (inSum (at + 2 * length ts + size (rec a i m)) x (r x) ts)))
@@ -111,7 +112,7 @@ module _ (left : ℕ) where
       }
 
   -- only x was met, and nothing is written yet
-  only : {s : Sum} {ts : List Power} → Good left s → Terms s ts → Rising 2 ts → length ts ≤ 64
+  only : {s : Sum} {ts : List Power} → Good left s → Listed s ts → Rising 2 ts → length ts ≤ 64
       → More s true end (1 + 7 * length ts) (1 + 2 * length ts) (λ x. plusTerms x x ts) (onlyPeak ts) (λ x at. firstNotFinite (inSum (at + (2 * length ts - 1)) x x ts))
   unfolding write plusTerms append firstNotFinite inSum
   only g nothing up few = record { list = one (does prim.Identity); written = refl; built = rebuild _ _ _ _ (omega arith) (omega arith) refl (λ x at. refl) built-x }
@@ -171,7 +172,7 @@ peak-is k c (t ∷ ts) e = omega arith
 module _ (left : ℕ) where
   -- something is written for it
   first : {s : Sum} {ts : List Power} (p c : Float) (k : ℕ) (a : Record) (i m : Nodes) → T (isNumber p) → T (isNumber c) → smallWhole p ≡ Is k → isX k c ≡ false → piece p k c ≡ rec a i m
-      → Good left s → Terms s ts → length ts ≤ 64 → Whole s (isBare (formOf k)) (piece p k c) (power k c ∷ ts)
+      → Good left s → Listed s ts → length ts ≤ 64 → Whole s (isBare (formOf k)) (piece p k c) (power k c ∷ ts)
   unfolding value
   first {s} {ts} p c k a i m fp fc w n e g d few =
       let y : Built (piece p k c) 4 1 (λ x. termValue x k c) 2 (λ x at. firstNotFinite (inTerm at x k c)) = rw n at (built-term p c k fp fc w) in
@@ -180,7 +181,7 @@ module _ (left : ℕ) where
       rw e (whole h (omega arith) (omega arith) (λ x. refl) (λ x. in-all x k c ts (rw n (omega arith)) (omega (arith, z))) (peak-is k c ts n) (omega arith) (omega arith))
 
   -- bare x
-  first-bare : {s : Sum} {ts : List Power} (c : Float) → eq c one64 ≡ true → Good left s → Terms s ts → Rising 2 ts → length ts ≤ 64 → Whole s true end (power 1 c ∷ ts)
+  first-bare : {s : Sum} {ts : List Power} (c : Float) → eq c one64 ≡ true → Good left s → Listed s ts → Rising 2 ts → length ts ≤ 64 → Whole s true end (power 1 c ∷ ts)
   unfolding value termValue times inTerm firstNotFinite cost peakOf
   first-bare {ts = ts} c e g d up few =
       whole (only left g d up few) (omega arith) (omega arith) (λ x. rw e) (λ x. places x) (peaks ts) (low ts) (high ts few)
@@ -200,7 +201,7 @@ module _ (left : ℕ) where
       high [] h = omega arith
       high (u ∷ us) h = omega arith
 
-  first-term : {s : Sum} {ts : List Power} (p c : Float) (k : ℕ) → T (isNumber p) → T (isNumber c) → smallWhole p ≡ Is k → Good left s → Terms s ts → Rising (suc k) ts → length ts ≤ 64
+  first-term : {s : Sum} {ts : List Power} (p c : Float) (k : ℕ) → T (isNumber p) → T (isNumber c) → smallWhole p ≡ Is k → Good left s → Listed s ts → Rising (suc k) ts → length ts ≤ 64
       → Whole s (isBare (formOf k)) (piece p k c) (power k c ∷ ts)
   unfolding append
   first-term p c zero fp fc w g d up few = first p c 0 _ _ _ fp fc w refl refl g d few
@@ -212,7 +213,7 @@ module _ (left : ℕ) where
   first-term p c (suc (suc zero)) fp fc w g d up few = first p c 2 _ _ _ fp fc w refl refl g d few
   first-term p c (suc (suc (suc n))) fp fc w g d up few = first p c (suc (suc (suc n))) _ _ _ fp fc w refl refl g d few
 
-  pub whole-list : {s : Sum} {ts : List Power} → Good left s → Terms s ts → Rising 0 ts → length ts ≤ 65 → Whole s false end ts
+  pub whole-list : {s : Sum} {ts : List Power} → Good left s → Listed s ts → Rising 0 ts → length ts ≤ 65 → Whole s false end ts
   unfolding write append size inAll firstNotFinite value peakOf
   whole-list g nothing up few = record {
     list = two (push zero64) (does prim.Mul);

@@ -3,7 +3,6 @@ use Prim.Native.Nat.{ℕ, zero, suc}
 use mathlib.Core.Path.{_≡_}
 use mathlib.Core.Bool.{Bool, true, false}
 use mathlib.Core.List.{List, [], _∷_}
-use mathlib.Core.Option.{none}
 use lib.Ieee.{Float, eq}
 use Rattle.numbers.specs.Signs.{zero64, one64}
 use Rattle.numbers.specs.Ops.{_⊕_, _⊗_}
@@ -11,7 +10,6 @@ use Rattle.numbers.specs.Numbers.{smallWhole}
 use Rattle.numbers.specs.declared.SmallWhole.the-variants.{Is}
 use Rattle.complex.specs.declared.Complex.{Complex}
 use Rattle.complex.specs.Arith as complex
-use Rattle.complex.specs.Real.{Real}
 use Rattle.trees.specs.Kinds as kinds
 use Rattle.trees.specs.Sums.{Sum, and}
 use Rattle.runner.specs.Primitives.{times}
@@ -20,13 +18,13 @@ use Rattle.runner.specs.Primitives.{times}
 pub data Power : Type 0 where
   power : ℕ → Float → Power
 
--- the terms of the sum that aren't zero are x to whole powers from 0 to 64, with real coefficients, and ts lists them
+-- the terms of the sum that aren't zero are x to whole powers from 0 to 64, and ts lists them with the real parts of their coefficients
 pub data Terms : Sum → List Power → Type 0 where
   nothing : Terms Sum.none []
   zero-term : {k : ℕ} {p : Float} {j : Sum} {c : Complex} {r : Sum} {ts : List Power}
       → complex.same c complex.zero ≡ true → Terms r ts → Terms (and k p j c r) ts
   term : {p : Float} {k : ℕ} {j : Sum} {c : Complex} {r : Sum} {ts : List Power}
-      → complex.same c complex.zero ≡ false → Real c → smallWhole p ≡ Is k → Terms r ts
+      → complex.same c complex.zero ≡ false → smallWhole p ≡ Is k → Terms r ts
       → Terms (and kinds.X p j c r) (power k (c .re) ∷ ts)
 
 -- ---- the value
