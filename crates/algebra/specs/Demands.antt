@@ -10,16 +10,15 @@ use Rattle.trees.specs.Refusals.{refusalNo}
 use Rattle.records.specs.Tree.{recordsIn}
 use Rattle.entries.specs.Encoding.{entriesIn}
 use Rattle.runner.specs.declared.RunAnswer.{RunAnswer}
-use Rattle.runner.specs.declared.RunAnswer.the-variants as ran
-use Rattle.runner.specs.Running.{runList}
+use Rattle.runner.specs.declared.RunNumbers.{RunNumbers}
+use Rattle.runner.specs.Running.{runList, numbersOf}
 use Rattle.answers.specs.declared.Answer.{Answer}
-use Rattle.answers.specs.declared.Answer.the-variants as given
+use Rattle.answers.specs.declared.Numbers.{Numbers}
 use Rattle.answers.specs.Promises.{Promise}
 use Rattle.answers.specs.Making as making
-use Rattle.answers.specs.Making.{Gives, OfBytes}
+use Rattle.answers.specs.Making.{answerNumbers, Gives, OfBytes}
 use Rattle.algebra.specs.declared.ReadAnswer.{ReadAnswer}
-use Rattle.algebra.specs.declared.ReadAnswer.the-variants as answer
-use Rattle.algebra.specs.Reading.{readList, answerOf, bytesOf}
+use Rattle.algebra.specs.Reading.{readList, answerOf, bytesOf, readNumbers}
 use Rattle.algebra.specs.Entries as lists
 
 -- write is handed a flag, and run a number
@@ -42,20 +41,21 @@ pub record Reply : Type 0 where
 abbrev pub refusing : Refusal → ℕ → Reply
 refusing q at = record { number = refusalNo q; place = at; count = 0; flag = false; value = zero64; steps = 0; peak = 0 }
 
-abbrev pub wrote : ℕ → Bool → Reply
-wrote n c = record { number = 0; place = 0; count = n; flag = c; value = zero64; steps = 0; peak = 0 }
+-- the numbers of what is written, and those of a run: each has zeros for the other's
+abbrev pub ofNumbers : Numbers → Reply
+ofNumbers n = record { number = n .number; place = n .place; count = n .count; flag = n .flag; value = zero64; steps = 0; peak = 0 }
+
+abbrev pub ofRunNumbers : RunNumbers → Reply
+ofRunNumbers n = record { number = n .number; place = n .place; count = 0; flag = false; value = n .value; steps = n .steps; peak = n .peak }
 
 abbrev pub ofRead : ReadAnswer → Reply
-ofRead (answer.Sum n c) = wrote n c
-ofRead (answer.Refused q at) = refusing q at
+ofRead a = ofNumbers (readNumbers a)
 
 abbrev pub ofAnswer : Answer → Reply
-ofAnswer (given.Done n) = wrote n false
-ofAnswer (given.Refused q at) = refusing q at
+ofAnswer a = ofNumbers (answerNumbers a)
 
 abbrev pub ofRun : RunAnswer → Reply
-ofRun (ran.Value v steps peak) = record { number = 0; place = 0; count = 0; flag = false; value = v; steps = steps; peak = peak }
-ofRun (ran.Refused q at) = refusing q at
+ofRun a = ofRunNumbers (numbersOf a)
 
 -- of the input l and an output that was out and is out′ then; run has no output
 abbrev pub Promised : Entry → List ℕ → List ℕ → List ℕ → Reply → Type 0
