@@ -1,17 +1,15 @@
 -- The entries compose: derivative is read, derive and write, through bytes or not; integral likewise. What read, derive and integrate write is a good sum,
 -- and what write, derivative, integral and inverse write is a good list. Assumes nothing.
-use Prim.Native.Nat.{ℕ, _*_, _≤_, _/_}
+use Prim.Native.Nat.{ℕ, _*_, _≤_}
 use native.Mathlib.Omega.{arith}
 use mathlib.Core.Path.{_≡_, refl, sym, ap, subst, _∙_}
-use mathlib.Core.Bool.{Bool, true, false, cond}
+use mathlib.Core.Bool.{Bool}
 use mathlib.Core.List.{List}
-use lib.Dec.{leb}
-use lib.ListN.{length, take}
+use lib.ListN.{take}
 use lib.Seq.{sets}
-use borrow.Author.Tests.{leb-true}
 use Rattle.trees.specs.declared.Refusal.{Refusal}
 use Rattle.trees.specs.declared.Refusal.the-variants.{OutputRoom}
-use Rattle.trees.specs.Sums.{Sum, size}
+use Rattle.trees.specs.Sums.{Sum}
 use Rattle.trees.specs.Map.{Outcome, sum}
 use Rattle.terms.specs.Singles.{GoodSum}
 use Rattle.arena.proofs.Laws.{good-some}
@@ -29,12 +27,11 @@ use Rattle.answers.specs.Making as making
 use Rattle.answers.specs.Making.{Made, ofOutcome, ofSum, write, derive, integrate, deriveAndWrite, integrateAndWrite, Gives, OfBytes}
 use Rattle.answers.proofs.Giving.{gives-refusal}
 use Rattle.answers.proofs.Taking.{of-good}
-use Rattle.answers.proofs.Told.{Success, success, refusal, SumMade, sum-made, refused-outcome, first-bytes}
-use Rattle.algebra.specs.Reading.{readList, answerOf, bytesOf}
+use Rattle.answers.proofs.Told.{Success, success, refusal, not-made, refused-same, sum-same, SumMade, sum-made, refused-outcome, first-bytes}
+use Rattle.algebra.specs.Reading.{readList, madeOf, flagOf, answerOf, bytesOf}
 use Rattle.algebra.specs.Entries.{afterRead, derivative, integral}
-use Rattle.algebra.specs.declared.ReadAnswer.{ReadAnswer}
 use Rattle.algebra.specs.declared.ReadAnswer.the-variants as answer
-use Rattle.algebra.proofs.Reading.{sum-good}
+use Rattle.algebra.proofs.Reading.{sum-good, unflagged, sum-flagged, refusal-flagged}
 
 -- ---- what `read` tells
 
@@ -45,37 +42,32 @@ pub record ReadTold (x : Read) (n : ℕ) (c : Bool) (out′ : List ℕ) : Type 0
   pub is : x ≡ done s c handled
   pub bytes : take (32 * n) out′ ≡ encodeSum s
 
-same-sum : {n k : ℕ} {c d : Bool} → answer.Sum n c ≡ answer.Sum k d → (n ≡ k) × (c ≡ d)
-same-sum e = (cc, cc)
-
-not-sum : {n at : ℕ} {c : Bool} {q : Refusal} → answer.Sum n c ≡ answer.Refused q at → ⊥
-not-sum e = let z : _≡_ {A = ℕ} 0 1 = cc in omega arith
+sum-read : (x : Read) {n : ℕ} {c : Bool} {bytes out′ : List ℕ} (out : List ℕ) → madeOf x ≡ making.made n bytes → flagOf x ≡ c → n ≤ entriesIn out → out′ ≡ sets out 0 bytes → ReadTold x n c out′
+sum-read (done s d h) {n} out e f fits w =
+    let z = sum-same s e in
+    record {
+      s = s;
+      handled = h;
+      is = rw f refl;
+      bytes = ap (take (32 * n)) (w ∙ ap (sets out 0) (z .1)) ∙ first-bytes (encodeSum s) out (32 * n) (omega (arith, z .0, length-sum s)) (omega (arith, fits));
+    }
+sum-read (refusedAt q at h) out e f fits w = absurd (not-made e)
 
 pub read-told : (x : Read) {out out′ : List ℕ} {n : ℕ} {c : Bool} → Promise (answerOf x) (bytesOf x) out out′ (answer.Sum n c) → ReadTold x n c out′
-read-told (refusedAt q at h) p = absurd (not-sum (p .answered))
-read-told (done s d h) {out} {out′} {n} {c} p = go (leb (size s) (entriesIn out)) refl (p .answered) (p .written)
-  where
-    go : (b : Bool) → leb (size s) (entriesIn out) ≡ b → answer.Sum n c ≡ cond b (answer.Sum (size s) d) (answer.Refused OutputRoom 0) → out′ ≡ cond b (sets out 0 (encodeSum s)) out → ReadTold (done s d h) n c out′
-    go true t e w =
-        let z = same-sum e in
-        record {
-          s = s;
-          handled = h;
-          is = rw (z .1) refl;
-          bytes = ap (take (32 * n)) w ∙ first-bytes (encodeSum s) out (32 * n) (omega (arith, z .0, length-sum s)) (omega (arith, z .0, leb-true (size s) (entriesIn out) t));
-        }
-    go false t e w = absurd (not-sum e)
+read-told x {out} {out′} p =
+    let u = unflagged x p in
+    let f = sum-flagged (flagOf x) (u .answer) (u .is) in
+    let o = success entriesIn (madeOf x) (subst (λ (a : Answer). Gives entriesIn (madeOf x) out out′ a) (f .0) (u .gives)) in
+    sum-read x out (o .is) (f .1) (o .fits) (o .written)
 
-same-refusal : {p q : Refusal} {i j : ℕ} → answer.Refused p i ≡ answer.Refused q j → (p ≡ q) × (i ≡ j)
-same-refusal e = (cc, cc)
+refusal-read : (x : Read) {q : Refusal} {at : ℕ} → madeOf x ≡ making.refusedAt q at → (h : Bool) × (x ≡ refusedAt q at h)
+refusal-read (refusedAt p i h) e = let z = refused-same e in (h, rw (z .0, z .1) refl)
+refusal-read (done s c h) e = absurd (not-made (sym e))
 
 pub read-refusal : (x : Read) {out out′ : List ℕ} {q : Refusal} {at : ℕ} → Promise (answerOf x) (bytesOf x) out out′ (answer.Refused q at) → (q ≡ OutputRoom → ⊥) → (h : Bool) × (x ≡ refusedAt q at h)
-read-refusal (refusedAt p i h) r n = let e = same-refusal (r .answered) in (h, rw (e .0, e .1) refl)
-read-refusal (done s d h) {out} {out′} {q} {at} r n = go (leb (size s) (entriesIn out)) (r .answered)
-  where
-    go : (b : Bool) → answer.Refused q at ≡ cond b (answer.Sum (size s) d) (answer.Refused OutputRoom 0) → (k : Bool) × (done s d h ≡ refusedAt q at k)
-    go true e = absurd (not-sum (sym e))
-    go false e = absurd (n (same-refusal e .0))
+read-refusal x {out} {out′} p n =
+    let u = unflagged x p in
+    refusal-read x (refusal entriesIn (madeOf x) (subst (λ (a : Answer). Gives entriesIn (madeOf x) out out′ a) (refusal-flagged (flagOf x) (u .answer) (u .is)) (u .gives)) n)
 
 -- reading refused, and not for want of room
 pub after-refusal : (l : List ℕ) {out₁ out₁′ : List ℕ} {q : Refusal} {at : ℕ} (f : Bool → Sum → Made) (out : List ℕ) → Promise (answerOf (readList l)) (bytesOf (readList l)) out₁ out₁′ (answer.Refused q at) → (q ≡ OutputRoom → ⊥) → Gives recordsIn (afterRead (readList l) f) out out (given.Refused q at)
@@ -100,11 +92,8 @@ module _ (g : Sum → Outcome) (keeps : (s d : Sum) → GoodSum s → g s ≡ su
         → Gives recordsIn (afterRead (readList l) (λ f s. ofOutcome (g s) (write f))) out out (given.Refused q at)
     composed-refusal {q} {at} out b m =
         let e = refusal entriesIn (ofOutcome (g (told .s)) ofSum) (of-told b) m in
-        let z = refused-outcome (g (told .s)) (write c) (λ s i w. absurd (not-refused w)) e in
+        let z = refused-outcome (g (told .s)) (write c) (λ s i w. absurd (not-made (sym w))) e in
         rw (told .is) (rw z (gives-refusal recordsIn q at out))
-      where
-        not-refused : {k i : ℕ} {a : List ℕ} {o : Refusal} → making.made k a ≡ making.refusedAt o i → ⊥
-        not-refused e = let z : _≡_ {A = ℕ} 0 1 = cc in omega arith
 
     -- g wrote m entries
     module _ {m : ℕ} (b : OfBytes entriesIn (λ s. ofOutcome (g s) ofSum) (take (32 * n) out₁′) out₂ out₂′ (given.Done m)) where

@@ -14,13 +14,12 @@ use Rattle.runner.specs.declared.RunAnswer.the-variants as ran
 use Rattle.runner.specs.Running.{runList}
 use Rattle.answers.specs.declared.Answer.{Answer}
 use Rattle.answers.specs.declared.Answer.the-variants as given
-use Rattle.answers.specs.Promises.{Promise}
 use Rattle.answers.proofs.Determined as promises
 use Rattle.answers.proofs.Taking.{bytes-determined}
 use Rattle.answers.proofs.Told.{refusal-quiet, bytes-quiet}
 use Rattle.algebra.specs.declared.ReadAnswer.{ReadAnswer}
 use Rattle.algebra.specs.declared.ReadAnswer.the-variants as answer
-use Rattle.algebra.specs.Reading.{readList, answerOf, bytesOf}
+use Rattle.algebra.specs.Reading.{readList}
 use Rattle.algebra.specs.Entries as lists
 use Rattle.algebra.specs.Demands
 use Rattle.algebra.specs.Demands.{Entry, Reply, refusing, ofRead, ofAnswer, ofRun, Promised}
@@ -70,12 +69,9 @@ by-run : (a : RunAnswer) {out out′ : List ℕ} {r : Reply} → r ≡ ofRun a �
 by-run (ran.Value v s p) e f = inl (ap (λ z. z .number) e)
 by-run (ran.Refused q at) e f = inr (record { refusal = q; place = at; is = e; quiet = f })
 
-read-quiet : (l : List ℕ) {out out′ : List ℕ} {a : ReadAnswer} → Promise (answerOf (readList l)) (bytesOf (readList l)) out out′ a → (q : Refusal) (at : ℕ) → a ≡ answer.Refused q at → out′ ≡ out
-read-quiet l {out} p q at e = p .written ∙ reading.refusal-quiet (readList l) out (sym (p .answered) ∙ e)
-
 -- whatever the entry, its input and the output lent to it
 pub demand-1 : (e : Entry) (l out out′ : List ℕ) (r : Reply) → Promised e l out out′ r → Answers out out′ r
-demand-1 Demands.read l out out′ r p = by-read (p .0) (p .1) (read-quiet l (p .2))
+demand-1 Demands.read l out out′ r p = by-read (p .0) (p .1) (λ q at i. reading.refusal-quiet (readList l) (p .2) i)
 demand-1 Demands.derive l out out′ r p = by-answer (p .0) (p .1) (λ q at i. bytes-quiet (p .2) i)
 demand-1 Demands.integrate l out out′ r p = by-answer (p .0) (p .1) (λ q at i. bytes-quiet (p .2) i)
 demand-1 (Demands.write c) l out out′ r p = by-answer (p .0) (p .1) (λ q at i. bytes-quiet (p .2) i)

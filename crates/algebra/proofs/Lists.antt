@@ -1,7 +1,6 @@
 -- Laws of the entries that go from list to list: what follows reading. Assumes nothing.
 use Prim.Native.Nat.{ℕ, _+_, _≤_, _<_}
-use native.Mathlib.Omega.{arith}
-use mathlib.Core.Path.{_≡_, refl, subst}
+use mathlib.Core.Path.{_≡_, refl}
 use mathlib.Core.Bool.{Bool, true, false, cond}
 use mathlib.Core.List.{List}
 use lib.Dec.{leb}
@@ -11,8 +10,7 @@ use Rattle.trees.specs.declared.Refusal.{Refusal}
 use Rattle.trees.specs.declared.Refusal.the-variants.{NotHandled}
 use Rattle.trees.specs.Refusals.{refusalNo}
 use Rattle.trees.specs.Sums.{Sum}
-use Rattle.sums.specs.Lies.{Lies, Held}
-use Rattle.adds.proofs.Lying.{lies-to}
+use Rattle.sums.specs.Lies.{Lies}
 use Rattle.records.specs.Tree.{recordsIn}
 use Rattle.env.specs.declared.AlgebraData.{AlgebraData}
 use Rattle.env.specs.declared.AlgebraData.the-variants as gave
@@ -24,31 +22,7 @@ use Rattle.answers.specs.declared.Answer.the-variants as answer
 use Rattle.answers.specs.Making.{Made, refusedAt, answered, invert, Gives}
 use Rattle.answers.proofs.Giving.{gives-refusal}
 use Rattle.algebra.specs.Entries.{afterRead, inverseOf}
-
--- ---- what reading gave
-
--- a refusal
-pub gave-refused : {q : Refusal} {at : ℕ} {h : Bool} (x : Read) (d : AlgebraData) (b : Book) → d ≡ gave.Refused q at h → DataAs d b x → x ≡ reading.refusedAt q at h
-gave-refused {q} {at} {h} x d b e g = go x (subst (λ y. DataAs y b x) e g)
-  where
-    go : (x : Read) → DataAs (gave.Refused q at h) b x → x ≡ reading.refusedAt q at h
-    go (done s c k) g = absurd g
-    go (reading.refusedAt p i k) g = rw (g .refusal, g .place, g .handled) refl
-
--- a sum, which lies in the first n cells
-pub record Sum-read (x : Read) (b : Book) (n : ℕ) (c h : Bool) : Type 0 where
-  pub s : Sum
-  pub is : x ≡ done s c h
-  pub lies : Lies b 0 (0 + n) 4 s
-  pub few : n ≤ 64
-
-pub gave-sum : {n : ℕ} {c h : Bool} (x : Read) (d : AlgebraData) (b : Book) → d ≡ gave.Sum n c h → DataAs d b x → Sum-read x b n c h
-gave-sum {n} {c} {h} x d b e g = go x (subst (λ y. DataAs y b x) e g)
-  where
-    go : (x : Read) → DataAs (gave.Sum n c h) b x → Sum-read x b n c h
-    go (done s i k) g =
-        record { s = s; is = rw (g .1, g .2) refl; lies = lies-to (0 + n) (omega arith) (g .0 .lies); few = omega (arith, g .0 .lies .ends, g .0 .good .room) }
-    go (reading.refusedAt q at k) g = absurd g
+use Rattle.algebra.proofs.Reading.{gave-refused, gave-sum}
 
 module _ (room : List ℕ → ℕ) (x : Read) (f : Bool → Sum → Made) (d : AlgebraData) (b : Book) where
   pub after-refused : {q : Refusal} {at : ℕ} {h : Bool} (out : List ℕ) → d ≡ gave.Refused q at h → DataAs d b x → Gives room (afterRead x f) out out (answer.Refused q at)
@@ -56,9 +30,6 @@ module _ (room : List ℕ → ℕ) (x : Read) (f : Bool → Sum → Made) (d : A
 
   pub after-made : {n : ℕ} {c h : Bool} {out out′ : List ℕ} {r : Answer} → d ≡ gave.Sum n c h → DataAs d b x → ((s : Sum) → Lies b 0 (0 + n) 4 s → Gives room (f c s) out out′ r) → Gives room (afterRead x f) out out′ r
   after-made e g k = let w = gave-sum x d b e g in rw (w .is) (k (w .s) (w .lies))
-
-pub after-held : {n : ℕ} {c h : Bool} (x : Read) (d : AlgebraData) (b : Book) → d ≡ gave.Sum n c h → DataAs d b x → (n ≤ 64) × Held b 0 (0 + n) 4
-after-held x d b e g = let w = gave-sum x d b e g in (w .few, (w .s, w .lies))
 
 -- ---- the inverse
 

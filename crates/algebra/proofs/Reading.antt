@@ -1,20 +1,16 @@
 -- Laws of `read`: the sum that it writes is good, and a refusal changes nothing. Assumes nothing.
-use Prim.Native.Nat.{ℕ, _+_, _≤_, _<_}
+use Prim.Native.Nat.{ℕ, _+_, _≤_}
 use native.Mathlib.Omega.{arith}
 use mathlib.Core.Path.{_≡_, refl, sym, ap, subst, _∙_}
-use mathlib.Core.Bool.{Bool, true, false, cond}
+use mathlib.Core.Bool.{Bool, false}
 use mathlib.Core.List.{List}
-use lib.Dec.{leb}
-use lib.Seq.{sets}
-use borrow.Author.Tests.{le-leb, lt-leb}
 use Rattle.cells.specs.Book.{Book}
-use Rattle.sums.specs.Lies.{Lies}
+use Rattle.sums.specs.Lies.{Lies, Held}
 use Rattle.adds.proofs.Lying.{lies-to}
 use Rattle.env.specs.declared.AlgebraData.{AlgebraData}
 use Rattle.env.specs.declared.AlgebraData.the-variants as gave
 use Rattle.env.specs.Data.{DataAs}
 use Rattle.trees.specs.declared.Refusal.{Refusal}
-use Rattle.trees.specs.declared.Refusal.the-variants.{OutputRoom}
 use Rattle.trees.specs.Sums.{Sum, size}
 use Rattle.terms.specs.Singles.{GoodSum}
 use Rattle.records.specs.declared.Verdict.{Verdict}
@@ -29,8 +25,13 @@ use Rattle.entries.proofs.Theorem.{good-taken}
 use Rattle.arena.proofs.Laws.{good-some}
 use Rattle.bodies.specs.Reading.{Read, done, refusedAt, readNodes}
 use Rattle.bodies.proofs.Good.{read-good}
+use Rattle.answers.specs.declared.Answer.{Answer}
+use Rattle.answers.specs.declared.Answer.the-variants as given
 use Rattle.answers.specs.Promises.{Promise}
-use Rattle.algebra.specs.Reading.{byVerdict, readList, answerOf, bytesOf}
+use Rattle.answers.specs.Making.{answered, Gives}
+use Rattle.answers.proofs.Giving.{gives-refusal}
+use Rattle.answers.proofs.Told as told
+use Rattle.algebra.specs.Reading.{byVerdict, readList, madeOf, flagOf, flagged, answerOf, bytesOf}
 use Rattle.algebra.specs.declared.ReadAnswer.{ReadAnswer}
 use Rattle.algebra.specs.declared.ReadAnswer.the-variants as answer
 
@@ -49,16 +50,32 @@ sum-good l e = by-good (rules.verdict l) (parse l) e
 pub sum-taken : (l : List ℕ) {s : Sum} {c h : Bool} (t : Taken) → readList l ≡ done s c h → Weighed (encodeSum s) t → t ≡ taken.Sum (size s)
 sum-taken l {s} t e w = let g = sum-good l e in good-taken s t (g .good) (good-some g) (g .room) w
 
--- ---- a refusal
+-- ---- the answer and its flag
 
--- changes no byte
-pub refusal-quiet : (x : Read) (out : List ℕ) {q : Refusal} {at : ℕ} → answerOf x out ≡ answer.Refused q at → bytesOf x out ≡ out
-refusal-quiet (done s c h) out {q} {at} e = go (leb (size s) (entriesIn out)) e
-  where
-    go : (b : Bool) → cond b (answer.Sum (size s) c) (answer.Refused OutputRoom 0) ≡ answer.Refused q at → cond b (sets out 0 (encodeSum s)) out ≡ out
-    go true e = let z : _≡_ {A = ℕ} 0 1 = cc in absurd (omega arith)
-    go false e = refl
-refusal-quiet (refusedAt q at h) out e = refl
+-- the answer without the flag is that of what is made
+pub record Unflagged (x : Read) (out out′ : List ℕ) (r : ReadAnswer) : Type 0 where
+  pub answer : Answer
+  pub is : r ≡ flagged (flagOf x) answer
+  pub gives : Gives entriesIn (madeOf x) out out′ answer
+
+pub unflagged : (x : Read) {out out′ : List ℕ} {r : ReadAnswer} → Promise (answerOf x) (bytesOf x) out out′ r → Unflagged x out out′ r
+unflagged x {out} p = record { answer = answered (madeOf x) (entriesIn out); is = p .answered; gives = record { answered = refl; written = p .written } }
+
+pub flag-given : (x : Read) {out out′ : List ℕ} {a : Answer} → Gives entriesIn (madeOf x) out out′ a → Promise (answerOf x) (bytesOf x) out out′ (flagged (flagOf x) a)
+flag-given x g = record { answered = ap (flagged (flagOf x)) (g .answered); written = g .written }
+
+-- which answers have a flag
+pub sum-flagged : {n : ℕ} {c : Bool} (d : Bool) (a : Answer) → answer.Sum n c ≡ flagged d a → (a ≡ given.Done n) × (d ≡ c)
+sum-flagged d (given.Done m) e = (cc, cc)
+sum-flagged d (given.Refused q at) e = let z : _≡_ {A = ℕ} 0 1 = cc in absurd (omega arith)
+
+pub refusal-flagged : {q : Refusal} {at : ℕ} (d : Bool) (a : Answer) → answer.Refused q at ≡ flagged d a → a ≡ given.Refused q at
+refusal-flagged d (given.Done m) e = let z : _≡_ {A = ℕ} 0 1 = cc in absurd (omega arith)
+refusal-flagged d (given.Refused p i) e = cc
+
+-- a refusal changes no byte
+pub refusal-quiet : (x : Read) {out out′ : List ℕ} {r : ReadAnswer} {q : Refusal} {at : ℕ} → Promise (answerOf x) (bytesOf x) out out′ r → r ≡ answer.Refused q at → out′ ≡ out
+refusal-quiet x p e = let u = unflagged x p in told.refusal-quiet entriesIn (madeOf x) (u .gives) (refusal-flagged (flagOf x) (u .answer) (sym e ∙ u .is))
 
 -- ---- what the code answers
 
@@ -72,45 +89,37 @@ pub list-good : (l : List ℕ) → rules.verdict l ≡ verdict.Good → readList
 unfolding readList
 list-good l e = rw e refl
 
-module _ (s : Sum) (c h : Bool) (out : List ℕ) where
-  -- there is no room for it
-  pub sum-refused : entriesIn out < size s → Promise (answerOf (done s c h)) (bytesOf (done s c h)) out out (answer.Refused OutputRoom 0)
-  sum-refused l =
-      let e = sym (lt-leb (size s) (entriesIn out) l) in
-      record { answered = ap (λ b. cond b (answer.Sum (size s) c) (answer.Refused OutputRoom 0)) e; written = ap (λ b. cond b (sets out 0 (encodeSum s)) out) e }
-
-  -- there is room
-  pub sum-written : (out′ : List ℕ) → size s ≤ entriesIn out → out′ ≡ sets out 0 (encodeSum s) → Promise (answerOf (done s c h)) (bytesOf (done s c h)) out out′ (answer.Sum (size s) c)
-  sum-written out′ l w =
-      let e = sym (le-leb (size s) (entriesIn out) l) in
-      record { answered = ap (λ b. cond b (answer.Sum (size s) c) (answer.Refused OutputRoom 0)) e; written = w ∙ ap (λ b. cond b (sets out 0 (encodeSum s)) out) e }
-
-module _ {b : Book} {n : ℕ} {s : Sum} (c h : Bool) (out : List ℕ) (l : Lies b 0 (0 + n) 4 s) where
-  many : n ≡ size s
-  many = omega (arith, l .ends)
-
-  pub put-refused : entriesIn out < n → Promise (answerOf (done s c h)) (bytesOf (done s c h)) out out (answer.Refused OutputRoom 0)
-  put-refused f = sum-refused s c h out (omega (arith, many))
-
-  pub put-written : (out′ : List ℕ) → n ≤ entriesIn out → out′ ≡ sets out 0 (encodeSum s) → Promise (answerOf (done s c h)) (bytesOf (done s c h)) out out′ (answer.Sum n c)
-  put-written out′ f e = rw many (sum-written s c h out out′ (omega (arith, many)) e)
-
 -- ---- what reading gave
 
-pub data-refused : {q : Refusal} {at : ℕ} {h : Bool} (d : AlgebraData) (b : Book) (x : Read) (out : List ℕ) → d ≡ gave.Refused q at h → DataAs d b x → Promise (answerOf x) (bytesOf x) out out (answer.Refused q at)
-data-refused {q} {at} {h} d b x out e g = go x (subst (λ y. DataAs y b x) e g)
+-- a refusal
+pub gave-refused : {q : Refusal} {at : ℕ} {h : Bool} (x : Read) (d : AlgebraData) (b : Book) → d ≡ gave.Refused q at h → DataAs d b x → x ≡ refusedAt q at h
+gave-refused {q} {at} {h} x d b e g = go x (subst (λ y. DataAs y b x) e g)
   where
-    go : (x : Read) → DataAs (gave.Refused q at h) b x → Promise (answerOf x) (bytesOf x) out out (answer.Refused q at)
+    go : (x : Read) → DataAs (gave.Refused q at h) b x → x ≡ refusedAt q at h
     go (done s c k) g = absurd g
-    go (refusedAt p i k) g = rw (g .refusal) (rw (g .place) (record { answered = refl; written = refl }))
+    go (refusedAt p i k) g = rw (g .refusal, g .place, g .handled) refl
 
-module _ {n : ℕ} {c h : Bool} (d : AlgebraData) (b : Book) (x : Read) (e : d ≡ gave.Sum n c h) (g : DataAs d b x) where
-  given : (x : Read) → DataAs (gave.Sum n c h) b x → (s : Sum) × (k : Bool) × (x ≡ done s c k) × Lies b 0 (0 + n) 4 s
-  given (done s i k) g = (s, k, rw (g .1) refl, lies-to (0 + n) (omega arith) (g .0 .lies))
-  given (refusedAt q at k) g = absurd g
+-- a sum, which lies in the first n cells
+pub record SumRead (x : Read) (b : Book) (n : ℕ) (c h : Bool) : Type 0 where
+  pub s : Sum
+  pub is : x ≡ done s c h
+  pub lies : Lies b 0 (0 + n) 4 s
+  pub few : n ≤ 64
 
-  pub data-held : (s : Sum) × Lies b 0 (0 + n) 4 s
-  data-held = let w = given x (subst (λ y. DataAs y b x) e g) in (w .0, w .3)
+pub gave-sum : {n : ℕ} {c h : Bool} (x : Read) (d : AlgebraData) (b : Book) → d ≡ gave.Sum n c h → DataAs d b x → SumRead x b n c h
+gave-sum {n} {c} {h} x d b e g = go x (subst (λ y. DataAs y b x) e g)
+  where
+    go : (x : Read) → DataAs (gave.Sum n c h) b x → SumRead x b n c h
+    go (done s i k) g =
+        record { s = s; is = rw (g .1, g .2) refl; lies = lies-to (0 + n) (omega arith) (g .0 .lies); few = omega (arith, g .0 .lies .ends, g .0 .good .room) }
+    go (refusedAt q at k) g = absurd g
 
-  pub data-sum : {out out′ : List ℕ} {r : ReadAnswer} → ((s : Sum) (h : Bool) → Lies b 0 (0 + n) 4 s → Promise (answerOf (done s c h)) (bytesOf (done s c h)) out out′ r) → Promise (answerOf x) (bytesOf x) out out′ r
-  data-sum f = let w = given x (subst (λ y. DataAs y b x) e g) in rw (w .2) (f (w .0) (w .1) (w .3))
+module _ {n : ℕ} {c h : Bool} (x : Read) (d : AlgebraData) (b : Book) (e : d ≡ gave.Sum n c h) (g : DataAs d b x) where
+  pub gave-held : (n ≤ 64) × Held b 0 (0 + n) 4
+  gave-held = let w = gave-sum x d b e g in (w .few, (w .s, w .lies))
+
+  pub read-sum : {out out′ : List ℕ} {r : ReadAnswer} → ((s : Sum) (h : Bool) → Lies b 0 (0 + n) 4 s → Promise (answerOf (done s c h)) (bytesOf (done s c h)) out out′ r) → Promise (answerOf x) (bytesOf x) out out′ r
+  read-sum f = let w = gave-sum x d b e g in rw (w .is) (f (w .s) h (w .lies))
+
+pub read-refused : {q : Refusal} {at : ℕ} {h : Bool} (x : Read) (d : AlgebraData) (b : Book) (out : List ℕ) → d ≡ gave.Refused q at h → DataAs d b x → Promise (answerOf x) (bytesOf x) out out (answer.Refused q at)
+read-refused {q} {at} {h} x d b out e g = rw (gave-refused x d b e g) (flag-given (refusedAt q at h) (gives-refusal entriesIn q at out))

@@ -1,19 +1,19 @@
 -- The entry `read`: from a list of bytes to the sum that it stands for.
 use Prim.Native.Nat.{ℕ}
-use mathlib.Core.Bool.{false, cond}
+use mathlib.Core.Bool.{Bool, false}
 use mathlib.Core.List.{List}
-use lib.Dec.{leb}
-use lib.Seq.{sets}
-use Rattle.trees.specs.declared.Refusal.the-variants.{OutputRoom}
 use Rattle.trees.specs.Refusals.{refusalNo}
-use Rattle.trees.specs.Sums.{size}
 use Rattle.records.specs.declared.Verdict.{Verdict}
 use Rattle.records.specs.declared.Verdict.the-variants as verdict
 use Rattle.records.specs.Rules as rules
 use Rattle.records.specs.Tree.{parse}
-use Rattle.entries.specs.Encoding.{entriesIn, encodeSum}
+use Rattle.entries.specs.Encoding.{entriesIn}
 use Rattle.bodies.specs.Reading.{Read, done, refusedAt, readNodes}
+use Rattle.answers.specs.declared.Answer.{Answer}
+use Rattle.answers.specs.declared.Answer.the-variants as given
 use Rattle.answers.specs.declared.Numbers.{Numbers}
+use Rattle.answers.specs.Making as making
+use Rattle.answers.specs.Making.{Made, ofSum, answered, written}
 use Rattle.algebra.specs.declared.ReadAnswer.{ReadAnswer}
 use Rattle.algebra.specs.declared.ReadAnswer.the-variants as answer
 
@@ -25,15 +25,28 @@ byVerdict (verdict.Refused q) r = refusedAt q 0 false
 unfoldable pub readList : List ℕ → Read
 readList l = byVerdict (rules.verdict l) (readNodes (parse l))
 
+-- what is made of what was read
+abbrev pub madeOf : Read → Made
+madeOf (done s c h) = ofSum s
+madeOf (refusedAt q at h) = making.refusedAt q at
+
+-- its complex flag, false where it is refused
+abbrev pub flagOf : Read → Bool
+flagOf (done s c h) = c
+flagOf (refusedAt q at h) = false
+
+-- an answer with the flag, which a refusal does not have
+abbrev pub flagged : Bool → Answer → ReadAnswer
+flagged c (given.Done n) = answer.Sum n c
+flagged c (given.Refused q at) = answer.Refused q at
+
 -- 17 comes last, at place 0
 abbrev pub answerOf : Read → List ℕ → ReadAnswer
-answerOf (done s c h) out = cond (leb (size s) (entriesIn out)) (answer.Sum (size s) c) (answer.Refused OutputRoom 0)
-answerOf (refusedAt q at h) out = answer.Refused q at
+answerOf x out = flagged (flagOf x) (answered (madeOf x) (entriesIn out))
 
 -- the sum's bytes from the first byte on, and no other byte is changed
 abbrev pub bytesOf : Read → List ℕ → List ℕ
-bytesOf (done s c h) out = cond (leb (size s) (entriesIn out)) (sets out 0 (encodeSum s)) out
-bytesOf (refusedAt q at h) out = out
+bytesOf x out = written (madeOf x) (entriesIn out) out
 
 -- document 01's numbers
 abbrev pub readNumbers : ReadAnswer → Numbers

@@ -20,7 +20,7 @@ ghost use Rattle.runner.specs.Running.{runList};
 ghost use Rattle.answers.specs.Promises.{Promise};
 ghost use Rattle.answers.specs.Making as making;
 ghost use Rattle.answers.specs.Making.{answered, Gives, OfBytes};
-ghost use Rattle.algebra.specs.Reading.{readList, answerOf, bytesOf, readNumbers};
+ghost use Rattle.algebra.specs.Reading.{readList, flagged, answerOf, bytesOf, readNumbers};
 ghost use Rattle.algebra.specs.Entries as lists;
 
 // What `read` answers: a sum of so many entries, with the complex flag, or a refusal with its place.
@@ -69,7 +69,17 @@ fn read_sum(
     }
 }
 
-// Writes the sum of the first n cells, where there is room for it.
+// An answer with the complex flag, which a refusal does not have.
+fn flagged(complex: bool, a: Answer) -> ReadAnswer
+    ensures { λ r. ⌜ r ≡ flagged complex a ⌝ }
+{
+    match a {
+        Answer::Done(n) => ReadAnswer::Sum(n, complex),
+        Answer::Refused(q, at) => ReadAnswer::Refused(q, at),
+    }
+}
+
+// The sum of the first n cells, where there is room for it, and its complex flag.
 fn put_read(
     wk: &[u8],
     wi: &[u8],
@@ -80,15 +90,11 @@ fn put_read(
     complex: bool,
     out: &mut [u8],
 ) -> ReadAnswer
-    requires { ⌜ Held (lent wk wi wn wr wm) 0 (0 + n) 4 ⌝ }
+    requires { ⌜ (n ≤ 64) × Held (lent wk wi wn wr wm) 0 (0 + n) 4 ⌝ }
     ensures { λ r. ⌜ ((s : Sum) (h : Bool) → Lies (lent (wk .entry) (wi .entry) (wn .entry) (wr .entry) (wm .entry)) 0 (0 + n) 4 s → Promise (answerOf (done s complex h)) (bytesOf (done s complex h)) (now (out .entry)) (now (out .exit)) r) ⌝ }
 {
-    let room = entries::count_entries(out);
-    if room < n {
-        return ReadAnswer::Refused(Refusal::OutputRoom, 0);
-    }
-    entries::put_sum(wk, wi, wn, wr, wm, 0, n, out);
-    ReadAnswer::Sum(n, complex)
+    let answer = answers::put_out(wk, wi, wn, wr, wm, n, out);
+    flagged(complex, answer)
 }
 
 // From a list to the sum that it stands for.

@@ -63,6 +63,12 @@ made-same e = (cc, cc)
 pub not-made : {n at : ℕ} {q : Refusal} {a : List ℕ} → refusedAt q at ≡ made n a → ⊥
 not-made e = let z : _≡_ {A = ℕ} 0 1 = cc in omega arith
 
+pub refused-same : {p q : Refusal} {i j : ℕ} → refusedAt p i ≡ refusedAt q j → (p ≡ q) × (i ≡ j)
+refused-same e = (cc, cc)
+
+pub sum-same : (s : Sum) {n : ℕ} {bytes : List ℕ} → ofSum s ≡ made n bytes → (n ≡ size s) × (bytes ≡ encodeSum s)
+sum-same s e = let z = made-same e in (sym (z .0), sym (z .1))
+
 pub record SumMade (o : Outcome) (n : ℕ) (bytes : List ℕ) : Type 0 where
   pub s : Sum
   pub is : o ≡ sum s
@@ -70,7 +76,7 @@ pub record SumMade (o : Outcome) (n : ℕ) (bytes : List ℕ) : Type 0 where
   pub these : bytes ≡ encodeSum s
 
 pub sum-made : (o : Outcome) {n : ℕ} {bytes : List ℕ} → ofOutcome o ofSum ≡ made n bytes → SumMade o n bytes
-sum-made (sum s) e = let z = made-same e in record { s = s; is = refl; many = sym (z .0); these = sym (z .1) }
+sum-made (sum s) e = let z = sum-same s e in record { s = s; is = refl; many = z .0; these = z .1 }
 sum-made (refused q) e = absurd (not-made e)
 
 pub record ListMade (w : writing.Written) (n : ℕ) (bytes : List ℕ) : Type 0 where

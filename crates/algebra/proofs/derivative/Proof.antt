@@ -4,12 +4,13 @@ use Rattle.records.specs.Tree.{recordsIn}
 use Rattle.answers.specs.Making.{deriveAndWrite}
 use Rattle.algebra.specs.Reading.{readList}
 use Rattle.algebra.specs.Entries.{derivative}
-use Rattle.algebra.proofs.Lists.{after-refused, after-held, after-made}
+use Rattle.algebra.proofs.Reading.{gave-held}
+use Rattle.algebra.proofs.Lists.{after-refused, after-made}
 use Rattle.algebra.proofs.derivative.Statement.{statement}
 use Rattle.algebra.proofs.derivative.Tie as tie
 
 then-requires : tie.Need-derive-and-write-requires
-then-requires c κs = after-held (readList (c .before .before .before .before .before .before .before .before .before .before .before .before .before .before .before .before .before .before .before .before .before .before .args .list .now)) _ _ (c .before .before .before .before .before .before .before .data2 .given .1) (c .before .before .before .before .before .before .before .before .before .before .before .before .before .before .read-sum .ensures)
+then-requires c κs = gave-held (readList (c .before .before .before .before .before .before .before .before .before .before .before .before .before .before .before .before .before .before .before .before .before .before .args .list .now)) _ _ (c .before .before .before .before .before .before .before .data2 .given .1) (c .before .before .before .before .before .before .before .before .before .before .before .before .before .before .read-sum .ensures)
 
 returns : tie.Need-returns
 unfolding derivative

@@ -2,12 +2,13 @@
 use borrow.Author.Needs.{needs}
 use Rattle.algebra.specs.Reading.{readList}
 use Rattle.algebra.specs.Entries.{inverse}
-use Rattle.algebra.proofs.Lists.{after-held, inverse-refused, inverse-made}
+use Rattle.algebra.proofs.Reading.{gave-held}
+use Rattle.algebra.proofs.Lists.{inverse-refused, inverse-made}
 use Rattle.algebra.proofs.inverse.Statement.{statement}
 use Rattle.algebra.proofs.inverse.Tie as tie
 
 invert-read-requires : tie.Need-invert-read-requires
-invert-read-requires c κs = after-held (readList (c .before .before .before .before .before .before .before .before .before .before .before .before .before .before .before .before .before .before .before .before .before .before .args .list .now)) _ _ (c .before .before .before .before .before .before .before .data2 .given .1) (c .before .before .before .before .before .before .before .before .before .before .before .before .before .before .read-sum .ensures)
+invert-read-requires c κs = gave-held (readList (c .before .before .before .before .before .before .before .before .before .before .before .before .before .before .before .before .before .before .before .before .before .before .args .list .now)) _ _ (c .before .before .before .before .before .before .before .data2 .given .1) (c .before .before .before .before .before .before .before .before .before .before .before .before .before .before .read-sum .ensures)
 
 returns : tie.Need-returns
 unfolding inverse

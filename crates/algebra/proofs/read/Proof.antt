@@ -1,24 +1,24 @@
 -- A refusal is handed on; a sum is written. Assumes nothing.
 use borrow.Author.Needs.{needs}
 use Rattle.algebra.specs.Reading.{readList}
-use Rattle.algebra.proofs.Reading.{data-refused, data-held, data-sum}
+use Rattle.algebra.proofs.Reading.{gave-held, read-refused, read-sum}
 use Rattle.algebra.proofs.read.Statement.{statement}
 use Rattle.algebra.proofs.read.Tie as tie
 
 put-read-requires : tie.Need-put-read-requires
 put-read-requires c κs =
     let start = c .before .before .before .before .before .before .before .before .before .before .before .before .before .before .before .before .before .before .before .before .before .before in
-    data-held _ _ (readList (start .args .list .now)) (c .before .before .before .before .before .before .before .data2 .given .1) (c .before .before .before .before .before .before .before .before .before .before .before .before .before .before .read-sum .ensures)
+    gave-held (readList (start .args .list .now)) _ _ (c .before .before .before .before .before .before .before .data2 .given .1) (c .before .before .before .before .before .before .before .before .before .before .before .before .before .before .read-sum .ensures)
 
 returns : tie.Need-returns
 returns c =
     let start = c .before .before .before .before .before .before .before .before .before .before .before .before .before .before .before .before in
-    data-refused _ _ (readList (start .args .list .now)) _ (c .before .«data» .given .1) (c .before .before .before .before .before .before .before .before .read-sum .ensures)
+    read-refused (readList (start .args .list .now)) _ _ _ (c .before .«data» .given .1) (c .before .before .before .before .before .before .before .before .read-sum .ensures)
 
 returns-2 : tie.Need-returns-2
 returns-2 c =
     let start = c .before .before .before .before .before .before .before .before .before .before .before .before .before .before .before .before .before .before .before .before .before .before .before .before .before in
-    data-sum _ _ (readList (start .args .list .now)) (c .before .before .before .before .before .before .before .before .before .before .data2 .given .1) (c .before .before .before .before .before .before .before .before .before .before .before .before .before .before .before .before .before .read-sum .ensures) (c .before .before .put-read .ensures)
+    read-sum (readList (start .args .list .now)) _ _ (c .before .before .before .before .before .before .before .before .before .before .data2 .given .1) (c .before .before .before .before .before .before .before .before .before .before .before .before .before .before .before .before .before .read-sum .ensures) (c .before .before .put-read .ensures)
 
 pub read-spec : {M : Type 1} → statement M
 read-spec =
