@@ -17,7 +17,7 @@ use Rattle.sums.specs.Lies.{Lies}
 use Rattle.sums.proofs.Walk.{next, lies-none}
 use Rattle.adds.specs.declared.Constant.the-variants.{Is, Other}
 use Rattle.adds.specs.Reads.{constantOf}
-use Rattle.quotients.specs.Dividing.{Divisor}
+use Rattle.divisors.specs.Dividing.{Divisor}
 
 -- ---- what the code reads off a constant
 

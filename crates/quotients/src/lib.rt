@@ -3,45 +3,23 @@ use adds::Constant;
 use cells::Entry;
 use complex::Complex;
 use sums::Formed;
-use terms::Change;
-use trees::Merge;
 use trees::Refusal;
 ghost use mathlib.Core.Path.{_≡_};
 ghost use mathlib.Core.Bool.{cond};
-ghost use mathlib.Core.List.{List};
-ghost use Prim.Native.Nat.{ℕ, _+_, _≤_};
+ghost use Prim.Native.Nat.{_+_, _≤_};
 ghost use lib.Dec.{eqb};
-ghost use lib.Ieee.{Float, neg};
+ghost use lib.Ieee.{neg};
 ghost use Rattle.numbers.specs.Ops.{_⊖_};
-ghost use Rattle.numbers.specs.Signs.{zero64, one64};
-ghost use Rattle.complex.specs.Arith.{one};
-ghost use Rattle.cells.specs.Book.{book, lent, Room};
-ghost use Rattle.trees.specs.Kinds.{X, Div};
-ghost use Rattle.trees.specs.Sums.{Sum, none, size, entry};
-ghost use Rattle.trees.specs.Map.{at, formed, eachInto, andThenSum};
+ghost use Rattle.numbers.specs.Signs.{one64};
+ghost use Rattle.cells.specs.Book.{lent, Room};
+ghost use Rattle.trees.specs.Sums.{Sum, none};
+ghost use Rattle.trees.specs.Map.{at, eachInto};
 ghost use Rattle.terms.specs.Outcomes.{xByX};
-ghost use Rattle.terms.specs.Singles.{isOne, single, asConstant};
-ghost use Rattle.terms.specs.Product.{mulable, product};
-ghost use Rattle.terms.specs.Quotient.{xTo, divable, allDivable, addTimes, divTerm, divBySeveral, quotient};
+ghost use Rattle.terms.specs.Singles.{isOne, asConstant};
+ghost use Rattle.terms.specs.Quotient.{divable, allDivable, divTerm, divBySeveral, quotient};
 ghost use Rattle.sums.specs.Lies.{Lies, Held, Agrees};
 ghost use Rattle.adds.specs.Work.{Work};
-ghost use Rattle.quotients.specs.Dividing.{Divisor};
-
-// Whether every outermost term of the sum of m cells from j on is a power of x: then a power of x times it is a sum.
-fn all_x(kinds: &[u8], insides: &[u8], j: usize, m: usize) -> bool
-    requires { ⌜ ((n : List ℕ) × (r : List ℕ) × (i : List ℕ) × Held (book (now kinds) (now insides) n r i) j (j + m) 4) ⌝ }
-    ensures { λ r. ⌜ ((n w i : List ℕ) (t : Sum) (p : Float) → Lies (book (now (kinds .entry)) (now (insides .entry)) n w i) j (j + m) 4 t → r ≡ mulable (xTo p) t) ⌝ }
-{
-    let end = j + m;
-    let mut q = j;
-    while q < end {
-        if kinds[q] != trees::X {
-            return false;
-        }
-        q = q + 1 + insides[q] as usize;
-    }
-    true
-}
+ghost use Rattle.divisors.specs.Dividing.{Divisor};
 
 // Whether the term x, whose inside lies from i on, has a quotient by the term y, whose inside lies from j on.
 fn can_div_term(
@@ -64,7 +42,7 @@ fn can_div_term(
         return true;
     }
     if code == terms::X_BY_DIV {
-        return adds::is_one(x) | all_x(ak, ai, j, y.inside as usize);
+        return adds::is_one(x) | divisors::all_x(ak, ai, j, y.inside as usize);
     }
     if code == terms::X_BY_OTHER {
         return adds::is_one(x);
@@ -100,269 +78,6 @@ fn can_div(
         q = q + 1 + x.inside as usize;
     }
     true
-}
-
-// x to the p with the coefficient c is added into the sum of n cells.
-fn put_x(
-    p: f64,
-    c: Complex,
-    wk: &mut [u8],
-    wi: &mut [u8],
-    wn: &mut [u64],
-    wr: &mut [u64],
-    wm: &mut [u64],
-    n: usize,
-) -> Formed
-    requires { ⌜ Work (lent wk wi wn wr wm) n ⌝ }
-    ensures { λ r. ⌜ ((s : Sum) → Lies (lent (wk .entry) (wi .entry) (wn .entry) (wr .entry) (wm .entry)) 0 n 4 s → Agrees r (lent (wk .exit) (wi .exit) (wn .exit) (wr .exit) (wm .exit)) 0 (formed Merge.Add (entry X 0 p c) none s)) ⌝ }
-{
-    let small = [0u8; 1];
-    let large = [0u64; 1];
-    let x = Entry {
-        kind: trees::X,
-        inside: 0,
-        num: p,
-        coef: c,
-    };
-    sums::put_block(
-        Merge::Add,
-        x,
-        &small,
-        &small,
-        &large,
-        &large,
-        &large,
-        0,
-        wk,
-        wi,
-        wn,
-        wr,
-        wm,
-        0,
-        n,
-    )
-}
-
-// x to the p times the sum of m cells from j on.
-fn times_x(
-    p: f64,
-    ak: &[u8],
-    ai: &[u8],
-    an: &[u64],
-    ar: &[u64],
-    am: &[u64],
-    j: usize,
-    m: usize,
-    wk: &mut [u8],
-    wi: &mut [u8],
-    wn: &mut [u64],
-    wr: &mut [u64],
-    wm: &mut [u64],
-) -> Formed
-    requires { ⌜ Held (lent ak ai an ar am) j (j + m) 4 × Room (lent wk wi wn wr wm) 64 ⌝ }
-    ensures { λ r. ⌜ ((t : Sum) → Lies (lent (ak .entry) (ai .entry) (an .entry) (ar .entry) (am .entry)) j (j + m) 4 t → Agrees r (lent (wk .exit) (wi .exit) (wn .exit) (wr .exit) (wm .exit)) 0 (product (xTo p) t)) ⌝ }
-{
-    if !all_x(ak, ai, j, m) {
-        return Formed::Refused(Refusal::TooComplex);
-    }
-    let end = j + m;
-    let mut q = j;
-    let mut len = 0usize;
-    while q < end {
-        let y = cells::load(ak, ai, an, ar, am, q);
-        match put_x(p + y.num, Complex::ONE.mul(y.coef), wk, wi, wn, wr, wm, len) {
-            Formed::Done(k) => len = k,
-            Formed::Refused(r) => return Formed::Refused(r),
-        }
-        q = q + 1 + y.inside as usize;
-    }
-    Formed::Done(len)
-}
-
-// A power of x by Div: 1 leaves the inside, the m cells from j on, and any other is multiplied with it. c is the quotient of the coefficients.
-fn over_div(
-    x: Entry,
-    c: Complex,
-    ak: &[u8],
-    ai: &[u8],
-    an: &[u64],
-    ar: &[u64],
-    am: &[u64],
-    j: usize,
-    m: usize,
-    wk: &mut [u8],
-    wi: &mut [u8],
-    wn: &mut [u64],
-    wr: &mut [u64],
-    wm: &mut [u64],
-    n: usize,
-) -> Formed
-    requires { ⌜ Held (lent ak ai an ar am) j (j + m) 4 ⌝ }
-    requires { ⌜ Work (lent wk wi wn wr wm) n ⌝ }
-    ensures { λ r. ⌜ ((s v : Sum) → Lies (lent (wk .entry) (wi .entry) (wn .entry) (wr .entry) (wm .entry)) 0 n 4 s → Lies (lent (ak .entry) (ai .entry) (an .entry) (ar .entry) (am .entry)) j (j + m) 4 v → Agrees r (lent (wk .exit) (wi .exit) (wn .exit) (wr .exit) (wm .exit)) 0 (cond (isOne (x .kind) (x .num)) (addTimes c s v) (andThenSum (product (xTo (x .num)) v) (λ w. addTimes c s w)))) ⌝ }
-{
-    if adds::is_one(x) {
-        return adds::add_each(
-            Change::Times(c),
-            ak,
-            ai,
-            an,
-            ar,
-            am,
-            j,
-            m,
-            wk,
-            wi,
-            wn,
-            wr,
-            wm,
-            n,
-        );
-    }
-    let mut lk = [0u8; 64];
-    let mut li = [0u8; 64];
-    let mut ln = [0u64; 64];
-    let mut lr = [0u64; 64];
-    let mut lm = [0u64; 64];
-    match times_x(
-        x.num,
-        ak,
-        ai,
-        an,
-        ar,
-        am,
-        j,
-        m,
-        &mut lk,
-        &mut li,
-        &mut ln,
-        &mut lr,
-        &mut lm,
-    ) {
-        Formed::Done(k) => adds::add_each(
-            Change::Times(c),
-            &lk,
-            &li,
-            &ln,
-            &lr,
-            &lm,
-            0,
-            k,
-            wk,
-            wi,
-            wn,
-            wr,
-            wm,
-            n,
-        ),
-        Formed::Refused(r) => Formed::Refused(r),
-    }
-}
-
-// The term y with the coefficient 1 as a sum of its own.
-fn lay_single(
-    y: Entry,
-    ak: &[u8],
-    ai: &[u8],
-    an: &[u64],
-    ar: &[u64],
-    am: &[u64],
-    j: usize,
-    lk: &mut [u8],
-    li: &mut [u8],
-    ln: &mut [u64],
-    lr: &mut [u64],
-    lm: &mut [u64],
-)
-    requires { ⌜ ((v : Sum) × Divisor (lent ak ai an ar am) y j v) × Room (lent lk li ln lr lm) 64 ⌝ }
-    ensures { λ _. ⌜ ((v : Sum) → Divisor (lent (ak .entry) (ai .entry) (an .entry) (ar .entry) (am .entry)) y j v → Lies (lent (lk .exit) (li .exit) (ln .exit) (lr .exit) (lm .exit)) 0 (y .inside + 1) 4 (single (y .kind) (y .num) v one)) ⌝ }
-{
-    let head = Entry {
-        kind: y.kind,
-        inside: y.inside,
-        num: y.num,
-        coef: Complex::ONE,
-    };
-    cells::store(lk, li, ln, lr, lm, 0, head);
-    cells::copy_in(
-        ak,
-        ai,
-        an,
-        ar,
-        am,
-        j,
-        y.inside as usize,
-        lk,
-        li,
-        ln,
-        lr,
-        lm,
-        1,
-    );
-}
-
-// 1 by another kind is Div of the divisor, whose own coefficient is then 1; c is the coefficient.
-fn over_other(
-    c: Complex,
-    y: Entry,
-    ak: &[u8],
-    ai: &[u8],
-    an: &[u64],
-    ar: &[u64],
-    am: &[u64],
-    j: usize,
-    wk: &mut [u8],
-    wi: &mut [u8],
-    wn: &mut [u64],
-    wr: &mut [u64],
-    wm: &mut [u64],
-    n: usize,
-) -> Formed
-    requires { ⌜ ((v : Sum) × Divisor (lent ak ai an ar am) y j v) × Work (lent wk wi wn wr wm) n ⌝ }
-    ensures { λ r. ⌜ ((s v : Sum) → Lies (lent (wk .entry) (wi .entry) (wn .entry) (wr .entry) (wm .entry)) 0 n 4 s → Divisor (lent (ak .entry) (ai .entry) (an .entry) (ar .entry) (am .entry)) y j v → Agrees r (lent (wk .exit) (wi .exit) (wn .exit) (wr .exit) (wm .exit)) 0 (formed Merge.Add (entry Div (size (single (y .kind) (y .num) v one)) zero64 c) (single (y .kind) (y .num) v one) s)) ⌝ }
-{
-    let mut lk = [0u8; 64];
-    let mut li = [0u8; 64];
-    let mut ln = [0u64; 64];
-    let mut lr = [0u64; 64];
-    let mut lm = [0u64; 64];
-    lay_single(
-        y,
-        ak,
-        ai,
-        an,
-        ar,
-        am,
-        j,
-        &mut lk,
-        &mut li,
-        &mut ln,
-        &mut lr,
-        &mut lm,
-    );
-    let x = Entry {
-        kind: trees::DIV,
-        inside: y.inside + 1,
-        num: 0.0,
-        coef: c,
-    };
-    sums::put_block(
-        Merge::Add,
-        x,
-        &lk,
-        &li,
-        &ln,
-        &lr,
-        &lm,
-        0,
-        wk,
-        wi,
-        wn,
-        wr,
-        wm,
-        0,
-        n,
-    )
 }
 
 // The power of a quotient that is a power of x: 1 by x to the b is x to the -b, and two terms that are == give x to the 1.
@@ -402,7 +117,7 @@ fn div_term(
     let c1 = c.mul(Complex::ONE);
     let code = terms::quotient_code(x.kind, y.kind);
     if code == terms::X_BY_DIV {
-        return over_div(
+        return divisors::over_div(
             x,
             c,
             ak,
@@ -421,9 +136,9 @@ fn div_term(
         );
     }
     if code == terms::X_BY_OTHER {
-        return over_other(c1, y, ak, ai, an, ar, am, j, wk, wi, wn, wr, wm, n);
+        return divisors::over_other(c1, y, ak, ai, an, ar, am, j, wk, wi, wn, wr, wm, n);
     }
-    put_x(power_of(code, x, y), c1, wk, wi, wn, wr, wm, n)
+    divisors::put_x(power_of(code, x, y), c1, wk, wi, wn, wr, wm, n)
 }
 
 // Each term of the sum of n cells from i on is divided by y.

@@ -9,9 +9,9 @@ use Rattle.trees.specs.Sums.{Sum}
 use Rattle.sums.specs.Lies.{Lies}
 use Rattle.sums.proofs.Walk.{Next, next, next-at}
 use Rattle.sums.proofs.Compare.{inner-more}
-use Rattle.quotients.specs.Dividing.{Divisor}
+use Rattle.divisors.specs.Dividing.{Divisor}
 use Rattle.quotients.proofs.Able.{Able, able-on, able-off, able-end}
-use Rattle.quotients.proofs.Heads.{lies-more}
+use Rattle.divisors.proofs.Heads.{lies-more}
 use Rattle.quotients.proofs.can_div.Statement.{statement}
 use Rattle.quotients.proofs.can_div.Tie as tie
 

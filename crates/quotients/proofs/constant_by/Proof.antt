@@ -14,7 +14,7 @@ use Rattle.trees.specs.Sums.{none, entry}
 use Rattle.trees.specs.Map.{formed}
 use Rattle.sums.specs.Lies.{Agrees}
 use Rattle.adds.proofs.Lying.{lies-copied}
-use Rattle.quotients.proofs.Heads.{div-head}
+use Rattle.divisors.proofs.Heads.{div-head}
 use Rattle.quotients.proofs.constant_by.Statement.{statement}
 use Rattle.quotients.proofs.constant_by.Tie as tie
 

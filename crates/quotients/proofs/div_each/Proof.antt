@@ -13,8 +13,8 @@ use Rattle.sums.specs.Lies.{Lies}
 use Rattle.sums.proofs.Walk.{Next, next, next-at}
 use Rattle.adds.proofs.Lying.{lies-to}
 use Rattle.adds.proofs.Each.{Adding, Stepped, start, stepped, onward, stopped, done}
-use Rattle.quotients.specs.Dividing.{Divisor}
-use Rattle.quotients.proofs.Heads.{nothing}
+use Rattle.divisors.specs.Dividing.{Divisor}
+use Rattle.divisors.proofs.Heads.{nothing}
 use Rattle.quotients.proofs.div_each.Statement.{statement}
 use Rattle.quotients.proofs.div_each.Tie as tie
 

@@ -15,7 +15,7 @@ use Rattle.terms.specs.Quotient.{xTo}
 use Rattle.terms.proofs.Agree.{product-is}
 use Rattle.sums.specs.Lies.{Lies}
 use Rattle.sums.proofs.Walk.{next-at, lies-none}
-use Rattle.quotients.specs.Dividing.{timesX}
+use Rattle.divisors.specs.Dividing.{timesX}
 
 -- nothing left
 pub x-none : (p : Float) → mulable (xTo p) none ≡ true

@@ -1,11 +1,11 @@
--- `quotients::lay_single` meets its contract: the head is written, and its inside is copied behind it. Assumes nothing.
+-- `divisors::lay_single` meets its contract: the head is written, and its inside is copied behind it. Assumes nothing.
 use native.Mathlib.Omega.{arith}
 use borrow.Author.Needs.{needs}
 use Rattle.cells.proofs.Laws.{room-less, room-same}
 use Rattle.sums.proofs.Walk.{plain-of}
-use Rattle.quotients.proofs.Heads.{with-one, single-lies}
-use Rattle.quotients.proofs.lay_single.Statement.{statement}
-use Rattle.quotients.proofs.lay_single.Tie as tie
+use Rattle.divisors.proofs.Heads.{with-one, single-lies}
+use Rattle.divisors.proofs.lay_single.Statement.{statement}
+use Rattle.divisors.proofs.lay_single.Tie as tie
 
 abbrev start : tie.After-store → tie.Start
 start c = c .before .before .before .before .before .before .before .before .before .before .before .before .before .before .before .before

@@ -1,4 +1,4 @@
--- `quotients::over_other` meets its contract: the divisor is laid out as a sum of its own, and its Div is put in. Assumes nothing.
+-- `divisors::over_other` meets its contract: the divisor is laid out as a sum of its own, and its Div is put in. Assumes nothing.
 use Prim.Native.Nat.{ℕ, _+_}
 use native.Mathlib.Omega.{arith}
 use borrow.Author.Needs.{needs}
@@ -13,9 +13,9 @@ use Rattle.trees.specs.Sums.{entry}
 use Rattle.trees.specs.Map.{formed}
 use Rattle.terms.specs.Singles.{single}
 use Rattle.sums.specs.Lies.{Agrees}
-use Rattle.quotients.proofs.Heads.{div-head, lies-from-0, single-size}
-use Rattle.quotients.proofs.over_other.Statement.{statement}
-use Rattle.quotients.proofs.over_other.Tie as tie
+use Rattle.divisors.proofs.Heads.{div-head, lies-from-0, single-size}
+use Rattle.divisors.proofs.over_other.Statement.{statement}
+use Rattle.divisors.proofs.over_other.Tie as tie
 
 abbrev start : tie.After-lay-single → tie.Start
 start c = c .before .before .before .before .before .before .before .before .before .before .before .before .before .before .before .before

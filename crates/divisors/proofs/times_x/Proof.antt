@@ -1,4 +1,4 @@
--- `quotients::times_x` meets its contract. The loop's invariant: what is left, added into what there is, gives the answer. Assumes nothing.
+-- `divisors::times_x` meets its contract. The loop's invariant: what is left, added into what there is, gives the answer. Assumes nothing.
 use Prim.Native.Nat.{_+_, _-_, _^_, _<_}
 use native.Mathlib.Omega.{arith}
 use borrow.Author.Needs.{needs}
@@ -21,11 +21,11 @@ use Rattle.sums.specs.Lies.{Lies, Agrees}
 use Rattle.sums.proofs.Walk.{Next, next, next-at}
 use Rattle.adds.proofs.Lying.{lies-to}
 use Rattle.adds.proofs.Each.{Adding, Stepped, start, stepped, onward, stopped, done}
-use Rattle.quotients.specs.Dividing.{stepX, timesX}
-use Rattle.quotients.proofs.Powers.{x-product}
-use Rattle.quotients.proofs.Heads.{nothing}
-use Rattle.quotients.proofs.times_x.Statement.{statement}
-use Rattle.quotients.proofs.times_x.Tie as tie
+use Rattle.divisors.specs.Dividing.{stepX, timesX}
+use Rattle.divisors.proofs.Powers.{x-product}
+use Rattle.divisors.proofs.Heads.{nothing}
+use Rattle.divisors.proofs.times_x.Statement.{statement}
+use Rattle.divisors.proofs.times_x.Tie as tie
 
 abbrev Inv-loop : tie.InvT-loop
 Inv-loop p ak ai an ar am j m wk₀ wi₀ wn₀ wr₀ wm₀ end q₀ len₀ wk wi wn wr wm q len =

@@ -1,9 +1,9 @@
--- `quotients::put_x` meets its contract: an X has no inside. Assumes nothing.
+-- `divisors::put_x` meets its contract: an X has no inside. Assumes nothing.
 use borrow.Author.Needs.{needs}
 use Rattle.trees.specs.Sums.{none}
-use Rattle.quotients.proofs.Heads.{x-head, lies-from-0, nothing}
-use Rattle.quotients.proofs.put_x.Statement.{statement}
-use Rattle.quotients.proofs.put_x.Tie as tie
+use Rattle.divisors.proofs.Heads.{x-head, lies-from-0, nothing}
+use Rattle.divisors.proofs.put_x.Statement.{statement}
+use Rattle.divisors.proofs.put_x.Tie as tie
 
 put-block-requires : tie.Need-put-block-requires
 put-block-requires c κs =

@@ -1,4 +1,4 @@
--- `quotients::all_x` meets its contract. The loop's invariant: what is left decides. Assumes nothing.
+-- `divisors::all_x` meets its contract. The loop's invariant: what is left decides. Assumes nothing.
 use Prim.Native.Nat.{ℕ, _+_, _-_, _^_, _<_}
 use native.Mathlib.Omega.{arith}
 use mathlib.Core.Path.{refl}
@@ -9,9 +9,9 @@ use Rattle.cells.specs.Book.{Book, book, at}
 use Rattle.trees.specs.Sums.{Sum}
 use Rattle.sums.specs.Lies.{Lies}
 use Rattle.sums.proofs.Walk.{Next, next-at}
-use Rattle.quotients.proofs.Powers.{Powers, power-more, power-other, power-end}
-use Rattle.quotients.proofs.all_x.Statement.{statement}
-use Rattle.quotients.proofs.all_x.Tie as tie
+use Rattle.divisors.proofs.Powers.{Powers, power-more, power-other, power-end}
+use Rattle.divisors.proofs.all_x.Statement.{statement}
+use Rattle.divisors.proofs.all_x.Tie as tie
 
 abbrev Inv-loop : tie.InvT-loop
 Inv-loop kinds insides j m end q₀ q = (n w i : List ℕ) (t : Sum) (p : Float) → Lies (book kinds insides n w i) j (j + m) 4 t → Powers (book kinds insides n w i) q (j + m) p t

@@ -1,4 +1,4 @@
--- `quotients::over_div` meets its contract. Assumes nothing.
+-- `divisors::over_div` meets its contract. Assumes nothing.
 use Prim.Native.Nat.{ℕ, _+_}
 use borrow.Author.Needs.{needs}
 use mathlib.Core.Path.{_≡_}
@@ -10,9 +10,9 @@ use Rattle.terms.specs.Product.{product}
 use Rattle.terms.specs.Quotient.{xTo}
 use Rattle.sums.specs.declared.Formed.the-variants.{Done}
 use Rattle.sums.specs.Lies.{Lies}
-use Rattle.quotients.proofs.Agreed.{given, refusal}
-use Rattle.quotients.proofs.over_div.Statement.{statement}
-use Rattle.quotients.proofs.over_div.Tie as tie
+use Rattle.divisors.proofs.Agreed.{given, refusal}
+use Rattle.divisors.proofs.over_div.Statement.{statement}
+use Rattle.divisors.proofs.over_div.Tie as tie
 
 abbrev start : tie.After-times-x → tie.Start
 start c = c .before .before .before .before .before .before .before .before .before .before .before .before .before .before .before .before .before .before

@@ -26,7 +26,7 @@ use Rattle.sums.specs.Lies.{At, Lies}
 use Rattle.sums.specs.Heads.{GoodHead}
 use Rattle.sums.proofs.Walk.{lies-empty}
 use Rattle.adds.proofs.Lying.{lies-copied}
-use Rattle.quotients.specs.Dividing.{Divisor}
+use Rattle.divisors.specs.Dividing.{Divisor}
 
 -- an X
 pub x-head : (p : Float) (c : Complex) → GoodHead (entry X 0 p c)

@@ -1,0 +1,2 @@
+-- The root of divisors' definitions.
+pub mod Dividing

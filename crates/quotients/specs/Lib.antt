@@ -1,2 +1,0 @@
--- The root of quotients' definitions.
-pub mod Dividing
