@@ -165,7 +165,7 @@ fn waves(
     requires { ⌜ Ready (lent ak ai an ar am) n m × Room (lent wk wi wn wr wm) 64 ⌝ }
 {
     if code == SQRT {
-        return powers::sqrt(ak, ai, an, ar, am, 0, n, wk, wi, wn, wr, wm);
+        return exponents::sqrt(ak, ai, an, ar, am, 0, n, wk, wi, wn, wr, wm);
     }
     if code == SIN {
         return over(trees::SIN, ak, ai, an, ar, am, n, m, wk, wi, wn, wr, wm);
@@ -192,12 +192,12 @@ fn exponentials(
     requires { ⌜ Ready (lent ak ai an ar am) n m × Room (lent wk wi wn wr wm) 64 ⌝ }
 {
     if code == EXP {
-        return powers::exp(ak, ai, an, ar, am, 0, n, wk, wi, wn, wr, wm);
+        return exponents::exp(ak, ai, an, ar, am, 0, n, wk, wi, wn, wr, wm);
     }
     if code == EXP2 {
-        return powers::exp2(ak, ai, an, ar, am, 0, n, wk, wi, wn, wr, wm);
+        return exponents::exp2(ak, ai, an, ar, am, 0, n, wk, wi, wn, wr, wm);
     }
-    powers::exp10(ak, ai, an, ar, am, 0, n, wk, wi, wn, wr, wm)
+    exponents::exp10(ak, ai, an, ar, am, 0, n, wk, wi, wn, wr, wm)
 }
 
 // Logarithms to the bases E, 2 and 10.
@@ -219,12 +219,12 @@ fn logarithms(
     requires { ⌜ Ready (lent ak ai an ar am) n m × Room (lent wk wi wn wr wm) 64 ⌝ }
 {
     if code == LN {
-        return powers::ln(ak, ai, an, ar, am, 0, n, wk, wi, wn, wr, wm);
+        return exponents::ln(ak, ai, an, ar, am, 0, n, wk, wi, wn, wr, wm);
     }
     if code == LOG2 {
-        return powers::log2(ak, ai, an, ar, am, 0, n, wk, wi, wn, wr, wm);
+        return exponents::log2(ak, ai, an, ar, am, 0, n, wk, wi, wn, wr, wm);
     }
-    powers::log10(ak, ai, an, ar, am, 0, n, wk, wi, wn, wr, wm)
+    exponents::log10(ak, ai, an, ar, am, 0, n, wk, wi, wn, wr, wm)
 }
 
 fn exps_logs(

@@ -8,7 +8,6 @@ use lib.Ieee.{Float, eq, lt, binary64, fits, ofBits}
 use lib.Ieee.Bits.{ofBits-fits}
 use lib.Ieee.Fits.{and-i}
 use lib.Ieee.Scale.{finite}
-use Rattle.numbers.specs.Constants.{euler, epsilon}
 use Rattle.numbers.specs.Numbers.{belowEpsilon}
 use Rattle.numbers.specs.Signs.{zero64, one64}
 use Rattle.numbers.proofs.Bools.{T-of}
@@ -25,28 +24,10 @@ use Rattle.terms.specs.Power.{power, isEuler, pow, log}
 use Rattle.terms.proofs.Goodness.{good-constant}
 use Rattle.sums.specs.Lies.{At, Lies}
 use Rattle.adds.specs.Reads.{constantOf}
+use Rattle.roots.proofs.Roots.{zero-is-finite}
 use Rattle.powers.specs.declared.Real.the-variants.{Is}
 use Rattle.powers.specs.Reals.{realOf}
-use Rattle.powers.proofs.Roots.{zero-is-finite}
 use Rattle.powers.proofs.Reals.{pow-real, log-real}
-
--- ---- numbers
-
-pub half-finite : finite (ofBits binary64 0x3fe0000000000000) ≡ true
-unfolding ofBits
-half-finite = refl
-
-pub two-finite : finite (ofBits binary64 0x4000000000000000) ≡ true
-unfolding ofBits
-two-finite = refl
-
-pub ten-finite : finite (ofBits binary64 0x4024000000000000) ≡ true
-unfolding ofBits
-ten-finite = refl
-
-pub euler-finite : finite euler ≡ true
-unfolding ofBits
-euler-finite = refl
 
 -- ---- what is read off a constant
 

@@ -1,9 +1,8 @@
 -- Powers and logarithms by what their operands are. Assumes nothing.
-use Prim.Native.Nat.{ℕ, zero, suc, _-_, _<_}
+use Prim.Native.Nat.{ℕ, _<_}
 use native.Mathlib.Omega.{arith}
 use mathlib.Core.Path.{_≡_, refl, sym, ap, _∙_}
 use mathlib.Core.Bool.{Bool, true, false, _&&_, cond}
-use lib.Dec.{T, eqb}
 use lib.Ieee.{Float, le, binary64, fits}
 use lib.Ieee.Bits.{is-true}
 use lib.Ieee.Fits.{and-l}
@@ -12,33 +11,23 @@ use borrow.Author.Tests.{ne-eqb}
 use Rattle.numbers.specs.Constants.{euler}
 use Rattle.numbers.specs.Numbers.{isWhole, smallWhole}
 use Rattle.numbers.specs.Signs.{zero64}
-use Rattle.numbers.specs.declared.SmallWhole.the-variants as small
 use Rattle.numbers.proofs.Values.{bits-0}
 use Rattle.complex.specs.declared.Complex.{Complex}
 use Rattle.complex.specs.Arith as complex
-use Rattle.trees.specs.declared.Refusal.the-variants.{TooComplex, NeedsMath, BigPower}
-use Rattle.trees.specs.Kinds.{X, Log, Exp}
-use Rattle.trees.specs.Sums.{Sum, none, and, size, levels, entry}
+use Rattle.trees.specs.declared.Refusal.the-variants.{TooComplex, NeedsMath}
+use Rattle.trees.specs.Kinds.{Log, Exp}
+use Rattle.trees.specs.Sums.{Sum, none, and, size, entry}
 use Rattle.trees.specs.Good.{Good}
-use Rattle.trees.specs.Map.{Outcome, sum, refused, Found, at, absent, unless}
+use Rattle.trees.specs.Map.{Outcome, refused, Found, at, absent, unless}
 use Rattle.terms.specs.Singles.{isOne, alone, asConstant, isX}
-use Rattle.terms.specs.Singles as singles
-use Rattle.terms.specs.Product.{mulable}
-use Rattle.terms.specs.Power.{raised, wholePower, rootable, unitCoefs, rooted, power, byReal, isEuler, pow, log}
+use Rattle.terms.specs.Power.{wholePower, rootable, unitCoefs, rooted, power, byReal, isEuler, pow, log}
 use Rattle.terms.proofs.Steps.{differ}
 use Rattle.sums.specs.Heads.{GoodHead}
 use Rattle.adds.specs.declared.Constant.{Constant}
 use Rattle.adds.specs.declared.Constant.the-variants as constant
 use Rattle.adds.specs.Reads.{constantOf}
-use Rattle.powers.specs.declared.Real.{Real}
 use Rattle.powers.specs.declared.Real.the-variants.{Is, Other}
 use Rattle.powers.specs.Reals.{realOf, eulerIs}
-use Rattle.powers.proofs.Roots.{alone-is, zero-is-finite}
-
--- the constant 0 can be formed
-pub zero-is : alone X zero64 none complex.zero ≡ sum (singles.constant complex.zero)
-unfolding levels size
-zero-is = alone-is X zero64 none complex.zero zero-is-finite zero-is-finite zero-is-finite (omega arith) (omega arith)
 
 -- ---- what is asked of a constant
 
@@ -105,22 +94,6 @@ module _ (s : Sum) (e : Float) where
 
       pub power-root : unitCoefs s ≡ true → power s e ≡ rooted e s
       power-root u = rw (h, r, u)
-
--- above 64
-pub whole-not : (s : Sum) → mulable s s ≡ false → wholePower s small.Other ≡ refused TooComplex
-whole-not s h = rw h
-
-pub whole-big : (s : Sum) → mulable s s ≡ true → wholePower s small.Other ≡ refused BigPower
-whole-big s h = rw h
-
--- 0
-pub whole-zero : (s : Sum) (k : ℕ) → k ≡ 0 → wholePower s (small.Is k) ≡ alone X zero64 none complex.zero
-whole-zero s k h = rw h (sym zero-is)
-
--- 1 to 64
-pub whole-some : (s : Sum) (k : ℕ) → (k ≡ 0 → ⊥) → wholePower s (small.Is k) ≡ raised (k - 1) s s
-whole-some s zero h = absurd (h refl)
-whole-some s (suc k) h = ap (λ (n : ℕ). raised n s s) (omega arith)
 
 module _ (s t : Sum) where
   -- E to a single x

@@ -1,4 +1,2 @@
 -- The root of powers' definitions.
-pub mod Roots
-pub mod Turns
 pub mod Reals

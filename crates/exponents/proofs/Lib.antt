@@ -1,0 +1,2 @@
+-- The root of exponents' laws.
+pub mod Bases

@@ -1,0 +1,17 @@
+-- `exponents::exp10` meets its contract. Assumes nothing.
+use borrow.Author.Needs.{needs}
+use Rattle.exponents.proofs.Bases.{ten-finite}
+use Rattle.exponents.proofs.exp10.Statement.{statement}
+use Rattle.exponents.proofs.exp10.Tie as tie
+
+pub exp10-spec : {M : Type 1} → statement M
+exp10-spec =
+    tie.close
+    (tie.spec
+    (λ c κs. let pre = c .before .before .before .before .before .before .before .before .before .before .before .before .before .before .before .pre in (ten-finite, pre .0, pre .1, pre .2))
+    (λ c. search needs)
+    (λ c. search needs)
+    (λ c. search needs)
+    (λ c. search needs)
+    (λ c. search needs)
+    (λ c s l. c .before .before .before .before .before .before .before .before .before .before .pow-of .ensures s l))

@@ -1,0 +1,3 @@
+-- The root of raising's laws.
+pub mod Turns
+pub mod Whole

@@ -1,0 +1,2 @@
+-- The root of raising's definitions.
+pub mod Turns

@@ -1,0 +1,147 @@
+// Whole powers of sums. The base lies in one book, the result is formed from the first cell of another on, which has room for 64.
+use complex::Complex;
+use numbers::SmallWhole;
+use sums::Formed;
+use trees::Refusal;
+ghost use mathlib.Core.Path.{_≡_};
+ghost use Prim.Native.Nat.{_+_, _≤_};
+ghost use Rattle.numbers.specs.Numbers.{smallWhole};
+ghost use Rattle.cells.specs.Book.{lent, Room};
+ghost use Rattle.trees.specs.Sums.{Sum};
+ghost use Rattle.terms.specs.Power.{raised, wholePower};
+ghost use Rattle.sums.specs.Lies.{Lies, Held, Agrees};
+ghost use Rattle.raising.specs.Turns.{nextPlace};
+
+// Where the next product goes: the two places beside the base, by turns.
+fn next_place(p: usize) -> usize
+    ensures { λ r. ⌜ r ≡ nextPlace p ⌝ }
+{
+    if p == 128 {
+        return 64;
+    }
+    128
+}
+
+// So many more products of the sum of n cells with itself, formed by turns beside it; the last one is copied out.
+fn raise_in(
+    times: u64,
+    n: usize,
+    tk: &mut [u8],
+    ti: &mut [u8],
+    tn: &mut [u64],
+    tr: &mut [u64],
+    tm: &mut [u64],
+    wk: &mut [u8],
+    wi: &mut [u8],
+    wn: &mut [u64],
+    wr: &mut [u64],
+    wm: &mut [u64],
+) -> Formed
+    requires { ⌜ (n ≤ 64) × Held (lent tk ti tn tr tm) 0 (0 + n) 4 × Room (lent tk ti tn tr tm) 192 × Room (lent wk wi wn wr wm) 64 ⌝ }
+    ensures { λ r. ⌜ ((s : Sum) → Lies (lent (tk .entry) (ti .entry) (tn .entry) (tr .entry) (tm .entry)) 0 (0 + n) 4 s → Agrees r (lent (wk .exit) (wi .exit) (wn .exit) (wr .exit) (wm .exit)) 0 (raised times s s)) ⌝ }
+{
+    let mut p = 0usize;
+    let mut len = n;
+    let mut k = 0u64;
+    while k < times {
+        let q = next_place(p);
+        match products::mul(p, len, 0, n, tk, ti, tn, tr, tm, q) {
+            Formed::Done(m) => len = m,
+            Formed::Refused(r) => return Formed::Refused(r),
+        }
+        p = q;
+        k = k + 1;
+    }
+    cells::copy_in(tk, ti, tn, tr, tm, p, len, wk, wi, wn, wr, wm, 0);
+    Formed::Done(len)
+}
+
+// So many more products of the sum of n cells from i on with itself.
+fn raise(
+    times: u64,
+    ak: &[u8],
+    ai: &[u8],
+    an: &[u64],
+    ar: &[u64],
+    am: &[u64],
+    i: usize,
+    n: usize,
+    wk: &mut [u8],
+    wi: &mut [u8],
+    wn: &mut [u64],
+    wr: &mut [u64],
+    wm: &mut [u64],
+) -> Formed
+    requires { ⌜ (n ≤ 64) × Held (lent ak ai an ar am) i (i + n) 4 × Room (lent wk wi wn wr wm) 64 ⌝ }
+    ensures { λ r. ⌜ ((s : Sum) → Lies (lent (ak .entry) (ai .entry) (an .entry) (ar .entry) (am .entry)) i (i + n) 4 s → Agrees r (lent (wk .exit) (wi .exit) (wn .exit) (wr .exit) (wm .exit)) 0 (raised times s s)) ⌝ }
+{
+    let mut tk = [0u8; 192];
+    let mut ti = [0u8; 192];
+    let mut tn = [0u64; 192];
+    let mut tr = [0u64; 192];
+    let mut tm = [0u64; 192];
+    cells::copy_in(
+        ak,
+        ai,
+        an,
+        ar,
+        am,
+        i,
+        n,
+        &mut tk,
+        &mut ti,
+        &mut tn,
+        &mut tr,
+        &mut tm,
+        0,
+    );
+    raise_in(
+        times,
+        n,
+        &mut tk,
+        &mut ti,
+        &mut tn,
+        &mut tr,
+        &mut tm,
+        wk,
+        wi,
+        wn,
+        wr,
+        wm,
+    )
+}
+
+// The sum of n cells from i on to the power e, which is whole and not negative: 0 gives the constant 0, and above 64 none is formed.
+pub fn whole_power(
+    e: f64,
+    ak: &[u8],
+    ai: &[u8],
+    an: &[u64],
+    ar: &[u64],
+    am: &[u64],
+    i: usize,
+    n: usize,
+    wk: &mut [u8],
+    wi: &mut [u8],
+    wn: &mut [u64],
+    wr: &mut [u64],
+    wm: &mut [u64],
+) -> Formed
+    requires { ⌜ (n ≤ 64) × Held (lent ak ai an ar am) i (i + n) 4 × Room (lent wk wi wn wr wm) 64 ⌝ }
+    ensures { λ r. ⌜ ((s : Sum) → Lies (lent (ak .entry) (ai .entry) (an .entry) (ar .entry) (am .entry)) i (i + n) 4 s → Agrees r (lent (wk .exit) (wi .exit) (wn .exit) (wr .exit) (wm .exit)) 0 (wholePower s (smallWhole e))) ⌝ }
+{
+    match numbers::small_whole(e) {
+        SmallWhole::Is(k) => {
+            if k == 0 {
+                return adds::constant_sum(Complex::ZERO, wk, wi, wn, wr, wm);
+            }
+            raise(k - 1, ak, ai, an, ar, am, i, n, wk, wi, wn, wr, wm)
+        }
+        SmallWhole::Other => {
+            if !products::can_mul(i, n, i, n, ak, ai, 4) {
+                return Formed::Refused(Refusal::TooComplex);
+            }
+            Formed::Refused(Refusal::BigPower)
+        }
+    }
+}

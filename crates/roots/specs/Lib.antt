@@ -1,0 +1,2 @@
+-- The root of roots' definitions.
+pub mod Roots
