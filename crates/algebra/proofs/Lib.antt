@@ -1,8 +1,3 @@
--- The root of algebra's laws and theorems.
+-- The root of algebra's laws.
 pub mod Reading
 pub mod Lists
-pub mod Composing
-pub mod Written
-pub mod Demands
-pub mod Speed
-pub mod Cases

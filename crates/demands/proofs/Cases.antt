@@ -3,7 +3,6 @@ use mathlib.Core.Path.{_≡_, refl}
 use mathlib.Core.List.{List, [], _∷_}
 use lib.Ieee as ieee
 use Rattle.numbers.specs.Numbers as numbers-numbers
-use Rattle.trees.specs.Good as trees-good
 use Rattle.trees.specs.Map as trees-map
 use Rattle.trees.specs.Order as trees-order
 use Rattle.trees.specs.Same as trees-same
@@ -32,10 +31,10 @@ use Rattle.inverse.specs.Inverse as inverse-inverse
 use Rattle.runner.specs.Primitives as runner-primitives
 use Rattle.runner.specs.Running as runner-running
 use Rattle.answers.specs.Making as answers-making
 use Rattle.algebra.specs.Entries as algebra-entries
 use Rattle.algebra.specs.Reading as algebra-reading
 use Rattle.arena.specs.Stack as arena-stack
-use Rattle.algebra.specs.Cases.{Case, Shown, shown, table}
+use Rattle.demands.specs.Cases.{Case, Shown, shown, table}
 
 abbrev results : List Case → List Shown
 results [] = []

@@ -17,13 +17,13 @@ use Rattle.answers.specs.declared.Answer.the-variants as given
 use Rattle.answers.proofs.Determined as promises
 use Rattle.answers.proofs.Taking.{bytes-determined}
 use Rattle.answers.proofs.Told.{refusal-quiet, bytes-quiet}
 use Rattle.algebra.specs.declared.ReadAnswer.{ReadAnswer}
 use Rattle.algebra.specs.declared.ReadAnswer.the-variants as answer
 use Rattle.algebra.specs.Reading.{readList}
 use Rattle.algebra.specs.Entries as lists
-use Rattle.algebra.specs.Demands
-use Rattle.algebra.specs.Demands.{Entry, Reply, refusing, ofRead, ofAnswer, ofRun, Promised}
-use Rattle.algebra.proofs.Reading as reading
+use Rattle.demands.specs.Demands
+use Rattle.demands.specs.Demands.{Entry, Reply, refusing, ofRead, ofAnswer, ofRun, Promised}
+use Rattle.demands.proofs.Reading as reading
 
 -- ---- demand 1
 

@@ -32,10 +32,10 @@ use Rattle.answers.specs.declared.Answer.{Answer}
 use Rattle.answers.specs.declared.Answer.the-variants.{Done}
 use Rattle.answers.specs.Making.{Made, ofList, write, deriveAndWrite, Gives}
 use Rattle.answers.proofs.Told.{first-bytes}
 use Rattle.algebra.specs.Reading.{byVerdict, readList}
 use Rattle.algebra.specs.Entries.{derivative}
-use Rattle.algebra.specs.Speed.{records, Speed}
-use Rattle.algebra.proofs.Reading.{sum-good}
+use Rattle.demands.specs.Speed.{records, Speed}
+use Rattle.demands.proofs.Reading.{sum-good}
 
 -- without a complex step there are no imaginary parts
 by-real : (v : Verdict) (ns : Nodes) {s : Sum} {h : Bool} → byVerdict v (readNodes ns) ≡ done s false h → RealSum s

@@ -28,10 +28,10 @@ use Rattle.answers.specs.Making.{Made, ofOutcome, ofSum, write, derive, integra
 use Rattle.answers.proofs.Giving.{gives-refusal}
 use Rattle.answers.proofs.Taking.{of-good}
 use Rattle.answers.proofs.Told.{Success, success, refusal, not-made, refused-same, sum-same, SumMade, sum-made, refused-outcome, first-bytes}
 use Rattle.algebra.specs.Reading.{readList, madeOf, flagOf, answerOf, bytesOf}
 use Rattle.algebra.specs.Entries.{afterRead, derivative, integral}
 use Rattle.algebra.specs.declared.ReadAnswer.the-variants as answer
-use Rattle.algebra.proofs.Reading.{sum-good, unflagged, sum-flagged, refusal-flagged}
+use Rattle.demands.proofs.Reading.{sum-good, unflagged, sum-flagged, refusal-flagged}
 
 -- ---- what `read` tells
 

@@ -38,9 +38,9 @@ use Rattle.inverse.proofs.Good as inverse-laws
 use Rattle.answers.specs.declared.Answer.the-variants as given
 use Rattle.answers.specs.Making.{Made, refusedAt, ofOutcome, ofSum, ofList, write, invert, derive, integrate, deriveAndWrite, integrateAndWrite, Gives, OfBytes}
 use Rattle.answers.proofs.Told.{success, sum-made, list-made, not-made, first-bytes}
 use Rattle.algebra.specs.Reading.{readList}
 use Rattle.algebra.specs.Entries.{afterRead, inverseOf, derivative, integral, inverse}
-use Rattle.algebra.proofs.Reading.{sum-good}
+use Rattle.demands.proofs.Reading.{sum-good}
 
 -- ---- of a sum that was handed over
 

@@ -1,0 +1,1 @@
+// Theorems over the eight entries, in proofs/, with what they state in specs/: definitions and laws alone.
