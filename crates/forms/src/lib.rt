@@ -270,7 +270,7 @@ pub fn form_two(
         Primitive::Div => quotients::div(ak, ai, an, ar, am, i, n, j, m, wk, wi, wn, wr, wm),
         Primitive::Pow => powers::pow(ak, ai, an, ar, am, i, n, j, m, wk, wi, wn, wr, wm),
         Primitive::Log => powers::log(ak, ai, an, ar, am, i, n, j, m, wk, wi, wn, wr, wm),
-        Primitive::Complex => primitives::complex(
+        Primitive::Complex => imaginary::complex(
             ak,
             ai,
             an,

@@ -311,7 +311,7 @@ fn pow_log_complex(
         return powers::log(ak, ai, an, ar, am, 0, n, 64, m, wk, wi, wn, wr, wm);
     }
     if code == COMPLEX {
-        return primitives::complex(ak, ai, an, ar, am, 0, n, 64, m, wk, wi, wn, wr, wm);
+        return imaginary::complex(ak, ai, an, ar, am, 0, n, 64, m, wk, wi, wn, wr, wm);
     }
     Formed::Refused(Refusal::InterpreterBug)
 }

@@ -1,26 +1,20 @@
-// The primitives that take a constant beside a sum: 1/s, 1 - s, and b + a·i. Operands lie in one book, the result is formed from the
-// first cell of another on, which has room for 64.
-use adds::Constant;
+// The primitives that take 1 beside a sum: 1/s and 1 - s. Operands lie in one book, the result is formed from the first cell of another
+// on, which has room for 64.
 use cells::Entry;
 use complex::Complex;
 use sums::Formed;
 use terms::Change;
-ghost use mathlib.Core.Path.{_≡_};
-ghost use Prim.Native.Nat.{ℕ, _+_, _≤_};
+ghost use Prim.Native.Nat.{_+_, _≤_};
 ghost use lib.Dec.{T};
-ghost use Rattle.complex.specs.Arith.{allFinite, imaginary};
+ghost use Rattle.complex.specs.Arith.{allFinite};
 ghost use Rattle.cells.specs.Book.{lent, Room};
 ghost use Rattle.trees.specs.Sums.{Sum};
-ghost use Rattle.trees.specs.Map.{andThenSum};
-ghost use Rattle.terms.specs.Singles.{constant};
-ghost use Rattle.terms.specs.Adding.{addSums};
-ghost use Rattle.terms.specs.Product.{product};
-ghost use Rattle.terms.specs.Power.{reciprocal, notSum, complexSum};
+ghost use Rattle.terms.specs.Power.{reciprocal, notSum};
 ghost use Rattle.sums.specs.Lies.{Lies, Held, Agrees};
 ghost use Rattle.primitives.specs.Beside.{Beside};
 
 // The constant c in the first cell, and a copy of the sum of n cells from i on in those from the 64th on.
-fn beside(
+pub fn beside(
     c: Complex,
     ak: &[u8],
     ai: &[u8],
@@ -144,125 +138,4 @@ pub fn not(
         wr,
         wm,
     )
-}
-
-// The sum of n cells from i on, plus that of m cells from j on times i, by a product and a sum.
-fn add_times_i(
-    ak: &[u8],
-    ai: &[u8],
-    an: &[u64],
-    ar: &[u64],
-    am: &[u64],
-    i: usize,
-    n: usize,
-    j: usize,
-    m: usize,
-    wk: &mut [u8],
-    wi: &mut [u8],
-    wn: &mut [u64],
-    wr: &mut [u64],
-    wm: &mut [u64],
-) -> Formed
-    requires { ⌜ (n ≤ 64) × (m ≤ 64) × Held (lent ak ai an ar am) i (i + n) 4 × Held (lent ak ai an ar am) j (j + m) 4 × Room (lent wk wi wn wr wm) 64 ⌝ }
-    ensures { λ r. ⌜ ((b a : Sum) → Lies (lent (ak .entry) (ai .entry) (an .entry) (ar .entry) (am .entry)) i (i + n) 4 b → Lies (lent (ak .entry) (ai .entry) (an .entry) (ar .entry) (am .entry)) j (j + m) 4 a → Agrees r (lent (wk .exit) (wi .exit) (wn .exit) (wr .exit) (wm .exit)) 0 (andThenSum (product a (constant imaginary)) (λ w. addSums b w))) ⌝ }
-{
-    let mut tk = [0u8; 192];
-    let mut ti = [0u8; 192];
-    let mut tn = [0u64; 192];
-    let mut tr = [0u64; 192];
-    let mut tm = [0u64; 192];
-    beside(
-        Complex::I,
-        ak,
-        ai,
-        an,
-        ar,
-        am,
-        j,
-        m,
-        &mut tk,
-        &mut ti,
-        &mut tn,
-        &mut tr,
-        &mut tm,
-    );
-    match products::mul(
-        64,
-        m,
-        0,
-        1,
-        &mut tk,
-        &mut ti,
-        &mut tn,
-        &mut tr,
-        &mut tm,
-        128,
-    ) {
-        Formed::Done(k) => {
-            cells::copy_in(
-                ak,
-                ai,
-                an,
-                ar,
-                am,
-                i,
-                n,
-                &mut tk,
-                &mut ti,
-                &mut tn,
-                &mut tr,
-                &mut tm,
-                0,
-            );
-            adds::expr_add(
-                Change::Keep,
-                &tk,
-                &ti,
-                &tn,
-                &tr,
-                &tm,
-                0,
-                n,
-                128,
-                k,
-                wk,
-                wi,
-                wn,
-                wr,
-                wm,
-            )
-        }
-        Formed::Refused(r) => Formed::Refused(r),
-    }
-}
-
-// The sum of n cells from i on, plus that of m cells from j on times i: of two constants by one operation each.
-pub fn complex(
-    ak: &[u8],
-    ai: &[u8],
-    an: &[u64],
-    ar: &[u64],
-    am: &[u64],
-    i: usize,
-    n: usize,
-    j: usize,
-    m: usize,
-    wk: &mut [u8],
-    wi: &mut [u8],
-    wn: &mut [u64],
-    wr: &mut [u64],
-    wm: &mut [u64],
-) -> Formed
-    requires { ⌜ (n ≤ 64) × (m ≤ 64) × Held (lent ak ai an ar am) i (i + n) 4 × Held (lent ak ai an ar am) j (j + m) 4 × Room (lent wk wi wn wr wm) 64 ⌝ }
-    ensures { λ r. ⌜ ((b a : Sum) → Lies (lent (ak .entry) (ai .entry) (an .entry) (ar .entry) (am .entry)) i (i + n) 4 b → Lies (lent (ak .entry) (ai .entry) (an .entry) (ar .entry) (am .entry)) j (j + m) 4 a → Agrees r (lent (wk .exit) (wi .exit) (wn .exit) (wr .exit) (wm .exit)) 0 (complexSum a b)) ⌝ }
-{
-    let first = adds::as_constant(ak, ai, an, ar, am, i, n);
-    let second = adds::as_constant(ak, ai, an, ar, am, j, m);
-    let Constant::Is(c) = second else {
-        return add_times_i(ak, ai, an, ar, am, i, n, j, m, wk, wi, wn, wr, wm);
-    };
-    let Constant::Is(d) = first else {
-        return add_times_i(ak, ai, an, ar, am, i, n, j, m, wk, wi, wn, wr, wm);
-    };
-    adds::constant_sum(c.mul_i().add(d), wk, wi, wn, wr, wm)
 }

@@ -1,12 +1,12 @@
--- `primitives::complex` meets its contract: two constants by one operation each, anything else by a product and a sum. Assumes nothing.
+-- `imaginary::complex` meets its contract: two constants by one operation each, anything else by a product and a sum. Assumes nothing.
 use mathlib.Core.Path.{sym, ap, _∙_}
 use borrow.Author.Needs.{needs}
 use Rattle.complex.specs.declared.Complex.{Complex}
 use Rattle.complex.specs.Arith.{plus}
 use Rattle.terms.specs.Singles.{asConstant}
-use Rattle.primitives.proofs.Laid.{not-constant, is-constant}
-use Rattle.primitives.proofs.complex.Statement.{statement}
-use Rattle.primitives.proofs.complex.Tie as tie
+use Rattle.imaginary.proofs.Laws.{not-constant, is-constant}
+use Rattle.imaginary.proofs.complex.Statement.{statement}
+use Rattle.imaginary.proofs.complex.Tie as tie
 
 pub complex-spec : {M : Type 1} → statement M
 complex-spec =

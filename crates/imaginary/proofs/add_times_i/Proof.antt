@@ -1,4 +1,4 @@
--- `primitives::add_times_i` meets its contract: a product by i, side by side with the sum, and then a sum of the two. Assumes nothing.
+-- `imaginary::add_times_i` meets its contract: a product by i, side by side with the sum, and then a sum of the two. Assumes nothing.
 use Prim.Native.Nat.{ℕ, _+_}
 use native.Mathlib.Omega.{arith}
 use mathlib.Core.Path.{_≡_, sym, _∙_}
@@ -14,9 +14,9 @@ use Rattle.terms.specs.Product.{product}
 use Rattle.sums.specs.Lies.{Lies}
 use Rattle.products.proofs.Lying.{agreed-refused}
 use Rattle.adds.proofs.Lying.{lies-to, lies-copied}
-use Rattle.primitives.proofs.Laid.{imaginary-finite, Made, made, then-made, then-refused}
-use Rattle.primitives.proofs.add_times_i.Statement.{statement}
-use Rattle.primitives.proofs.add_times_i.Tie as tie
+use Rattle.imaginary.proofs.Laws.{imaginary-finite, Made, made, then-made, then-refused}
+use Rattle.imaginary.proofs.add_times_i.Statement.{statement}
+use Rattle.imaginary.proofs.add_times_i.Tie as tie
 
 abbrev start : tie.After-beside → tie.Start
 start c = c .before .before .before .before .before .before .before .before .before .before .before .before .before .before .before .before

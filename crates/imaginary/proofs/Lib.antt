@@ -1,0 +1,2 @@
+-- The root of imaginary's laws.
+pub mod Laws
