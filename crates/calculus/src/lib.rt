@@ -345,7 +345,7 @@ fn derive_div(
     let mut tn = [0u64; 64];
     let mut tr = [0u64; 64];
     let mut tm = [0u64; 64];
-    let square = forms::form_two(
+    let square = pairs::form_two(
         Primitive::Mul,
         ak,
         ai,

@@ -1,10 +1,8 @@
-// What a primitive forms of the one or two sums that it takes. Operands lie in one book, the result is formed from the first cell of
-// another on, which has room for 64.
+// The parts of what a primitive forms of the one or two sums that it takes: the sum as it is, negated, or inside a term, and the product of
+// two. Operands lie in one book, the result is formed from the first cell of another on, which has room for 64.
 use cells::Entry;
 use complex::Complex;
-use records::Primitive;
 use sums::Formed;
-use terms::Change;
 ghost use Prim.Native.Nat.{_+_, _≤_};
 ghost use Rattle.numbers.specs.Signs.{zero64};
 ghost use Rattle.complex.specs.Arith.{one};
@@ -15,10 +13,9 @@ ghost use Rattle.terms.specs.Singles.{alone};
 ghost use Rattle.terms.specs.Adding.{negSum};
 ghost use Rattle.terms.specs.Product.{product};
 ghost use Rattle.sums.specs.Lies.{Lies, Held, Agrees};
-ghost use Rattle.forms.specs.Forms.{ofOne, ofTwo};
 
 // The sum as it is.
-fn copied(
+pub fn copied(
     ak: &[u8],
     ai: &[u8],
     an: &[u64],
@@ -40,7 +37,7 @@ fn copied(
 }
 
 // The sum negated.
-fn negated(
+pub fn negated(
     ak: &[u8],
     ai: &[u8],
     an: &[u64],
@@ -62,7 +59,7 @@ fn negated(
 }
 
 // One term of this kind, whose inside is the sum.
-fn over(
+pub fn over(
     kind: u8,
     ak: &[u8],
     ai: &[u8],
@@ -87,42 +84,6 @@ fn over(
         coef: Complex::ONE,
     };
     adds::alone(x, ak, ai, an, ar, am, i, wk, wi, wn, wr, wm)
-}
-
-// What the primitive forms of the sum of n cells from i on.
-pub fn form_one(
-    p: Primitive,
-    ak: &[u8],
-    ai: &[u8],
-    an: &[u64],
-    ar: &[u64],
-    am: &[u64],
-    i: usize,
-    n: usize,
-    wk: &mut [u8],
-    wi: &mut [u8],
-    wn: &mut [u64],
-    wr: &mut [u64],
-    wm: &mut [u64],
-) -> Formed
-    requires { ⌜ (1 ≤ n) × (n ≤ 64) × Held (lent ak ai an ar am) i (i + n) 4 × Room (lent wk wi wn wr wm) 64 ⌝ }
-    ensures { λ r. ⌜ ((s : Sum) → Lies (lent (ak .entry) (ai .entry) (an .entry) (ar .entry) (am .entry)) i (i + n) 4 s → Agrees r (lent (wk .exit) (wi .exit) (wn .exit) (wr .exit) (wm .exit)) 0 (ofOne p s)) ⌝ }
-{
-    match p {
-        Primitive::Neg => negated(ak, ai, an, ar, am, i, n, wk, wi, wn, wr, wm),
-        Primitive::Not => primitives::not(ak, ai, an, ar, am, i, n, wk, wi, wn, wr, wm),
-        Primitive::Reciprocal => primitives::recip(ak, ai, an, ar, am, i, n, wk, wi, wn, wr, wm),
-        Primitive::Sqrt => exponents::sqrt(ak, ai, an, ar, am, i, n, wk, wi, wn, wr, wm),
-        Primitive::Sin => over(trees::SIN, ak, ai, an, ar, am, i, n, wk, wi, wn, wr, wm),
-        Primitive::Cos => over(trees::COS, ak, ai, an, ar, am, i, n, wk, wi, wn, wr, wm),
-        Primitive::Exp => exponents::exp(ak, ai, an, ar, am, i, n, wk, wi, wn, wr, wm),
-        Primitive::Exp2 => exponents::exp2(ak, ai, an, ar, am, i, n, wk, wi, wn, wr, wm),
-        Primitive::Exp10 => exponents::exp10(ak, ai, an, ar, am, i, n, wk, wi, wn, wr, wm),
-        Primitive::Ln => exponents::ln(ak, ai, an, ar, am, i, n, wk, wi, wn, wr, wm),
-        Primitive::Log2 => exponents::log2(ak, ai, an, ar, am, i, n, wk, wi, wn, wr, wm),
-        Primitive::Log10 => exponents::log10(ak, ai, an, ar, am, i, n, wk, wi, wn, wr, wm),
-        _ => copied(ak, ai, an, ar, am, i, n, wk, wi, wn, wr, wm),
-    }
 }
 
 // The sums of n cells from i on and of m cells from j on, copied to the first cells and to those from the 64th on.
@@ -150,7 +111,7 @@ fn side_by_side(
 }
 
 // The product of the sum of n cells from i on and that of m cells from j on, formed behind copies of both.
-fn multiplied(
+pub fn multiplied(
     ak: &[u8],
     ai: &[u8],
     an: &[u64],
@@ -207,85 +168,5 @@ fn multiplied(
             Formed::Done(k)
         }
         Formed::Refused(r) => Formed::Refused(r),
-    }
-}
-
-// What the primitive forms of the sum of n cells from i on, and of that of m cells from j on, which was on top of it.
-pub fn form_two(
-    p: Primitive,
-    ak: &[u8],
-    ai: &[u8],
-    an: &[u64],
-    ar: &[u64],
-    am: &[u64],
-    i: usize,
-    n: usize,
-    j: usize,
-    m: usize,
-    wk: &mut [u8],
-    wi: &mut [u8],
-    wn: &mut [u64],
-    wr: &mut [u64],
-    wm: &mut [u64],
-) -> Formed
-    requires { ⌜ (1 ≤ n) × (n ≤ 64) × (1 ≤ m) × (m ≤ 64) × Held (lent ak ai an ar am) i (i + n) 4 × Held (lent ak ai an ar am) j (j + m) 4 × Room (lent wk wi wn wr wm) 64 ⌝ }
-    ensures { λ r. ⌜ ((b a : Sum) → Lies (lent (ak .entry) (ai .entry) (an .entry) (ar .entry) (am .entry)) i (i + n) 4 b → Lies (lent (ak .entry) (ai .entry) (an .entry) (ar .entry) (am .entry)) j (j + m) 4 a → Agrees r (lent (wk .exit) (wi .exit) (wn .exit) (wr .exit) (wm .exit)) 0 (ofTwo p b a)) ⌝ }
-{
-    match p {
-        Primitive::Add => adds::expr_add(
-            Change::Keep,
-            ak,
-            ai,
-            an,
-            ar,
-            am,
-            i,
-            n,
-            j,
-            m,
-            wk,
-            wi,
-            wn,
-            wr,
-            wm,
-        ),
-        Primitive::Sub => adds::expr_add(
-            Change::Negate,
-            ak,
-            ai,
-            an,
-            ar,
-            am,
-            i,
-            n,
-            j,
-            m,
-            wk,
-            wi,
-            wn,
-            wr,
-            wm,
-        ),
-        Primitive::Mul => multiplied(ak, ai, an, ar, am, i, n, j, m, wk, wi, wn, wr, wm),
-        Primitive::Div => quotients::div(ak, ai, an, ar, am, i, n, j, m, wk, wi, wn, wr, wm),
-        Primitive::Pow => powers::pow(ak, ai, an, ar, am, i, n, j, m, wk, wi, wn, wr, wm),
-        Primitive::Log => powers::log(ak, ai, an, ar, am, i, n, j, m, wk, wi, wn, wr, wm),
-        Primitive::Complex => imaginary::complex(
-            ak,
-            ai,
-            an,
-            ar,
-            am,
-            i,
-            n,
-            j,
-            m,
-            wk,
-            wi,
-            wn,
-            wr,
-            wm,
-        ),
-        _ => copied(ak, ai, an, ar, am, i, n, wk, wi, wn, wr, wm),
     }
 }

@@ -85,7 +85,7 @@ fn form_top(
     let mut vm = [0u64; 64];
     let p = records::primitive_of(code);
     let i = env.used - n;
-    let f = forms::form_one(
+    let f = singles::form_one(
         p,
         ak,
         ai,
@@ -150,7 +150,7 @@ fn form_pair(
     let p = records::primitive_of(code);
     let up = env.used - top;
     let down = up - low;
-    let f = forms::form_two(
+    let f = pairs::form_two(
         p,
         ak,
         ai,

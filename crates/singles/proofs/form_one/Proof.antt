@@ -1,9 +1,9 @@
--- `forms::form_one` meets its contract: in each arm the primitive is the arm's. Assumes nothing.
+-- `singles::form_one` meets its contract: in each arm the primitive is the arm's. Assumes nothing.
 use native.Mathlib.Omega.{arith}
 use borrow.Author.Needs.{needs}
 use Rattle.forms.proofs.Cases.{kept}
-use Rattle.forms.proofs.form_one.Statement.{statement}
-use Rattle.forms.proofs.form_one.Tie as tie
+use Rattle.singles.proofs.form_one.Statement.{statement}
+use Rattle.singles.proofs.form_one.Tie as tie
 
 pub form-one-spec : {M : Type 1} → statement M
 form-one-spec =

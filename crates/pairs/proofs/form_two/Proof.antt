@@ -1,8 +1,8 @@
--- `forms::form_two` meets its contract: in each arm the primitive is the arm's. Assumes nothing.
+-- `pairs::form_two` meets its contract: in each arm the primitive is the arm's. Assumes nothing.
 use borrow.Author.Needs.{needs}
 use Rattle.forms.proofs.Cases.{kept-two}
-use Rattle.forms.proofs.form_two.Statement.{statement}
-use Rattle.forms.proofs.form_two.Tie as tie
+use Rattle.pairs.proofs.form_two.Statement.{statement}
+use Rattle.pairs.proofs.form_two.Tie as tie
 
 pub form-two-spec : {M : Type 1} → statement M
 form-two-spec =
