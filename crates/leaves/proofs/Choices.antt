@@ -1,7 +1,7 @@
 -- Primitives and records by their kind: what the code's choices come to. Assumes nothing.
 use Prim.Native.Nat.{ℕ}
 use native.Mathlib.Omega.{arith}
-use mathlib.Core.Path.{_≡_, sym, ap, subst, _∙_}
+use mathlib.Core.Path.{_≡_, refl, sym, ap, subst, _∙_}
 use mathlib.Core.Bool.{Bool, true}
 use mathlib.Core.List.{List, [], _∷_}
 use lib.Dec.{eqb}
@@ -27,7 +27,7 @@ use Rattle.steps.specs.Agree.{Does}
 use Rattle.steps.specs.Parts.{finished}
 use Rattle.leaves.specs.Parts.{whyNot}
 use Rattle.steps.proofs.Laws.{does-as, does-finished, taking-some}
-use Rattle.leaves.proofs.Table.{rows}
+use Rattle.tops.proofs.Table.{rows}
 
 -- the numbers of the kinds that are refused
 abbrev pub refused-kinds : List ℕ
@@ -106,3 +106,24 @@ taken-two p e f g = let few = rows p .0 in omega arith
 -- the numbers are compared as the code compares them
 pub same-number : (x y : ℕ) (p q c : Primitive) → x ≡ primitiveNo q → q ≡ p → y ≡ primitiveNo c → eqb x y ≡ eqb (primitiveNo p) (primitiveNo c)
 same-number x y p q c e f g = rw (e, f, g)
+
+-- ---- why a kind is refused
+
+-- the numbers of the kinds that have no refusal of their own
+abbrev pub plain-kinds : List ℕ
+plain-kinds = 0 ∷ 1 ∷ 4 ∷ 5 ∷ 6 ∷ 7 ∷ 8 ∷ 9 ∷ 11 ∷ 12 ∷ []
+
+pub other-kind : (k : Kind) → OneOf plain-kinds (tagOf the-type k) → NotSupported ≡ whyNot k
+other-kind kind.RealPush o = refl
+other-kind kind.ComplexPush o = refl
+other-kind kind.ArrayPush o = absurd (miss plain-kinds _ tt o)
+other-kind kind.OtherPush o = absurd (miss plain-kinds _ tt o)
+other-kind kind.Primitive o = refl
+other-kind kind.Modifier o = refl
+other-kind kind.Body o = refl
+other-kind kind.Run o = refl
+other-kind kind.CustomInverse o = refl
+other-kind kind.Obverse o = refl
+other-kind kind.NoNormal o = absurd (miss plain-kinds _ tt o)
+other-kind kind.UnderMarker o = refl
+other-kind kind.AnythingElse o = refl

@@ -1,5 +1,5 @@
 -- `leaves::why_not` meets its contract: in the last arm the kind is none of those above it. Assumes nothing.
-use Rattle.leaves.proofs.Table.{other-kind}
+use Rattle.leaves.proofs.Choices.{other-kind}
 use borrow.Author.Needs.{needs}
 use Rattle.leaves.proofs.why_not.Statement.{statement}
 use Rattle.leaves.proofs.why_not.Tie as tie

@@ -1,17 +1,17 @@
--- `leaves::two_leave` meets its contract: one formed, the two turned, or the lower one once more. Assumes nothing.
+-- `twos::two_leave` meets its contract: one formed, the two turned, or the lower one once more. Assumes nothing.
 use Prim.Native.Nat.{_-_, _≤_}
 use Rattle.arena.specs.Arena.{Arena}
 use Rattle.cells.specs.Book.{book}
 use Rattle.records.specs.Names.{primitiveOf}
 use Rattle.records.specs.Table.{row}
 use Rattle.steps.proofs.Laws.{Pair, pair}
-use Rattle.leaves.proofs.Leaving.{two-turned, two-over}
-use Rattle.leaves.proofs.Table.{rows}
+use Rattle.tops.proofs.Leaving.{two-turned, two-over}
+use Rattle.tops.proofs.Table.{rows}
 use borrow.Author.Needs.{needs}
 use mathlib.Core.Path.{sym, _∙_}
 use native.Mathlib.Omega.{arith}
-use Rattle.leaves.proofs.two_leave.Statement.{statement}
-use Rattle.leaves.proofs.two_leave.Tie as tie
+use Rattle.twos.proofs.two_leave.Statement.{statement}
+use Rattle.twos.proofs.two_leave.Tie as tie
 
 -- the arena at first
 abbrev A : tie.Start → Arena

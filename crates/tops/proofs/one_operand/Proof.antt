@@ -1,18 +1,18 @@
--- `leaves::one_operand` meets its contract: too few sums, none left, one formed, or the sum twice. Assumes nothing.
+-- `tops::one_operand` meets its contract: too few sums, none left, one formed, or the sum twice. Assumes nothing.
 use Prim.Native.Nat.{_-_, _≤_}
 use Rattle.arena.specs.Arena.{Arena}
 use Rattle.cells.specs.Book.{book}
 use Rattle.records.specs.Names.{primitiveOf}
 use Rattle.records.specs.Table.{row}
 use Rattle.steps.proofs.Laws.{does-none, tops-one, Topmost, topmost}
-use Rattle.leaves.proofs.Leaving.{one-popped, one-twice}
+use Rattle.tops.proofs.Leaving.{one-popped, one-twice}
 use Rattle.steps.specs.Parts.{Tops}
 use borrow.Author.Needs.{needs}
 use mathlib.Core.List.{[], _∷_}
 use mathlib.Core.Path.{sym, _∙_}
 use native.Mathlib.Omega.{arith}
-use Rattle.leaves.proofs.one_operand.Statement.{statement}
-use Rattle.leaves.proofs.one_operand.Tie as tie
+use Rattle.tops.proofs.one_operand.Statement.{statement}
+use Rattle.tops.proofs.one_operand.Tie as tie
 
 -- the arena at first
 abbrev A : tie.Start → Arena

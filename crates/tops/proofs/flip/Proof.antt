@@ -1,15 +1,15 @@
--- `leaves::flip` meets its contract: the lower sum is copied out, the upper one sinks to its place, and the copy is put on top. Assumes nothing.
+-- `tops::flip` meets its contract: the lower sum is copied out, the upper one sinks to its place, and the copy is put on top. Assumes nothing.
 use Prim.Native.Nat.{_-_}
 use Rattle.arena.proofs.Laws.{space-less, space-same}
 use Rattle.arena.specs.Arena.{Arena}
 use Rattle.cells.proofs.Laws.{room-fresh, room-less, room-same}
 use Rattle.cells.specs.Book.{Book, book}
-use Rattle.leaves.proofs.Turning.{Below, below, turned}
+use Rattle.tops.proofs.Turning.{Below, below, turned}
 use borrow.Author.Needs.{needs}
 use mathlib.Core.Path.{_∙_}
 use native.Mathlib.Omega.{arith}
-use Rattle.leaves.proofs.flip.Statement.{statement}
-use Rattle.leaves.proofs.flip.Tie as tie
+use Rattle.tops.proofs.flip.Statement.{statement}
+use Rattle.tops.proofs.flip.Tie as tie
 
 -- the local book, the lower sum copied into it
 abbrev V′ : tie.After-copy-in → Book

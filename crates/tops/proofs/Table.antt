@@ -1,12 +1,8 @@
--- What is known of each primitive and each kind: the sums that it forms are good, what its row of the table may say, and why it is refused. Assumes nothing.
-use Prim.Native.Nat.{ℕ, _≤_}
+-- What is known of each primitive: the sums that it forms are good, and what its row of the table may say. Assumes nothing.
+use Prim.Native.Nat.{_≤_}
 use native.Mathlib.Omega.{arith}
 use mathlib.Core.Path.{_≡_, refl, subst}
-use mathlib.Core.List.{List, [], _∷_}
-use types.Run.{OneOf, miss}
-use denote.Enum.Declared.{tagOf}
 use Rattle.complex.specs.Arith as complex
-use Rattle.trees.specs.declared.Refusal.the-variants.{NotSupported}
 use Rattle.trees.specs.Kinds as kinds
 use Rattle.trees.specs.Sums.{Sum}
 use Rattle.trees.specs.Map.{sum}
@@ -15,12 +11,8 @@ use Rattle.terms.proofs.Steps.{sum-is}
 use Rattle.terms.proofs.Goodness.{fits-bits, good-over, good-neg, good-not, good-sqrt, good-exp, good-exp2, good-exp10, good-ln, good-log, good-log2, good-log10, good-reciprocal, good-add, good-sub, good-product, good-quotient, good-pow, good-complex}
 use Rattle.records.specs.declared.Primitive.{Primitive}
 use Rattle.records.specs.declared.Primitive.the-variants.{Identity, Pop, Dup, Flip, Neg, Not, Sqrt, Add, Sub, Mul, Div, Pow, Exp, Sin, Cos, Reciprocal, Complex, Max, SinH, CosH, Exp2, Exp10, Log, Ln, Log2, Log10, Over, Root, Unlisted}
-use Rattle.records.specs.declared.Kind.{Kind}
-use Rattle.records.specs.declared.Kind.the-variants as kind
 use Rattle.records.specs.Table.{row}
-use Rattle.records.proofs.Kind.{the-type}
 use Rattle.forms.specs.Forms.{ofOne, ofTwo}
-use Rattle.leaves.specs.Parts.{whyNot}
 
 -- what a primitive forms of a good sum is one
 pub of-one-good : (p : Primitive) {s r : Sum} → GoodSum s → ofOne p s ≡ sum r → GoodSum r
@@ -117,24 +109,3 @@ rows Log10 = (omega arith, λ e. omega arith)
 rows Over = (omega arith, λ e. omega arith)
 rows Root = (omega arith, λ e. omega arith)
 rows Unlisted = (omega arith, λ e. omega arith)
-
--- ---- kinds
-
--- the numbers of the kinds that have no refusal of their own
-abbrev pub plain-kinds : List ℕ
-plain-kinds = 0 ∷ 1 ∷ 4 ∷ 5 ∷ 6 ∷ 7 ∷ 8 ∷ 9 ∷ 11 ∷ 12 ∷ []
-
-pub other-kind : (k : Kind) → OneOf plain-kinds (tagOf the-type k) → NotSupported ≡ whyNot k
-other-kind kind.RealPush o = refl
-other-kind kind.ComplexPush o = refl
-other-kind kind.ArrayPush o = absurd (miss plain-kinds _ tt o)
-other-kind kind.OtherPush o = absurd (miss plain-kinds _ tt o)
-other-kind kind.Primitive o = refl
-other-kind kind.Modifier o = refl
-other-kind kind.Body o = refl
-other-kind kind.Run o = refl
-other-kind kind.CustomInverse o = refl
-other-kind kind.Obverse o = refl
-other-kind kind.NoNormal o = absurd (miss plain-kinds _ tt o)
-other-kind kind.UnderMarker o = refl
-other-kind kind.AnythingElse o = refl

@@ -14,7 +14,7 @@ use Rattle.arena.specs.Stack.{Top, Stacked, no-sum, on-top, sizesOf}
 use Rattle.arena.specs.Blocks.{Outside, Sunk}
 use Rattle.arena.proofs.Laws.{space-less, outside-trans, outside-wider, stacked-one, stacked-push, stacked-sunk, stacked-join}
 use Rattle.steps.specs.Parts.{Tops}
-use Rattle.leaves.specs.Parts.{Turned}
+use Rattle.tops.specs.Parts.{Turned}
 use Rattle.steps.proofs.Laws.{pair}
 
 sizes-two : (a : Arena) (u n m : ℕ) (s t : Sum) (ss : List Sum) → Tops a u (n ∷ m ∷ []) → Stacked a 0 u (s ∷ t ∷ ss) → (n ≡ size s) × (m ≡ size t)

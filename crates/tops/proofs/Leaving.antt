@@ -21,7 +21,7 @@ use Rattle.steps.specs.Steps.{leavesOfOne, leavesOfTwo, leaves}
 use Rattle.steps.specs.Agree.{Ready, Agree, Does}
 use Rattle.steps.specs.Parts.{withUsed, Tops}
 use Rattle.steps.proofs.Laws.{lend-more, lend-two, total-two, stands-popped, topmost, pair, does-one, does-two}
-use Rattle.leaves.specs.Parts.{Turned}
+use Rattle.tops.specs.Parts.{Turned}
 
 -- ---- primitives of one sum
 

@@ -1,4 +1,4 @@
--- `leaves::form_top` meets its contract: the sum on top is taken off, and what is formed of it put on. Assumes nothing.
+-- `tops::form_top` meets its contract: the sum on top is taken off, and what is formed of it put on. Assumes nothing.
 use Prim.Native.Nat.{_-_, _+_}
 use Rattle.arena.specs.Arena.{Arena}
 use Rattle.cells.proofs.Laws.{room-fresh, room-same}
@@ -7,16 +7,16 @@ use Rattle.forms.specs.Forms.{ofOne}
 use Rattle.records.specs.Names.{primitiveOf}
 use Rattle.records.specs.declared.Primitive.{Primitive}
 use Rattle.steps.proofs.Laws.{Topmost, topmost, ready-popped}
-use Rattle.leaves.proofs.Leaving.{one-formed}
+use Rattle.tops.proofs.Leaving.{one-formed}
 use Rattle.steps.proofs.Forming.{filled}
-use Rattle.leaves.proofs.Table.{of-one-good}
+use Rattle.tops.proofs.Table.{of-one-good}
 use Rattle.sums.specs.Lies.{Lies, Agrees}
 use Rattle.trees.specs.Sums.{Sum}
 use borrow.Author.Needs.{needs}
 use mathlib.Core.Path.{subst}
 use native.Mathlib.Omega.{arith}
-use Rattle.leaves.proofs.form_top.Statement.{statement}
-use Rattle.leaves.proofs.form_top.Tie as tie
+use Rattle.tops.proofs.form_top.Statement.{statement}
+use Rattle.tops.proofs.form_top.Tie as tie
 
 -- the arena at first
 abbrev A : tie.Start → Arena

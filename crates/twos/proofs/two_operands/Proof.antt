@@ -1,4 +1,4 @@
--- `leaves::two_operands` meets its contract: too few sums, or two. Assumes nothing.
+-- `twos::two_operands` meets its contract: too few sums, or two. Assumes nothing.
 use Prim.Native.Nat.{_-_}
 use Rattle.arena.specs.Arena.{Arena}
 use Rattle.cells.specs.Book.{book}
@@ -7,8 +7,8 @@ use Rattle.steps.specs.Parts.{Tops}
 use borrow.Author.Needs.{needs}
 use mathlib.Core.List.{[], _∷_}
 use native.Mathlib.Omega.{arith}
-use Rattle.leaves.proofs.two_operands.Statement.{statement}
-use Rattle.leaves.proofs.two_operands.Tie as tie
+use Rattle.twos.proofs.two_operands.Statement.{statement}
+use Rattle.twos.proofs.two_operands.Tie as tie
 
 -- the arena at first
 abbrev A : tie.Start → Arena

@@ -1,4 +1,4 @@
--- `leaves::form_pair` meets its contract: the two sums on top are taken off, and what is formed of them put on. Assumes nothing.
+-- `twos::form_pair` meets its contract: the two sums on top are taken off, and what is formed of them put on. Assumes nothing.
 use Prim.Native.Nat.{_-_, _+_}
 use Rattle.arena.specs.Arena.{Arena}
 use Rattle.cells.proofs.Laws.{room-fresh, room-same}
@@ -7,16 +7,16 @@ use Rattle.forms.specs.Forms.{ofTwo}
 use Rattle.records.specs.Names.{primitiveOf}
 use Rattle.records.specs.declared.Primitive.{Primitive}
 use Rattle.steps.proofs.Laws.{Pair, pair, ready-popped}
-use Rattle.leaves.proofs.Leaving.{two-formed}
+use Rattle.tops.proofs.Leaving.{two-formed}
 use Rattle.steps.proofs.Forming.{filled}
-use Rattle.leaves.proofs.Table.{of-two-good}
+use Rattle.tops.proofs.Table.{of-two-good}
 use Rattle.sums.specs.Lies.{Lies, Held, Agrees}
 use Rattle.trees.specs.Sums.{Sum}
 use borrow.Author.Needs.{needs}
 use mathlib.Core.Path.{subst}
 use native.Mathlib.Omega.{arith}
-use Rattle.leaves.proofs.form_pair.Statement.{statement}
-use Rattle.leaves.proofs.form_pair.Tie as tie
+use Rattle.twos.proofs.form_pair.Statement.{statement}
+use Rattle.twos.proofs.form_pair.Tie as tie
 
 -- the arena at first
 abbrev A : tie.Start → Arena

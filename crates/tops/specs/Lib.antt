@@ -1,0 +1,2 @@
+-- The root of tops' definitions.
+pub mod Parts
