@@ -271,5 +271,5 @@ pub fn write(sum: &[u8], complex: bool, out: &mut [u8]) -> Answer
 pub fn run(list: &[u8], x: f64) -> RunAnswer
     ensures { λ r. ⌜ r ≡ runList (now (list .entry)) x ⌝ }
 {
-    runner::run(list, x)
+    runs::run(list, x)
 }

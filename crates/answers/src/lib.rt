@@ -94,7 +94,7 @@ pub fn derive(
     let mut wn = [0u64; 64];
     let mut wr = [0u64; 64];
     let mut wm = [0u64; 64];
-    let formed = calculus::expr_deriv(
+    let formed = derivatives::expr_deriv(
         ak,
         ai,
         an,
@@ -189,7 +189,7 @@ pub fn derive_and_write(
     let mut wn = [0u64; 64];
     let mut wr = [0u64; 64];
     let mut wm = [0u64; 64];
-    let formed = calculus::expr_deriv(
+    let formed = derivatives::expr_deriv(
         ak,
         ai,
         an,

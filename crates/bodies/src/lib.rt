@@ -295,7 +295,7 @@ fn hold_for(
 {
     let k = held_by(m, n);
     let c = lent_by(m);
-    holds::hold_and_lend(k, c, at, ak, ai, an, ar, am, az, v, env)
+    lends::hold_and_lend(k, c, at, ak, ai, an, ar, am, az, v, env)
 }
 
 // What a modifier does before its first body runs, where the first in the list takes n arguments.

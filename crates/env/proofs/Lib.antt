@@ -1,3 +1,2 @@
 -- The root of env's laws.
-pub mod Laws
 pub mod Ends

@@ -1,3 +1,2 @@
 -- The root of env's definitions.
-pub mod Runs
 pub mod Data

@@ -1,4 +1,3 @@
 -- The root of holds' laws.
 pub mod Laws
 pub mod Moves
-pub mod Around

@@ -96,8 +96,20 @@ fn leaf_of(
     ensures { λ e. ⌜ Does (arena (ak .entry) (ai .entry) (an .entry) (ar .entry) (am .entry) (az .entry)) (arena (ak .exit) (ai .exit) (an .exit) (ar .exit) (am .exit) (az .exit)) v env e (λ st. leafStep at r (KindFound.Known k) (1024 - v) st) ⌝ }
 {
     match k {
-        Kind::RealPush => steps::push_number(r.re, 0, at, ak, ai, an, ar, am, az, v, env),
-        Kind::ComplexPush => steps::push_complex(r.re, r.im, at, ak, ai, an, ar, am, az, v, env),
+        Kind::RealPush => constants::push_number(r.re, 0, at, ak, ai, an, ar, am, az, v, env),
+        Kind::ComplexPush => constants::push_complex(
+            r.re,
+            r.im,
+            at,
+            ak,
+            ai,
+            an,
+            ar,
+            am,
+            az,
+            v,
+            env,
+        ),
         Kind::Primitive => primitive(r.code, at, ak, ai, an, ar, am, az, v, env),
         Kind::UnderMarker => Ran::Went(env),
         _ => steps::halt(why_not(k), at, ak, ai, an, ar, am, az, env),

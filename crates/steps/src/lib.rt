@@ -1,10 +1,9 @@
 // The state of reading beside the arena, refusals, and sums put on the stack. The stack of sums lies in the arena from its first slot on;
 // from v on lies what is held.
-use complex::Complex;
 use sums::Formed;
 use trees::Refusal;
 ghost use mathlib.Core.Path.{_≡_};
-ghost use mathlib.Core.Bool.{true, _||_, cond};
+ghost use mathlib.Core.Bool.{_||_, cond};
 ghost use mathlib.Core.List.{List};
 ghost use Prim.Native.Nat.{suc, _+_, _-_, _≤_, min};
 ghost use lib.Dec.{leb};
@@ -15,8 +14,7 @@ ghost use Rattle.trees.specs.Map.{Outcome, sum};
 ghost use Rattle.sums.specs.Lies.{Lies, Agrees};
 ghost use Rattle.arena.specs.Arena.{arena};
 ghost use Rattle.arena.specs.Stack.{Stacked, anyComplex};
-ghost use Rattle.steps.specs.State.{went, andThen, push};
-ghost use Rattle.steps.specs.Steps.{constantOf, flagged};
+ghost use Rattle.steps.specs.State.{push};
 ghost use Rattle.steps.specs.Agree.{Ready, Does};
 ghost use Rattle.steps.specs.Parts.{Filled, finished};
 
@@ -175,55 +173,6 @@ pub fn copy_up(
     )
 }
 
-// A number, given by its bits, is put on the stack.
-pub fn push_number(
-    re: u64,
-    im: u64,
-    at: usize,
-    ak: &mut [u8],
-    ai: &mut [u8],
-    an: &mut [u64],
-    ar: &mut [u64],
-    am: &mut [u64],
-    az: &mut [u8],
-    v: usize,
-    env: AlgebraEnv,
-) -> Ran
-    requires { ⌜ Ready (arena ak ai an ar am az) v env ⌝ }
-    ensures { λ r. ⌜ Does (arena (ak .entry) (ai .entry) (an .entry) (ar .entry) (am .entry) (az .entry)) (arena (ak .exit) (ai .exit) (an .exit) (ar .exit) (am .exit) (az .exit)) v env r (push at (1024 - v) (constantOf re im)) ⌝ }
-{
-    if !(checks::finite_bits(re) & checks::finite_bits(im)) {
-        return halt(Refusal::NotFinite, at, ak, ai, an, ar, am, az, env);
-    }
-    let mut vk = [0u8; 64];
-    let mut vi = [0u8; 64];
-    let mut vn = [0u64; 64];
-    let mut vr = [0u64; 64];
-    let mut vm = [0u64; 64];
-    let c = Complex {
-        re: f64::from_bits(re),
-        im: f64::from_bits(im),
-    };
-    let f = adds::constant_sum(c, &mut vk, &mut vi, &mut vn, &mut vr, &mut vm);
-    push_formed(
-        f,
-        at,
-        &vk,
-        &vi,
-        &vn,
-        &vr,
-        &vm,
-        ak,
-        ai,
-        an,
-        ar,
-        am,
-        az,
-        v,
-        env,
-    )
-}
-
 // One more, counted to 2.
 fn count(n: usize, more: bool) -> usize
     ensures { λ r. ⌜ r ≡ cond more (min 2 (suc n)) n ⌝ }
@@ -249,25 +198,4 @@ pub fn finish(r: Ran, handled: bool, complex: bool) -> Ran
         }
         Ran::Stopped(q, at, b) => Ran::Stopped(q, at, b),
     }
-}
-
-// A complex number: the flag is set.
-pub fn push_complex(
-    re: u64,
-    im: u64,
-    at: usize,
-    ak: &mut [u8],
-    ai: &mut [u8],
-    an: &mut [u64],
-    ar: &mut [u64],
-    am: &mut [u64],
-    az: &mut [u8],
-    v: usize,
-    env: AlgebraEnv,
-) -> Ran
-    requires { ⌜ Ready (arena ak ai an ar am az) v env ⌝ }
-    ensures { λ r. ⌜ Does (arena (ak .entry) (ai .entry) (an .entry) (ar .entry) (am .entry) (az .entry)) (arena (ak .exit) (ai .exit) (an .exit) (ar .exit) (am .exit) (az .exit)) v env r (λ st. andThen (push at (1024 - v) (constantOf re im) st) (λ st′. went (flagged true st′))) ⌝ }
-{
-    let r = push_number(re, im, at, ak, ai, an, ar, am, az, v, env);
-    finish(r, false, true)
 }

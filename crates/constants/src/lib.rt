@@ -1,0 +1,81 @@
+// A number, given by its bits, put on the stack as a constant; a complex one sets the flag.
+use complex::Complex;
+use steps::AlgebraEnv;
+use steps::Ran;
+use trees::Refusal;
+ghost use mathlib.Core.Bool.{true};
+ghost use Prim.Native.Nat.{_-_};
+ghost use Rattle.arena.specs.Arena.{arena};
+ghost use Rattle.steps.specs.State.{went, andThen, push};
+ghost use Rattle.steps.specs.Steps.{constantOf, flagged};
+ghost use Rattle.steps.specs.Agree.{Ready, Does};
+
+// A number, given by its bits, is put on the stack.
+pub fn push_number(
+    re: u64,
+    im: u64,
+    at: usize,
+    ak: &mut [u8],
+    ai: &mut [u8],
+    an: &mut [u64],
+    ar: &mut [u64],
+    am: &mut [u64],
+    az: &mut [u8],
+    v: usize,
+    env: AlgebraEnv,
+) -> Ran
+    requires { ⌜ Ready (arena ak ai an ar am az) v env ⌝ }
+    ensures { λ r. ⌜ Does (arena (ak .entry) (ai .entry) (an .entry) (ar .entry) (am .entry) (az .entry)) (arena (ak .exit) (ai .exit) (an .exit) (ar .exit) (am .exit) (az .exit)) v env r (push at (1024 - v) (constantOf re im)) ⌝ }
+{
+    if !(checks::finite_bits(re) & checks::finite_bits(im)) {
+        return steps::halt(Refusal::NotFinite, at, ak, ai, an, ar, am, az, env);
+    }
+    let mut vk = [0u8; 64];
+    let mut vi = [0u8; 64];
+    let mut vn = [0u64; 64];
+    let mut vr = [0u64; 64];
+    let mut vm = [0u64; 64];
+    let c = Complex {
+        re: f64::from_bits(re),
+        im: f64::from_bits(im),
+    };
+    let f = adds::constant_sum(c, &mut vk, &mut vi, &mut vn, &mut vr, &mut vm);
+    steps::push_formed(
+        f,
+        at,
+        &vk,
+        &vi,
+        &vn,
+        &vr,
+        &vm,
+        ak,
+        ai,
+        an,
+        ar,
+        am,
+        az,
+        v,
+        env,
+    )
+}
+
+// A complex number: the flag is set.
+pub fn push_complex(
+    re: u64,
+    im: u64,
+    at: usize,
+    ak: &mut [u8],
+    ai: &mut [u8],
+    an: &mut [u64],
+    ar: &mut [u64],
+    am: &mut [u64],
+    az: &mut [u8],
+    v: usize,
+    env: AlgebraEnv,
+) -> Ran
+    requires { ⌜ Ready (arena ak ai an ar am az) v env ⌝ }
+    ensures { λ r. ⌜ Does (arena (ak .entry) (ai .entry) (an .entry) (ar .entry) (am .entry) (az .entry)) (arena (ak .exit) (ai .exit) (an .exit) (ar .exit) (am .exit) (az .exit)) v env r (λ st. andThen (push at (1024 - v) (constantOf re im) st) (λ st′. went (flagged true st′))) ⌝ }
+{
+    let r = push_number(re, im, at, ak, ai, an, ar, am, az, v, env);
+    steps::finish(r, false, true)
+}

@@ -1,0 +1,2 @@
+-- The root of rounds' laws.
+pub mod Laws

@@ -1,0 +1,2 @@
+-- The root of rounds' definitions.
+pub mod Runs
