@@ -2,4 +2,3 @@
 pub mod Lying
 pub mod Each
 pub mod Negating
-pub mod Reading

@@ -1,3 +1,2 @@
 -- The root of adds' definitions.
 pub mod Work
-pub mod Reads

@@ -15,7 +15,7 @@ use Rattle.trees.specs.Map.{Outcome}
 use Rattle.sums.specs.declared.Formed.{Formed}
 use Rattle.sums.specs.declared.Formed.the-variants as formed
 use Rattle.sums.specs.Lies.{Lies, Held, Agrees}
-use Rattle.products.proofs.Lying.{agreed-done, agreed-refused}
+use Rattle.factors.proofs.Lying.{agreed-done, agreed-refused}
 use Rattle.records.specs.Tree as tree
 use Rattle.records.specs.Tree.{recordsIn}
 use Rattle.entries.specs.Encoding.{entriesIn, encodeSum}

@@ -154,7 +154,7 @@ pub fn any_complex(
     while 0 < p {
         let n = top_size(az, 0, p);
         p = p - n;
-        if adds::is_complex(ak, ai, an, ar, am, p, n) {
+        if monomials::is_complex(ak, ai, an, ar, am, p, n) {
             return true;
         }
     }

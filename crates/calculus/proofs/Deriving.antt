@@ -13,7 +13,7 @@ use Rattle.sums.specs.declared.Formed.{Formed}
 use Rattle.sums.specs.declared.Formed.the-variants.{Done, Refused}
 use Rattle.sums.specs.Lies.{Lies, Agrees}
 use Rattle.sums.proofs.Walk.{empty}
-use Rattle.products.proofs.Lying.{Agreed, agreed-done, agreed-refused, agree-done, agree-refused}
+use Rattle.factors.proofs.Lying.{Agreed, agreed-done, agreed-refused, agree-done, agree-refused}
 use Rattle.raising.proofs.Whole.{zero-is}
 use Rattle.calculus.specs.Derivative.{deriveInto, orZero, derive}
 

@@ -34,10 +34,10 @@ use Rattle.terms.specs.Singles.{GoodSum, isX}
 use Rattle.terms.specs.Product.{product}
 use Rattle.terms.proofs.Steps.{differ}
 use Rattle.terms.proofs.Goodness.{good-product}
-use Rattle.products.proofs.Lying.{Agreed, agreed-done, agreed-refused, agree-refused}
-use Rattle.adds.specs.declared.Constant.{Constant}
-use Rattle.adds.specs.declared.Constant.the-variants as constant
-use Rattle.adds.specs.Reads.{constantOf}
+use Rattle.factors.proofs.Lying.{Agreed, agreed-done, agreed-refused, agree-refused}
+use Rattle.monomials.specs.declared.Constant.{Constant}
+use Rattle.monomials.specs.declared.Constant.the-variants as constant
+use Rattle.monomials.specs.Reads.{constantOf}
 use Rattle.calculus.specs.declared.Ln.{Ln}
 use Rattle.calculus.specs.declared.Ln.the-variants.{Is, Other}
 use Rattle.calculus.specs.Derivative.{slope, vanishes, prime, byPrime, byLn, firstCoef, turnedTo, deriveX, deriveExp, deriveDiv, deriveLog, deriveBy, deriveInto}

@@ -1,7 +1,7 @@
 // What the derivative and the integral of a sum are, with their laws, and what the code of both asks of one entry.
-use adds::Constant;
 use cells::Entry;
 use complex::Complex;
+use monomials::Constant;
 use sums::Formed;
 use trees::Merge;
 ghost use mathlib.Core.Path.{_≡_};
@@ -11,7 +11,7 @@ ghost use Prim.Native.Nat.{_+_, _≤_};
 ghost use Rattle.cells.specs.Book.{lent};
 ghost use Rattle.trees.specs.Sums.{Sum};
 ghost use Rattle.sums.specs.Lies.{Lies, Held};
-ghost use Rattle.adds.specs.Reads.{constantOf};
+ghost use Rattle.monomials.specs.Reads.{constantOf};
 ghost use Rattle.calculus.specs.Derivative.{slope, vanishes, primeStep, prime, lnOf, turnedTo};
 ghost use Rattle.calculus.specs.Into.{Ready, Into, turnedKind, turnedHow};
 
@@ -121,7 +121,7 @@ pub fn put_over(
         num: 0.0,
         coef: c,
     };
-    sums::put_block(how, x, ak, ai, an, ar, am, i, wk, wi, wn, wr, wm, 0, len)
+    puts::put_block(how, x, ak, ai, an, ar, am, i, wk, wi, wn, wr, wm, 0, len)
 }
 
 // The kind that the derivative of sin, cos, sinh or cosh is of, and the integral too.

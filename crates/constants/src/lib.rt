@@ -39,7 +39,7 @@ pub fn push_number(
         re: f64::from_bits(re),
         im: f64::from_bits(im),
     };
-    let f = adds::constant_sum(c, &mut vk, &mut vi, &mut vn, &mut vr, &mut vm);
+    let f = monomials::constant_sum(c, &mut vk, &mut vi, &mut vn, &mut vr, &mut vm);
     steps::push_formed(
         f,
         at,

@@ -73,7 +73,7 @@ pub fn expr_deriv(
         Formed::Refused(q) => Formed::Refused(q),
         Formed::Done(n) => {
             if n == 0 {
-                return adds::constant_sum(Complex::ZERO, wk, wi, wn, wr, wm);
+                return monomials::constant_sum(Complex::ZERO, wk, wi, wn, wr, wm);
             }
             Formed::Done(n)
         }

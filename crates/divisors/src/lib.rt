@@ -62,7 +62,7 @@ pub fn put_x(
         num: p,
         coef: c,
     };
-    sums::put_block(
+    puts::put_block(
         Merge::Add,
         x,
         &small,
@@ -139,7 +139,7 @@ pub fn over_div(
     requires { ⌜ Work (lent wk wi wn wr wm) n ⌝ }
     ensures { λ r. ⌜ ((s v : Sum) → Lies (lent (wk .entry) (wi .entry) (wn .entry) (wr .entry) (wm .entry)) 0 n 4 s → Lies (lent (ak .entry) (ai .entry) (an .entry) (ar .entry) (am .entry)) j (j + m) 4 v → Agrees r (lent (wk .exit) (wi .exit) (wn .exit) (wr .exit) (wm .exit)) 0 (cond (isOne (x .kind) (x .num)) (addTimes c s v) (andThenSum (product (xTo (x .num)) v) (λ w. addTimes c s w)))) ⌝ }
 {
-    if adds::is_one(x) {
+    if monomials::is_one(x) {
         return adds::add_each(
             Change::Times(c),
             ak,
@@ -284,7 +284,7 @@ pub fn over_other(
         num: 0.0,
         coef: c,
     };
-    sums::put_block(
+    puts::put_block(
         Merge::Add,
         x,
         &lk,

@@ -11,7 +11,7 @@ use Rattle.sums.specs.declared.Formed.{Formed}
 use Rattle.sums.specs.declared.Formed.the-variants.{Done}
 use Rattle.sums.specs.Lies.{Lies, Agrees}
 use Rattle.sums.proofs.Walk.{lies-below}
-use Rattle.products.proofs.Lying.{agreed-done, agree-done}
+use Rattle.factors.proofs.Lying.{agreed-done, agree-done}
 use Rattle.adds.proofs.Lying.{lies-copied, copied-kept}
 
 pub beside : {a b b₁ b₂ : Book} (i n j m : ℕ) → n ≤ 64 → m ≤ 64 → Room b 192 → Copied a b b₁ i n 0 → Copied a b₁ b₂ j m 64

@@ -83,7 +83,7 @@ pub fn over(
         num: 0.0,
         coef: Complex::ONE,
     };
-    adds::alone(x, ak, ai, an, ar, am, i, wk, wi, wn, wr, wm)
+    monomials::alone(x, ak, ai, an, ar, am, i, wk, wi, wn, wr, wm)
 }
 
 // The sums of n cells from i on and of m cells from j on, copied to the first cells and to those from the 64th on.

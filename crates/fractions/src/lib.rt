@@ -1,7 +1,7 @@
 // The derivative of a logarithm and of 1 over a sum: each is put into a sum in another book as 1 over a sum.
-use adds::Constant;
 use calculus::Ln;
 use cells::Entry;
+use monomials::Constant;
 use records::Primitive;
 use sums::Formed;
 use trees::Merge;

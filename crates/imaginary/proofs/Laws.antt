@@ -17,9 +17,9 @@ use Rattle.sums.specs.declared.Formed.{Formed}
 use Rattle.sums.specs.declared.Formed.the-variants.{Done}
 use Rattle.sums.specs.Lies.{Lies, Agrees}
 use Rattle.sums.proofs.Walk.{lies-above}
-use Rattle.products.proofs.Lying.{agreed-done}
-use Rattle.adds.specs.declared.Constant.the-variants.{Is, Other}
-use Rattle.adds.specs.Reads.{constantOf}
+use Rattle.factors.proofs.Lying.{agreed-done}
+use Rattle.monomials.specs.declared.Constant.the-variants.{Is, Other}
+use Rattle.monomials.specs.Reads.{constantOf}
 use Rattle.adds.proofs.Lying.{copied-kept}
 use Rattle.primitives.specs.Beside.{Beside}
 

@@ -1,7 +1,7 @@
 // The primitive that takes i beside a sum: b + a·i. Operands lie in one book, the result is formed from the first cell of another on,
 // which has room for 64.
-use adds::Constant;
 use complex::Complex;
+use monomials::Constant;
 use sums::Formed;
 use terms::Change;
 ghost use Prim.Native.Nat.{_+_, _≤_};
@@ -125,13 +125,13 @@ pub fn complex(
     requires { ⌜ (n ≤ 64) × (m ≤ 64) × Held (lent ak ai an ar am) i (i + n) 4 × Held (lent ak ai an ar am) j (j + m) 4 × Room (lent wk wi wn wr wm) 64 ⌝ }
     ensures { λ r. ⌜ ((b a : Sum) → Lies (lent (ak .entry) (ai .entry) (an .entry) (ar .entry) (am .entry)) i (i + n) 4 b → Lies (lent (ak .entry) (ai .entry) (an .entry) (ar .entry) (am .entry)) j (j + m) 4 a → Agrees r (lent (wk .exit) (wi .exit) (wn .exit) (wr .exit) (wm .exit)) 0 (complexSum a b)) ⌝ }
 {
-    let first = adds::as_constant(ak, ai, an, ar, am, i, n);
-    let second = adds::as_constant(ak, ai, an, ar, am, j, m);
+    let first = monomials::as_constant(ak, ai, an, ar, am, i, n);
+    let second = monomials::as_constant(ak, ai, an, ar, am, j, m);
     let Constant::Is(c) = second else {
         return add_times_i(ak, ai, an, ar, am, i, n, j, m, wk, wi, wn, wr, wm);
     };
     let Constant::Is(d) = first else {
         return add_times_i(ak, ai, an, ar, am, i, n, j, m, wk, wi, wn, wr, wm);
     };
-    adds::constant_sum(c.mul_i().add(d), wk, wi, wn, wr, wm)
+    monomials::constant_sum(c.mul_i().add(d), wk, wi, wn, wr, wm)
 }

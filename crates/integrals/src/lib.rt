@@ -82,7 +82,7 @@ fn store_over_x(
         num: num,
         coef: c,
     };
-    sums::put_block(
+    puts::put_block(
         Merge::Store,
         x,
         &kinds,
@@ -132,7 +132,7 @@ fn integrate_x(
     };
     // At equal keys the later number stays.
     let how = Merge::Store;
-    sums::put_block(how, y, ak, ai, an, ar, am, i, wk, wi, wn, wr, wm, 0, len)
+    puts::put_block(how, y, ak, ai, an, ar, am, i, wk, wi, wn, wr, wm, 0, len)
 }
 
 // A function whose integral is of another kind: its argument has to be x.

@@ -10,7 +10,7 @@ use Rattle.complex.specs.declared.Complex.{Complex}
 use Rattle.cells.specs.Book.{Book, Room}
 use Rattle.trees.specs.Sums.{entry}
 use Rattle.sums.specs.Heads.{GoodHead}
-use Rattle.products.specs.Apart.{Operands}
+use Rattle.factors.specs.Apart.{Operands}
 use Rattle.operations.specs.Ready.{Ready}
 
 -- the head of a term that has an inside and no number

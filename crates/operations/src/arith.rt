@@ -116,7 +116,7 @@ fn over(
         num: 0.0,
         coef: Complex::ONE,
     };
-    adds::alone(x, ak, ai, an, ar, am, 0, wk, wi, wn, wr, wm)
+    monomials::alone(x, ak, ai, an, ar, am, 0, wk, wi, wn, wr, wm)
 }
 
 // -s, 1 - s and 1 / s.

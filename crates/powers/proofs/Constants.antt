@@ -23,7 +23,7 @@ use Rattle.terms.specs.Singles.{alone, constant, asConstant, isX}
 use Rattle.terms.specs.Power.{power, isEuler, pow, log}
 use Rattle.terms.proofs.Goodness.{good-constant}
 use Rattle.sums.specs.Lies.{At, Lies}
-use Rattle.adds.specs.Reads.{constantOf}
+use Rattle.monomials.specs.Reads.{constantOf}
 use Rattle.roots.proofs.Roots.{zero-is-finite}
 use Rattle.powers.specs.declared.Real.the-variants.{Is}
 use Rattle.powers.specs.Reals.{realOf}

@@ -23,9 +23,9 @@ use Rattle.terms.specs.Singles.{isOne, alone, asConstant, isX}
 use Rattle.terms.specs.Power.{wholePower, rootable, unitCoefs, rooted, power, byReal, isEuler, pow, log}
 use Rattle.terms.proofs.Steps.{differ}
 use Rattle.sums.specs.Heads.{GoodHead}
-use Rattle.adds.specs.declared.Constant.{Constant}
-use Rattle.adds.specs.declared.Constant.the-variants as constant
-use Rattle.adds.specs.Reads.{constantOf}
+use Rattle.monomials.specs.declared.Constant.{Constant}
+use Rattle.monomials.specs.declared.Constant.the-variants as constant
+use Rattle.monomials.specs.Reads.{constantOf}
 use Rattle.powers.specs.declared.Real.the-variants.{Is, Other}
 use Rattle.powers.specs.Reals.{realOf, eulerIs}
 

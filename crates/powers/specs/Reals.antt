@@ -2,9 +2,9 @@
 use mathlib.Core.Bool.{Bool, false, cond}
 use Rattle.numbers.specs.Constants.{euler}
 use Rattle.complex.specs.Arith as complex
-use Rattle.adds.specs.declared.Constant.{Constant}
+use Rattle.monomials.specs.declared.Constant.{Constant}
 use Rattle.powers.specs.declared.Real.{Real}
-use Rattle.adds.specs.declared.Constant.the-variants as constant
+use Rattle.monomials.specs.declared.Constant.the-variants as constant
 use Rattle.powers.specs.declared.Real.the-variants as real
 
 -- its real number, where |im| < 2^-52

@@ -1,8 +1,8 @@
 // Powers and logarithms of sums. Operands lie in one book, the result is formed from the first cell of another on, which has room
 // for 64.
-use adds::Constant;
 use cells::Entry;
 use complex::Complex;
+use monomials::Constant;
 use sums::Formed;
 use trees::Refusal;
 ghost use mathlib.Core.Path.{_≡_};
@@ -109,7 +109,7 @@ fn over(
         num: num,
         coef: Complex::ONE,
     };
-    adds::alone(x, ak, ai, an, ar, am, i, wk, wi, wn, wr, wm)
+    monomials::alone(x, ak, ai, an, ar, am, i, wk, wi, wn, wr, wm)
 }
 
 // The sum of n cells from i on in the first book to the power of that of m cells from j on in the second.
@@ -137,8 +137,8 @@ fn pow_in(
     requires { ⌜ (n ≤ 64) × (m ≤ 64) × Held (lent gk gi gn gr gm) i (i + n) 4 × Held (lent ak ai an ar am) j (j + m) 4 × Room (lent wk wi wn wr wm) 64 ⌝ }
     ensures { λ r. ⌜ ((s t : Sum) → Lies (lent (gk .entry) (gi .entry) (gn .entry) (gr .entry) (gm .entry)) i (i + n) 4 s → Lies (lent (ak .entry) (ai .entry) (an .entry) (ar .entry) (am .entry)) j (j + m) 4 t → Agrees r (lent (wk .exit) (wi .exit) (wn .exit) (wr .exit) (wm .exit)) 0 (pow s t)) ⌝ }
 {
-    if is_euler(adds::as_constant(gk, gi, gn, gr, gm, i, n))
-        & adds::is_x(ak, ai, an, ar, am, j, m)
+    if is_euler(monomials::as_constant(gk, gi, gn, gr, gm, i, n))
+        & monomials::is_x(ak, ai, an, ar, am, j, m)
     {
         return over(
             trees::EXP,
@@ -157,7 +157,7 @@ fn pow_in(
             wm,
         );
     }
-    match real_of(adds::as_constant(ak, ai, an, ar, am, j, m)) {
+    match real_of(monomials::as_constant(ak, ai, an, ar, am, j, m)) {
         Real::Is(e) => power_by(e, gk, gi, gn, gr, gm, i, n, wk, wi, wn, wr, wm),
         Real::Other => Formed::Refused(Refusal::TooComplex),
     }
@@ -226,7 +226,7 @@ pub fn log(
     requires { ⌜ (0 < n) × (n ≤ 64) × Held (lent ak ai an ar am) i (i + n) 4 × Held (lent ak ai an ar am) j (j + m) 4 × Room (lent wk wi wn wr wm) 64 ⌝ }
     ensures { λ r. ⌜ ((s t : Sum) → Lies (lent (ak .entry) (ai .entry) (an .entry) (ar .entry) (am .entry)) i (i + n) 4 s → Lies (lent (ak .entry) (ai .entry) (an .entry) (ar .entry) (am .entry)) j (j + m) 4 t → Agrees r (lent (wk .exit) (wi .exit) (wn .exit) (wr .exit) (wm .exit)) 0 (log s t)) ⌝ }
 {
-    match real_of(adds::as_constant(ak, ai, an, ar, am, j, m)) {
+    match real_of(monomials::as_constant(ak, ai, an, ar, am, j, m)) {
         Real::Is(base) => over(
             trees::LOG,
             base,

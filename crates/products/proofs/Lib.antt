@@ -1,5 +1,1 @@
--- The root of products' laws.
-pub mod Shapes
-pub mod Lying
-pub mod Folding
-pub mod Laws
+-- The root of products' laws: they stand in factors.

@@ -1,3 +1,1 @@
--- The root of products' definitions.
-pub mod Apart
-pub mod Factors
+-- The root of products' definitions: they stand in factors.

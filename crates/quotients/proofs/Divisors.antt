@@ -15,8 +15,8 @@ use Rattle.terms.specs.Quotient.{allDivable, divTerm, divBySeveral, quotient}
 use Rattle.terms.proofs.Agree.{empty-size, quotient-one, quotient-several}
 use Rattle.sums.specs.Lies.{Lies}
 use Rattle.sums.proofs.Walk.{next, lies-none}
-use Rattle.adds.specs.declared.Constant.the-variants.{Is, Other}
-use Rattle.adds.specs.Reads.{constantOf}
+use Rattle.monomials.specs.declared.Constant.the-variants.{Is, Other}
+use Rattle.monomials.specs.Reads.{constantOf}
 use Rattle.divisors.specs.Dividing.{Divisor}
 
 -- ---- what the code reads off a constant

@@ -1,7 +1,7 @@
 // The quotient of two sums. Operands lie in one book, the result is formed from the first cell of another on, which has room for 64.
-use adds::Constant;
 use cells::Entry;
 use complex::Complex;
+use monomials::Constant;
 use sums::Formed;
 use trees::Refusal;
 ghost use mathlib.Core.Path.{_≡_};
@@ -42,10 +42,10 @@ fn can_div_term(
         return true;
     }
     if code == terms::X_BY_DIV {
-        return adds::is_one(x) | divisors::all_x(ak, ai, j, y.inside as usize);
+        return monomials::is_one(x) | divisors::all_x(ak, ai, j, y.inside as usize);
     }
     if code == terms::X_BY_OTHER {
-        return adds::is_one(x);
+        return monomials::is_one(x);
     }
     if code == terms::ALIKE {
         return sums::eq_term(x, ak, ai, an, ar, am, i, y, ak, ai, an, ar, am, j, 4);
@@ -87,7 +87,7 @@ fn power_of(code: u8, x: Entry, y: Entry) -> f64
     if code != terms::X_BY_X {
         return 1.0;
     }
-    if adds::is_one(x) {
+    if monomials::is_one(x) {
         return -y.num;
     }
     x.num - y.num
@@ -211,7 +211,7 @@ fn constant_by(
         num: 0.0,
         coef: Complex::ONE,
     };
-    adds::alone(e, ak, ai, an, ar, am, j, wk, wi, wn, wr, wm)
+    monomials::alone(e, ak, ai, an, ar, am, j, wk, wi, wn, wr, wm)
 }
 
 // By a sum of several terms, the m cells from j on: only the constants 0 and 1 have a quotient.
@@ -234,7 +234,7 @@ fn by_several(
     requires { ⌜ (n ≤ 64) × (1 ≤ m) × (m ≤ 64) × Held (lent ak ai an ar am) i (i + n) 4 × Held (lent ak ai an ar am) j (j + m) 4 × Room (lent wk wi wn wr wm) 64 ⌝ }
     ensures { λ r. ⌜ ((s t : Sum) → Lies (lent (ak .entry) (ai .entry) (an .entry) (ar .entry) (am .entry)) i (i + n) 4 s → Lies (lent (ak .entry) (ai .entry) (an .entry) (ar .entry) (am .entry)) j (j + m) 4 t → Agrees r (lent (wk .exit) (wi .exit) (wn .exit) (wr .exit) (wm .exit)) 0 (divBySeveral s t (asConstant s))) ⌝ }
 {
-    match adds::as_constant(ak, ai, an, ar, am, i, n) {
+    match monomials::as_constant(ak, ai, an, ar, am, i, n) {
         Constant::Is(c) => constant_by(c, ak, ai, an, ar, am, i, n, j, m, wk, wi, wn, wr, wm),
         Constant::Other => Formed::Refused(Refusal::TooComplex),
     }

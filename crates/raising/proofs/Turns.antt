@@ -15,8 +15,8 @@ use Rattle.terms.proofs.Agree.{raised-none, raised-sum, raised-refused}
 use Rattle.sums.specs.declared.Formed.{Formed}
 use Rattle.sums.specs.declared.Formed.the-variants.{Done, Refused}
 use Rattle.sums.specs.Lies.{Lies, Held, Agrees}
-use Rattle.products.specs.Apart.{Apart, Operands}
-use Rattle.products.proofs.Lying.{lies-copied, lies-apart, agreed-done, agreed-refused, agree-done, agree-refused}
+use Rattle.factors.specs.Apart.{Apart, Operands}
+use Rattle.factors.proofs.Lying.{lies-copied, lies-apart, agreed-done, agreed-refused, agree-done, agree-refused}
 use Rattle.raising.specs.Turns.{nextPlace}
 
 -- the places

@@ -133,12 +133,12 @@ pub fn whole_power(
     match numbers::small_whole(e) {
         SmallWhole::Is(k) => {
             if k == 0 {
-                return adds::constant_sum(Complex::ZERO, wk, wi, wn, wr, wm);
+                return monomials::constant_sum(Complex::ZERO, wk, wi, wn, wr, wm);
             }
             raise(k - 1, ak, ai, an, ar, am, i, n, wk, wi, wn, wr, wm)
         }
         SmallWhole::Other => {
-            if !products::can_mul(i, n, i, n, ak, ai, 4) {
+            if !factors::can_mul(i, n, i, n, ak, ai, 4) {
                 return Formed::Refused(Refusal::TooComplex);
             }
             Formed::Refused(Refusal::BigPower)

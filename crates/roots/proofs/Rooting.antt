@@ -24,7 +24,7 @@ use Rattle.terms.specs.Power.{rooted}
 use Rattle.sums.specs.declared.Formed.the-variants.{Done, Refused}
 use Rattle.sums.specs.Lies.{Agrees}
 use Rattle.sums.proofs.Walk.{plain-at}
-use Rattle.products.proofs.Lying.{lies-copied}
+use Rattle.factors.proofs.Lying.{lies-copied}
 use Rattle.roots.specs.Roots.{Rooting, rootEntry}
 use Rattle.roots.proofs.Roots.{root-laid, Spot, root-spot, root-finite, root-fits, one-is-finite}
 

@@ -1,26 +1,20 @@
 // Sums of terms in five parallel slices: kinds, inside counts, and the bits of the number, of re and of im. Their order, the
-// Rust's ==, and a term put into a sum.
+// Rust's ==, and where a term stands or belongs.
 use cells::Entry;
-use complex::Complex;
 use numbers::Ordering;
-use trees::Merge;
 use trees::Refusal;
 ghost use mathlib.Core.Path.{_≡_};
 ghost use Prim.Native.Nat.{ℕ, _+_, _≤_};
 ghost use lib.Dec.{leb};
 ghost use lib.ListN.{length, getD};
 ghost use Rattle.cells.specs.declared.Entry.{Entry};
-ghost use Rattle.cells.specs.Book.{Book, lent, Room};
-ghost use Rattle.cells.specs.Moves.{Kept};
+ghost use Rattle.cells.specs.Book.{lent};
 ghost use Rattle.trees.specs.Sums.{Sum, size, len, levels};
 ghost use Rattle.trees.specs.Order.{cmpNat, cmpHead, cmpTerm, cmpSum};
 ghost use Rattle.trees.specs.Same.{sameHead, sameTerm, sameSum};
-ghost use Rattle.trees.specs.Map.{merged, formed};
-ghost use Rattle.sums.specs.Lies.{At, Lies, Held, Agrees};
+ghost use Rattle.sums.specs.Lies.{At, Lies, Held};
 ghost use Rattle.sums.specs.Nests.{Nests, Nested};
 ghost use Rattle.sums.specs.Place.{place};
-ghost use Rattle.sums.specs.Heads.{GoodHead};
-ghost use Rattle.sums.specs.Putting.{Putting};
 
 // A sum was formed and has so many entries, insides counted; or it was refused.
 pub enum Formed {
@@ -307,145 +301,4 @@ pub fn find(
         k = k + 1 + y.inside as usize;
     }
     Found::Before(k)
-}
-
-// What a key's coefficient becomes.
-pub fn merge(how: Merge, old: Complex, c: Complex) -> Complex
-    ensures { λ r. ⌜ r ≡ merged how old c ⌝ }
-{
-    match how {
-        Merge::Add => old.add(c),
-        Merge::Take => old.sub(c),
-        Merge::Store => c,
-    }
-}
-
-// At the key that stands at k: its coefficient becomes another. `shallow` says that the term's inside has at most 3 levels.
-fn put_same(
-    how: Merge,
-    x: Entry,
-    shallow: bool,
-    mk: &mut [u8],
-    mi: &mut [u8],
-    mn: &mut [u64],
-    mr: &mut [u64],
-    mm: &mut [u64],
-    n: usize,
-    k: usize,
-) -> Formed
-    requires { ⌜ ((g : Book) × (i : ℕ) × (p : ℕ) × (s : Sum) × (t : Sum) × Putting g (lent mk mi mn mr mm) x i p n shallow (Found.Same k) s t) ⌝ }
-    ensures { λ r. ⌜ ((g : Book) (i p : ℕ) (s t : Sum) → Putting g (lent (mk .entry) (mi .entry) (mn .entry) (mr .entry) (mm .entry)) x i p n shallow (Found.Same k) s t → Kept (lent (mk .entry) (mi .entry) (mn .entry) (mr .entry) (mm .entry)) (lent (mk .exit) (mi .exit) (mn .exit) (mr .exit) (mm .exit)) p (p + 64) × Agrees r (lent (mk .exit) (mi .exit) (mn .exit) (mr .exit) (mm .exit)) p (formed how x t s)) ⌝ }
-{
-    let y = cells::load(mk, mi, mn, mr, mm, k);
-    let v = merge(how, y.coef, x.coef);
-    if !v.is_finite() {
-        return Formed::Refused(Refusal::NotFinite);
-    }
-    if !shallow {
-        return Formed::Refused(Refusal::TooDeep);
-    }
-    let e = Entry {
-        kind: y.kind,
-        inside: y.inside,
-        num: y.num,
-        coef: v,
-    };
-    cells::store(mk, mi, mn, mr, mm, k, e);
-    Formed::Done(n)
-}
-
-// A new key goes in before the cell k; its coefficient starts from +0. `shallow` says that its inside has at most 3 levels.
-fn put_new(
-    how: Merge,
-    x: Entry,
-    shallow: bool,
-    gk: &[u8],
-    gi: &[u8],
-    gn: &[u64],
-    gr: &[u64],
-    gm: &[u64],
-    i: usize,
-    mk: &mut [u8],
-    mi: &mut [u8],
-    mn: &mut [u64],
-    mr: &mut [u64],
-    mm: &mut [u64],
-    p: usize,
-    n: usize,
-    k: usize,
-) -> Formed
-    requires { ⌜ ((s : Sum) × (t : Sum) × Putting (lent gk gi gn gr gm) (lent mk mi mn mr mm) x i p n shallow (Found.Before k) s t) ⌝ }
-    ensures { λ r. ⌜ ((s t : Sum) → Putting (lent (gk .entry) (gi .entry) (gn .entry) (gr .entry) (gm .entry)) (lent (mk .entry) (mi .entry) (mn .entry) (mr .entry) (mm .entry)) x i p n shallow (Found.Before k) s t → Kept (lent (mk .entry) (mi .entry) (mn .entry) (mr .entry) (mm .entry)) (lent (mk .exit) (mi .exit) (mn .exit) (mr .exit) (mm .exit)) p (p + 64) × Agrees r (lent (mk .exit) (mi .exit) (mn .exit) (mr .exit) (mm .exit)) p (formed how x t s)) ⌝ }
-{
-    let c = merge(how, Complex::ZERO, x.coef);
-    if !c.is_finite() {
-        return Formed::Refused(Refusal::NotFinite);
-    }
-    if !shallow {
-        return Formed::Refused(Refusal::TooDeep);
-    }
-    let m = n + (1 + x.inside as usize);
-    if 64 < m {
-        return Formed::Refused(Refusal::NoRoom);
-    }
-    let e = Entry {
-        kind: x.kind,
-        inside: x.inside,
-        num: x.num,
-        coef: c,
-    };
-    cells::insert(e, gk, gi, gn, gr, gm, i, mk, mi, mn, mr, mm, k, p + n);
-    Formed::Done(m)
-}
-
-// Puts the term x, whose inside lies from i on in the first book, with its coefficient into the sum of n entries from p on in
-// the second, which has room for 64.
-pub fn put_block(
-    how: Merge,
-    x: Entry,
-    gk: &[u8],
-    gi: &[u8],
-    gn: &[u64],
-    gr: &[u64],
-    gm: &[u64],
-    i: usize,
-    mk: &mut [u8],
-    mi: &mut [u8],
-    mn: &mut [u64],
-    mr: &mut [u64],
-    mm: &mut [u64],
-    p: usize,
-    n: usize,
-) -> Formed
-    requires { ⌜ GoodHead x × Held (lent gk gi gn gr gm) i (i + x .inside) 4 ⌝ }
-    requires { ⌜ (n ≤ 64) × Room (lent mk mi mn mr mm) (p + 64) × Held (lent mk mi mn mr mm) p (p + n) 4 ⌝ }
-    ensures { λ r. ⌜ Kept (lent (mk .entry) (mi .entry) (mn .entry) (mr .entry) (mm .entry)) (lent (mk .exit) (mi .exit) (mn .exit) (mr .exit) (mm .exit)) p (p + 64) ⌝ }
-    ensures { λ r. ⌜ ((s t : Sum) → Lies (lent (mk .entry) (mi .entry) (mn .entry) (mr .entry) (mm .entry)) p (p + n) 4 s → Lies (lent (gk .entry) (gi .entry) (gn .entry) (gr .entry) (gm .entry)) i (i + x .inside) 4 t → Agrees r (lent (mk .exit) (mi .exit) (mn .exit) (mr .exit) (mm .exit)) p (formed how x t s)) ⌝ }
-{
-    if !numbers::is_finite(x.num) {
-        return Formed::Refused(Refusal::NotFinite);
-    }
-    let shallow = nests_within(gi, i, x.inside as usize, 3);
-    match find(x, gk, gi, gn, gr, gm, i, mk, mi, mn, mr, mm, p, n, 4) {
-        Found::Same(k) => put_same(how, x, shallow, mk, mi, mn, mr, mm, n, k),
-        Found::Before(k) => put_new(
-            how,
-            x,
-            shallow,
-            gk,
-            gi,
-            gn,
-            gr,
-            gm,
-            i,
-            mk,
-            mi,
-            mn,
-            mr,
-            mm,
-            p,
-            n,
-            k,
-        ),
-    }
 }

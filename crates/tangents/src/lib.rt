@@ -1,6 +1,6 @@
 // The derivative of a power of x, of an exponential, and of sin, cos, sinh and cosh, put into a sum in another book.
-use adds::Constant;
 use cells::Entry;
+use monomials::Constant;
 use sums::Formed;
 use trees::Merge;
 use trees::Refusal;
@@ -78,7 +78,7 @@ pub fn derive_exp(
     requires { ⌜ Ready (lent wk wi wn wr wm) len (lent ak ai an ar am) i n × (1 ≤ n) × (n ≤ 64) ⌝ }
     ensures { λ r. ⌜ Into (lent (wk .entry) (wi .entry) (wn .entry) (wr .entry) (wm .entry)) (lent (wk .exit) (wi .exit) (wn .exit) (wr .exit) (wm .exit)) len (lent (ak .entry) (ai .entry) (an .entry) (ar .entry) (am .entry)) i n r (λ t s. deriveExp x t s) ⌝ }
 {
-    if !adds::is_x(ak, ai, an, ar, am, i, n) {
+    if !monomials::is_x(ak, ai, an, ar, am, i, n) {
         return Formed::Refused(Refusal::TooComplex);
     }
     let y = cells::load(ak, ai, an, ar, am, i);
@@ -131,7 +131,7 @@ pub fn derive_x(
         num: x.num - 1.0,
         coef: calculus::slope(x.num, x.coef),
     };
-    sums::put_block(
+    puts::put_block(
         Merge::Add,
         y,
         ak,

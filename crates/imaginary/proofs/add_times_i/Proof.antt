@@ -12,7 +12,7 @@ use Rattle.trees.specs.Map.{sum, refused}
 use Rattle.terms.specs.Singles.{constant}
 use Rattle.terms.specs.Product.{product}
 use Rattle.sums.specs.Lies.{Lies}
-use Rattle.products.proofs.Lying.{agreed-refused}
+use Rattle.factors.proofs.Lying.{agreed-refused}
 use Rattle.adds.proofs.Lying.{lies-to, lies-copied}
 use Rattle.imaginary.proofs.Laws.{imaginary-finite, Made, made, then-made, then-refused}
 use Rattle.imaginary.proofs.add_times_i.Statement.{statement}

@@ -6,7 +6,7 @@ use Rattle.cells.specs.Book.{Book, book}
 use Rattle.trees.specs.Sums.{Sum}
 use Rattle.terms.specs.Singles.{asConstant}
 use Rattle.sums.specs.Lies.{Lies}
-use Rattle.adds.specs.Reads.{constantOf}
+use Rattle.monomials.specs.Reads.{constantOf}
 use Rattle.powers.specs.declared.Real.{Real}
 use Rattle.powers.specs.Reals.{realOf}
 use Rattle.powers.proofs.Reals.{log-real, log-not, log-head}

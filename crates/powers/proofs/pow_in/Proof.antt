@@ -10,7 +10,7 @@ use Rattle.terms.specs.Singles.{asConstant, isX}
 use Rattle.terms.specs.Power.{isEuler}
 use Rattle.terms.proofs.Steps.{and-both}
 use Rattle.sums.specs.Lies.{Lies}
-use Rattle.adds.specs.Reads.{constantOf}
+use Rattle.monomials.specs.Reads.{constantOf}
 use Rattle.powers.specs.declared.Real.{Real}
 use Rattle.powers.specs.Reals.{realOf, eulerIs}
 use Rattle.powers.proofs.Reals.{euler-is, real-finite, pow-exp, pow-real, pow-not, x-some, exp-head}

@@ -8,8 +8,8 @@ use Rattle.cells.proofs.Laws.{kept-refl}
 use Prim.Native.Nat.{_+_}
 use Rattle.trees.specs.Sums.{Sum}
 use Rattle.terms.specs.Product.{mulable}
-use Rattle.products.proofs.Shapes.{shape-of}
-use Rattle.products.proofs.Laws.{whole, product-able, product-not}
+use Rattle.factors.proofs.Shapes.{shape-of}
+use Rattle.factors.proofs.Laws.{whole, product-able, product-not}
 use Rattle.sums.specs.Lies.{Lies}
 use Rattle.products.proofs.mul.Statement.{statement}
 use Rattle.products.proofs.mul.Tie as tie

@@ -8,7 +8,7 @@ use Rattle.cells.specs.Moves.{SameRoom}
 use Rattle.cells.proofs.Laws.{room-less, same-room-refl, same-room-trans}
 use Rattle.trees.specs.Sums.{Sum}
 use Rattle.sums.specs.Lies.{Lies}
-use Rattle.products.proofs.Lying.{agree-refused}
+use Rattle.factors.proofs.Lying.{agree-refused}
 use Rattle.raising.proofs.Turns.{Turn, base, Raising, So-far, so-far-start, so-far-operands, so-far-stops, so-far-few, so-far-more, raising-room, so-far-done}
 use Rattle.raising.proofs.raise_in.Statement.{statement}
 use Rattle.raising.proofs.raise_in.Tie as tie

@@ -4,7 +4,7 @@ use borrow.Author.Tests.{not-true, not-false}
 use mathlib.Core.Path.{_≡_, refl, sym, _∙_}
 use Rattle.numbers.specs.declared.SmallWhole.{SmallWhole}
 use Rattle.numbers.specs.Numbers.{smallWhole}
-use Rattle.products.proofs.Shapes.{shape-of}
+use Rattle.factors.proofs.Shapes.{shape-of}
 use Rattle.raising.proofs.Whole.{whole-zero, whole-not, whole-big, whole-some}
 use Rattle.raising.proofs.whole_power.Statement.{statement}
 use Rattle.raising.proofs.whole_power.Tie as tie

@@ -1,0 +1,3 @@
+-- The root of factors' definitions.
+pub mod Apart
+pub mod Factors

@@ -1,0 +1,2 @@
+-- The root of monomials' laws.
+pub mod Reading

@@ -1,0 +1,2 @@
+-- The root of monomials' definitions.
+pub mod Reads

@@ -1,0 +1,1 @@
+-- The root of puts' laws: they stand in sums.

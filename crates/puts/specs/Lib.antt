@@ -1,0 +1,1 @@
+-- The root of puts' definitions: they stand in sums.
