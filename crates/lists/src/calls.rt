@@ -1,9 +1,7 @@
 // Calls of an entry on one input: with just the room that its output needs, with more, with a byte less, and on the input less a byte.
-use crate::counts;
 use crate::entries;
 use crate::entries::Answer;
 use crate::entries::Keyword;
-use crate::text;
 ghost use Prim.Native.Nat.{_≤_};
 ghost use lib.ListN.{length};
 
@@ -34,7 +32,7 @@ fn holds(out: &[u8], want: &[u8]) -> bool {
     if out.len() < n {
         return false;
     }
-    if !text::is_start(out, want) {
+    if !texts::is_start(out, want) {
         return false;
     }
     is_untouched(out, n)

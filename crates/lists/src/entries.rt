@@ -1,6 +1,4 @@
 // The entries under test, each with its answer as a stored line has it.
-use crate::counts;
-use crate::text;
 use answers::Numbers;
 ghost use Prim.Native.Nat.{_<_};
 
@@ -28,34 +26,34 @@ pub struct Answer {
 }
 
 pub fn keyword_of(line: &[u8]) -> Keyword {
-    if text::is_keyword(line, b"list") {
+    if texts::is_keyword(line, b"list") {
         return Keyword::List;
     }
-    if text::is_keyword(line, b"sum") {
+    if texts::is_keyword(line, b"sum") {
         return Keyword::Sum;
     }
-    if text::is_keyword(line, b"read") {
+    if texts::is_keyword(line, b"read") {
         return Keyword::Read;
     }
-    if text::is_keyword(line, b"derive") {
+    if texts::is_keyword(line, b"derive") {
         return Keyword::Derive;
     }
-    if text::is_keyword(line, b"integrate") {
+    if texts::is_keyword(line, b"integrate") {
         return Keyword::Integrate;
     }
-    if text::is_keyword(line, b"write 0") {
+    if texts::is_keyword(line, b"write 0") {
         return Keyword::WriteReal;
     }
-    if text::is_keyword(line, b"write 1") {
+    if texts::is_keyword(line, b"write 1") {
         return Keyword::WriteComplex;
     }
-    if text::is_keyword(line, b"derivative") {
+    if texts::is_keyword(line, b"derivative") {
         return Keyword::Derivative;
     }
-    if text::is_keyword(line, b"integral") {
+    if texts::is_keyword(line, b"integral") {
         return Keyword::Integral;
     }
-    if text::is_keyword(line, b"inverse") {
+    if texts::is_keyword(line, b"inverse") {
         return Keyword::Inverse;
     }
     Keyword::Other

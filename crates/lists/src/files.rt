@@ -1,5 +1,4 @@
 // A file, piece by piece: what is left of a piece past its last whole line stands before the next.
-use crate::counts;
 use crate::lines;
 use crate::lines::Held;
 ghost use mathlib.Core.Path.{_≡_};

@@ -1,12 +1,10 @@
 // The lines of a text: an input is held, and the answers after it are replayed on it.
 use crate::calls;
-use crate::counts;
 use crate::entries;
 use crate::entries::Answer;
 use crate::entries::Keyword;
-use crate::text;
-use crate::text::Decoded;
-use crate::text::Number;
+use texts::Decoded;
+use texts::Number;
 ghost use Prim.Native.Nat.{_≤_};
 ghost use lib.ListN.{length};
 
@@ -41,7 +39,7 @@ enum Stored {
 }
 
 fn list_line(line: &[u8], counts: &mut [u64; 64], input: &mut [u8]) -> Held {
-    let decoded = text::decode(line, 4, RECORD, input);
+    let decoded = texts::decode(line, 4, RECORD, input);
     match decoded {
         Decoded::Bytes(n) => {
             counts::note_line(counts, counts::LISTS);
@@ -55,7 +53,7 @@ fn list_line(line: &[u8], counts: &mut [u64; 64], input: &mut [u8]) -> Held {
 }
 
 fn sum_line(line: &[u8], counts: &mut [u64; 64], input: &mut [u8]) -> Held {
-    let decoded = text::decode(line, 3, ENTRY, input);
+    let decoded = texts::decode(line, 3, ENTRY, input);
     match decoded {
         Decoded::Bytes(n) => {
             counts::note_line(counts, counts::SUMS);
@@ -69,11 +67,11 @@ fn sum_line(line: &[u8], counts: &mut [u64; 64], input: &mut [u8]) -> Held {
 }
 
 fn number_place(line: &[u8], at: usize) -> Told {
-    let first = text::number_at(line, at);
+    let first = texts::number_at(line, at);
     let Number::Found(number, i) = first else {
         return Told::Missing;
     };
-    let second = text::number_at(line, i);
+    let second = texts::number_at(line, i);
     let Number::Found(place, j) = second else {
         return Told::Missing;
     };
@@ -102,7 +100,7 @@ fn stored_in(
     want: &mut [u8],
 ) -> Stored {
     let unit = unit_of(k);
-    let decoded = text::decode(line, at, unit, want);
+    let decoded = texts::decode(line, at, unit, want);
     let Decoded::Bytes(n) = decoded else {
         return Stored::Broken;
     };
@@ -124,7 +122,7 @@ fn stored_of(line: &[u8], k: Keyword, want: &mut [u8]) -> Stored {
     let Keyword::Read = k else {
         return stored_in(line, i, k, number, place, 0, want);
     };
-    let third = text::number_at(line, i);
+    let third = texts::number_at(line, i);
     let Number::Found(flag, j) = third else {
         return Stored::Broken;
     };

@@ -1,10 +1,8 @@
 // Replays stored answers: lists and sums, each with the answers of the entries, in the form that vectors/README.md describes.
 mod calls;
-mod counts;
 mod entries;
 mod files;
 mod lines;
-mod text;
 
 fn main() {
     let mut counts = [0u64; 64];

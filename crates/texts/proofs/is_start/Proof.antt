@@ -1,9 +1,9 @@
--- `lists::text::is_start` meets its contract. Assumes nothing.
+-- `texts::is_start` meets its contract. Assumes nothing.
 use Prim.Native.Nat.{_≤_, _-_}
 use lib.ListN.{length}
 use borrow.Author.Needs.{needs}
-use Rattle.lists.proofs.text.is_start.Statement.{statement}
-use Rattle.lists.proofs.text.is_start.Tie as tie
+use Rattle.texts.proofs.is_start.Statement.{statement}
+use Rattle.texts.proofs.is_start.Tie as tie
 
 abbrev Inv-loop : tie.InvT-loop
 Inv-loop bytes start i₀ i = i ≤ length start

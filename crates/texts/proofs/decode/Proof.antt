@@ -1,10 +1,10 @@
--- `lists::text::decode` meets its contract. The loop keeps `to` as long as it was. Assumes nothing.
+-- `texts::decode` meets its contract. The loop keeps `to` as long as it was. Assumes nothing.
 use Prim.Native.Nat.{_≤_, _-_}
 use mathlib.Core.Path.{_≡_}
 use lib.ListN.{length}
 use borrow.Author.Needs.{needs}
-use Rattle.lists.proofs.text.decode.Statement.{statement}
-use Rattle.lists.proofs.text.decode.Tie as tie
+use Rattle.texts.proofs.decode.Statement.{statement}
+use Rattle.texts.proofs.decode.Tie as tie
 
 abbrev Inv-loop : tie.InvT-loop
 Inv-loop line at size to₀ i₀ m₀ to i m = (m ≤ length to) × (length to ≡ length to₀)

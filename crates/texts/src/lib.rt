@@ -1,4 +1,4 @@
-// The parts of a line: a keyword, decimal numbers and hex, with a space before each but the first.
+// The parts of a line of a stored answer: a keyword, decimal numbers and hex, with a space before each but the first.
 ghost use mathlib.Core.Path.{_≡_};
 ghost use Prim.Native.Nat.{_+_, _≤_};
 ghost use lib.ListN.{length};

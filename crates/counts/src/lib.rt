@@ -1,4 +1,4 @@
-// What is counted: a row of eight counters for the lines, and one for each entry.
+// What the replay of stored answers counts: a row of eight counters for the lines, and one for each entry.
 use libc::STDOUT_FILENO;
 ghost use Prim.Native.Nat.{_<_};
 

@@ -1,10 +1,10 @@
--- `lists::text::unit` meets its contract. The loop keeps `to` as long as it was. Assumes nothing.
+-- `texts::unit` meets its contract. The loop keeps `to` as long as it was. Assumes nothing.
 use Prim.Native.Nat.{_≤_, _-_}
 use mathlib.Core.Path.{_≡_}
 use lib.ListN.{length}
 use borrow.Author.Needs.{needs}
-use Rattle.lists.proofs.text.unit.Statement.{statement}
-use Rattle.lists.proofs.text.unit.Tie as tie
+use Rattle.texts.proofs.unit.Statement.{statement}
+use Rattle.texts.proofs.unit.Tie as tie
 
 abbrev Inv-loop : tie.InvT-loop
 Inv-loop line from size to₀ m end₀ k₀ to end k = (k ≤ size) × (length to ≡ length to₀)

@@ -1,9 +1,9 @@
--- `lists::text::digits` meets its contract. Assumes nothing.
+-- `texts::digits` meets its contract. Assumes nothing.
 use Prim.Native.Nat.{_-_}
 use lib.ListN.{length}
 use borrow.Author.Needs.{needs}
-use Rattle.lists.proofs.text.digits.Statement.{statement}
-use Rattle.lists.proofs.text.digits.Tie as tie
+use Rattle.texts.proofs.digits.Statement.{statement}
+use Rattle.texts.proofs.digits.Tie as tie
 
 abbrev Inv-loop : tie.InvT-loop
 Inv-loop line from i₀ n₀ i n = Unit {0}
