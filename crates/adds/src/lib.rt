@@ -91,7 +91,7 @@ pub fn expr_add(
     requires { ⌜ (n ≤ 64) × Held (lent ak ai an ar am) i (i + n) 4 × Held (lent ak ai an ar am) j (j + m) 4 × Room (lent wk wi wn wr wm) 64 ⌝ }
     ensures { λ r. ⌜ ((s t : Sum) → Lies (lent (ak .entry) (ai .entry) (an .entry) (ar .entry) (am .entry)) i (i + n) 4 s → Lies (lent (ak .entry) (ai .entry) (an .entry) (ar .entry) (am .entry)) j (j + m) 4 t → Agrees r (lent (wk .exit) (wi .exit) (wn .exit) (wr .exit) (wm .exit)) 0 (addEach how s t)) ⌝ }
 {
-    cells::copy_in(ak, ai, an, ar, am, i, n, wk, wi, wn, wr, wm, 0);
+    gaps::copy_in(ak, ai, an, ar, am, i, n, wk, wi, wn, wr, wm, 0);
     add_each(how, ak, ai, an, ar, am, j, m, wk, wi, wn, wr, wm, n)
 }
 
@@ -132,6 +132,6 @@ pub fn expr_neg(
     requires { ⌜ (n ≤ 64) × Held (lent ak ai an ar am) i (i + n) 4 × Room (lent wk wi wn wr wm) 64 ⌝ }
     ensures { λ _. ⌜ ((s : Sum) → Lies (lent (ak .entry) (ai .entry) (an .entry) (ar .entry) (am .entry)) i (i + n) 4 s → Lies (lent (wk .exit) (wi .exit) (wn .exit) (wr .exit) (wm .exit)) 0 n 4 (negSum s)) ⌝ }
 {
-    cells::copy_in(ak, ai, an, ar, am, i, n, wk, wi, wn, wr, wm, 0);
+    gaps::copy_in(ak, ai, an, ar, am, i, n, wk, wi, wn, wr, wm, 0);
     neg_each(wk, wi, wn, wr, wm, n);
 }

@@ -38,8 +38,8 @@ pub fn raise(
     requires { ⌜ (k ≤ e) × Space (arena ak ai an ar am az) (e + d) ⌝ }
     ensures { λ _. ⌜ Raised (arena (ak .entry) (ai .entry) (an .entry) (ar .entry) (am .entry) (az .entry)) (arena (ak .exit) (ai .exit) (an .exit) (ar .exit) (am .exit) (az .exit)) k e d ⌝ }
 {
-    cells::open_gap(ak, ai, an, ar, am, k, e, d);
-    cells::slide8(az, k, e, d);
+    gaps::open_gap(ak, ai, an, ar, am, k, e, d);
+    slides::slide8(az, k, e, d);
 }
 
 // n elements are copied down, the lowest first: where the two stretches overlap, each is read before it is written over.
@@ -108,7 +108,7 @@ pub fn push_sum(
     ensures { λ _. ⌜ Outside (arena (ak .entry) (ai .entry) (an .entry) (ar .entry) (am .entry) (az .entry)) (arena (ak .exit) (ai .exit) (an .exit) (ar .exit) (am .exit) (az .exit)) u (u + n) ⌝ }
     ensures { λ _. ⌜ ((s : Sum) → Lies (lent (vk .entry) (vi .entry) (vn .entry) (vr .entry) (vm .entry)) 0 n 4 s → Top (arena (ak .exit) (ai .exit) (an .exit) (ar .exit) (am .exit) (az .exit)) u (u + n) s) ⌝ }
 {
-    cells::copy_in(vk, vi, vn, vr, vm, 0, n, ak, ai, an, ar, am, u);
+    gaps::copy_in(vk, vi, vn, vr, vm, 0, n, ak, ai, an, ar, am, u);
     az[u + n - 1] = n as u8;
 }
 

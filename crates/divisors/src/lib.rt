@@ -222,7 +222,7 @@ fn lay_single(
         coef: Complex::ONE,
     };
     cells::store(lk, li, ln, lr, lm, 0, head);
-    cells::copy_in(
+    gaps::copy_in(
         ak,
         ai,
         an,

@@ -75,7 +75,7 @@ fn last_of(
     if n != env.used {
         return AlgebraData::Refused(Refusal::TooManyOutputs, 0, handled);
     }
-    cells::copy_in(ak, ai, an, ar, am, 0, n, wk, wi, wn, wr, wm, 0);
+    gaps::copy_in(ak, ai, an, ar, am, 0, n, wk, wi, wn, wr, wm, 0);
     AlgebraData::Sum(n, env.complex, handled)
 }
 

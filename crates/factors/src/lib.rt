@@ -115,8 +115,8 @@ fn side_by_side(
     requires { ⌜ (a ≤ 64) × (b ≤ 64) × Room (lent wk wi wn wr wm) (i + a) × Room (lent wk wi wn wr wm) (j + b) × Room (lent tk ti tn tr tm) 192 ⌝ }
     ensures { λ _. ⌜ Beside (lent (wk .entry) (wi .entry) (wn .entry) (wr .entry) (wm .entry)) (lent (tk .exit) (ti .exit) (tn .exit) (tr .exit) (tm .exit)) i a j b ⌝ }
 {
-    cells::copy_in(wk, wi, wn, wr, wm, i, a, tk, ti, tn, tr, tm, 0);
-    cells::copy_in(wk, wi, wn, wr, wm, j, b, tk, ti, tn, tr, tm, 64);
+    gaps::copy_in(wk, wi, wn, wr, wm, i, a, tk, ti, tn, tr, tm, 0);
+    gaps::copy_in(wk, wi, wn, wr, wm, j, b, tk, ti, tn, tr, tm, 64);
 }
 
 // Two Div terms, whose insides are the a cells from i on and the b from j on: the product of the insides is formed in arrays of

@@ -32,7 +32,7 @@ pub fn copied(
     requires { ⌜ (1 ≤ n) × (n ≤ 64) × Held (lent ak ai an ar am) i (i + n) 4 × Room (lent wk wi wn wr wm) 64 ⌝ }
     ensures { λ r. ⌜ ((s : Sum) → Lies (lent (ak .entry) (ai .entry) (an .entry) (ar .entry) (am .entry)) i (i + n) 4 s → Agrees r (lent (wk .exit) (wi .exit) (wn .exit) (wr .exit) (wm .exit)) 0 (sum s)) ⌝ }
 {
-    cells::copy_in(ak, ai, an, ar, am, i, n, wk, wi, wn, wr, wm, 0);
+    gaps::copy_in(ak, ai, an, ar, am, i, n, wk, wi, wn, wr, wm, 0);
     Formed::Done(n)
 }
 
@@ -106,8 +106,8 @@ fn side_by_side(
     requires { ⌜ (n ≤ 64) × (m ≤ 64) × Held (lent ak ai an ar am) i (i + n) 4 × Held (lent ak ai an ar am) j (j + m) 4 × Room (lent tk ti tn tr tm) 192 ⌝ }
     ensures { λ _. ⌜ ((s : Sum) → Lies (lent (ak .entry) (ai .entry) (an .entry) (ar .entry) (am .entry)) i (i + n) 4 s → Lies (lent (tk .exit) (ti .exit) (tn .exit) (tr .exit) (tm .exit)) 0 (0 + n) 4 s) × ((s : Sum) → Lies (lent (ak .entry) (ai .entry) (an .entry) (ar .entry) (am .entry)) j (j + m) 4 s → Lies (lent (tk .exit) (ti .exit) (tn .exit) (tr .exit) (tm .exit)) 64 (64 + m) 4 s) × Room (lent (tk .exit) (ti .exit) (tn .exit) (tr .exit) (tm .exit)) 192 ⌝ }
 {
-    cells::copy_in(ak, ai, an, ar, am, i, n, tk, ti, tn, tr, tm, 0);
-    cells::copy_in(ak, ai, an, ar, am, j, m, tk, ti, tn, tr, tm, 64);
+    gaps::copy_in(ak, ai, an, ar, am, i, n, tk, ti, tn, tr, tm, 0);
+    gaps::copy_in(ak, ai, an, ar, am, j, m, tk, ti, tn, tr, tm, 64);
 }
 
 // The product of the sum of n cells from i on and that of m cells from j on, formed behind copies of both.
@@ -164,7 +164,7 @@ pub fn multiplied(
         128,
     ) {
         Formed::Done(k) => {
-            cells::copy_in(&tk, &ti, &tn, &tr, &tm, 128, k, wk, wi, wn, wr, wm, 0);
+            gaps::copy_in(&tk, &ti, &tn, &tr, &tm, 128, k, wk, wi, wn, wr, wm, 0);
             Formed::Done(k)
         }
         Formed::Refused(r) => Formed::Refused(r),

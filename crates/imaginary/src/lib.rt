@@ -68,7 +68,7 @@ fn add_times_i(
         128,
     ) {
         Formed::Done(k) => {
-            cells::copy_in(
+            gaps::copy_in(
                 ak,
                 ai,
                 an,

@@ -39,7 +39,7 @@ pub fn beside(
         coef: c,
     };
     cells::store(tk, ti, tn, tr, tm, 0, x);
-    cells::copy_in(ak, ai, an, ar, am, i, n, tk, ti, tn, tr, tm, 64);
+    gaps::copy_in(ak, ai, an, ar, am, i, n, tk, ti, tn, tr, tm, 64);
 }
 
 // 1 by the sum of n cells from i on.

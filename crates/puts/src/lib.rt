@@ -101,7 +101,7 @@ fn put_new(
         num: x.num,
         coef: c,
     };
-    cells::insert(e, gk, gi, gn, gr, gm, i, mk, mi, mn, mr, mm, k, p + n);
+    inserts::insert(e, gk, gi, gn, gr, gm, i, mk, mi, mn, mr, mm, k, p + n);
     Formed::Done(m)
 }
 

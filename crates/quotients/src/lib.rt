@@ -199,7 +199,7 @@ fn constant_by(
     let zero = c.is_zero();
     let one = c.is_one();
     if zero {
-        cells::copy_in(ak, ai, an, ar, am, i, n, wk, wi, wn, wr, wm, 0);
+        gaps::copy_in(ak, ai, an, ar, am, i, n, wk, wi, wn, wr, wm, 0);
         return Formed::Done(n);
     }
     if !one {

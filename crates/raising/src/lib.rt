@@ -52,7 +52,7 @@ fn raise_in(
         p = q;
         k = k + 1;
     }
-    cells::copy_in(tk, ti, tn, tr, tm, p, len, wk, wi, wn, wr, wm, 0);
+    gaps::copy_in(tk, ti, tn, tr, tm, p, len, wk, wi, wn, wr, wm, 0);
     Formed::Done(len)
 }
 
@@ -80,7 +80,7 @@ fn raise(
     let mut tn = [0u64; 192];
     let mut tr = [0u64; 192];
     let mut tm = [0u64; 192];
-    cells::copy_in(
+    gaps::copy_in(
         ak,
         ai,
         an,

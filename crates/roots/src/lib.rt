@@ -149,6 +149,6 @@ pub fn root(
     requires { ⌜ (finite e ≡ true) × ((s : Sum) × Rooting (lent ak ai an ar am) i n s) × Room (lent wk wi wn wr wm) 64 ⌝ }
     ensures { λ r. ⌜ ((s : Sum) → Rooting (lent (ak .entry) (ai .entry) (an .entry) (ar .entry) (am .entry)) i n s → Agrees r (lent (wk .exit) (wi .exit) (wn .exit) (wr .exit) (wm .exit)) 0 (rooted e s)) ⌝ }
 {
-    cells::copy_in(ak, ai, an, ar, am, i, n, wk, wi, wn, wr, wm, 0);
+    gaps::copy_in(ak, ai, an, ar, am, i, n, wk, wi, wn, wr, wm, 0);
     root_each(e, wk, wi, wn, wr, wm, n)
 }

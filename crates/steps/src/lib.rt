@@ -139,7 +139,7 @@ pub fn copy_up(
     let mut vn = [0u64; 64];
     let mut vr = [0u64; 64];
     let mut vm = [0u64; 64];
-    cells::copy_in(
+    gaps::copy_in(
         ak,
         ai,
         an,

@@ -37,7 +37,7 @@ pub fn flip(
     let mut vr = [0u64; 64];
     let mut vm = [0u64; 64];
     let i = u - n - m;
-    cells::copy_in(
+    gaps::copy_in(
         ak,
         ai,
         an,

@@ -1,11 +1,11 @@
--- `cells::paste64` meets its contract, by the laws of a paste. Assumes nothing.
+-- `slides::paste64` meets its contract, by the laws of a paste. Assumes nothing.
 use Prim.Native.Nat.{_-_, _≤_}
 use native.Mathlib.Omega.{arith}
 use borrow.Author.Needs.{needs}
 use Rattle.cells.specs.Moves.{Pasted}
 use Rattle.cells.proofs.Lists.{paste-none, paste-more, paste-done}
-use Rattle.cells.proofs.paste64.Statement.{statement}
-use Rattle.cells.proofs.paste64.Tie as tie
+use Rattle.slides.proofs.paste64.Statement.{statement}
+use Rattle.slides.proofs.paste64.Tie as tie
 
 abbrev Inv-loop : tie.InvT-loop
 Inv-loop src i n s₀ k j₀ s j = (j ≤ n) × Pasted src s₀ s i j k

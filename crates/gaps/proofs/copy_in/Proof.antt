@@ -1,9 +1,9 @@
--- `cells::copy_in` meets its contract: five pastes are a copy. Assumes nothing.
+-- `gaps::copy_in` meets its contract: five pastes are a copy. Assumes nothing.
 use borrow.Author.Needs.{needs}
 use native.Mathlib.Omega.{arith}
 use Rattle.cells.proofs.Lists.{copied-of}
-use Rattle.cells.proofs.copy_in.Statement.{statement}
-use Rattle.cells.proofs.copy_in.Tie as tie
+use Rattle.gaps.proofs.copy_in.Statement.{statement}
+use Rattle.gaps.proofs.copy_in.Tie as tie
 
 returns : tie.Need-returns
 returns c =

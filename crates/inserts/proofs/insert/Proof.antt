@@ -1,9 +1,9 @@
--- `cells::insert` meets its contract: a gap is opened, its first cell written, the others copied in. Assumes nothing.
+-- `inserts::insert` meets its contract: a gap is opened, its first cell written, the others copied in. Assumes nothing.
 use borrow.Author.Needs.{needs}
 use native.Mathlib.Omega.{arith}
 use Rattle.cells.proofs.Lists.{inserted-of}
-use Rattle.cells.proofs.insert.Statement.{statement}
-use Rattle.cells.proofs.insert.Tie as tie
+use Rattle.inserts.proofs.insert.Statement.{statement}
+use Rattle.inserts.proofs.insert.Tie as tie
 
 store-requires : tie.Need-store-requires
 store-requires c κs =

@@ -1,8 +1,8 @@
--- `cells::open_gap` meets its contract: five slides are a gap. Assumes nothing.
+-- `gaps::open_gap` meets its contract: five slides are a gap. Assumes nothing.
 use borrow.Author.Needs.{needs}
 use Rattle.cells.proofs.Lists.{gap-of}
-use Rattle.cells.proofs.open_gap.Statement.{statement}
-use Rattle.cells.proofs.open_gap.Tie as tie
+use Rattle.gaps.proofs.open_gap.Statement.{statement}
+use Rattle.gaps.proofs.open_gap.Tie as tie
 
 returns : tie.Need-returns
 returns c =

@@ -1,11 +1,11 @@
--- `cells::slide64` meets its contract, by the laws of a slide. Assumes nothing.
+-- `slides::slide64` meets its contract, by the laws of a slide. Assumes nothing.
 use Prim.Native.Nat.{_≤_}
 use native.Mathlib.Omega.{arith}
 use borrow.Author.Needs.{needs}
 use Rattle.cells.specs.Moves.{Slid}
 use Rattle.cells.proofs.Lists.{slide-none, slide-more, slide-done}
-use Rattle.cells.proofs.slide64.Statement.{statement}
-use Rattle.cells.proofs.slide64.Tie as tie
+use Rattle.slides.proofs.slide64.Statement.{statement}
+use Rattle.slides.proofs.slide64.Tie as tie
 
 abbrev Inv-loop : tie.InvT-loop
 Inv-loop s₀ k e d j₀ s j = (k ≤ j) × (j ≤ e) × Slid s₀ s j e d

@@ -1,0 +1,1 @@
+-- The root of gaps' laws: they stand in cells.

@@ -1,0 +1,1 @@
+-- The root of gaps' definitions: they stand in cells.

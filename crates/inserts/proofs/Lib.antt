@@ -1,0 +1,1 @@
+-- The root of inserts' laws: they stand in cells.

@@ -1,0 +1,1 @@
+-- The root of inserts' definitions: they stand in cells.

@@ -1,0 +1,1 @@
+-- The root of slides' laws: they stand in cells.

@@ -1,0 +1,1 @@
+-- The root of slides' definitions: they stand in cells.
