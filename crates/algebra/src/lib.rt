@@ -63,7 +63,7 @@ fn read_sum(
     requires { ⌜ Room (lent wk wi wn wr wm) 64 ⌝ }
     ensures { λ r. ⌜ DataAs r (lent (wk .exit) (wi .exit) (wn .exit) (wr .exit) (wm .exit)) (readList (now (list .entry))) ⌝ }
 {
-    match records::check(list) {
+    match verdicts::check(list) {
         Verdict::Refused(q) => AlgebraData::Refused(q, 0, false),
         Verdict::Good => env::nodes_expr(list, wk, wi, wn, wr, wm),
     }

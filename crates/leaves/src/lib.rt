@@ -33,7 +33,7 @@ fn apply(
     requires { ⌜ Ready (arena ak ai an ar am az) v env ⌝ }
     ensures { λ r. ⌜ Does (arena (ak .entry) (ai .entry) (an .entry) (ar .entry) (am .entry) (az .entry)) (arena (ak .exit) (ai .exit) (an .exit) (ar .exit) (am .exit) (az .exit)) v env r (λ st. taking at (row (primitiveOf code) .taken) st (leaves at (1024 - v) (primitiveOf code))) ⌝ }
 {
-    let taken = records::taken(code);
+    let taken = tables::taken(code);
     if taken == 0 {
         return steps::halt(Refusal::NotSupported, at, ak, ai, an, ar, am, az, env);
     }
@@ -61,7 +61,7 @@ pub fn primitive(
 {
     let p = records::primitive_of(code);
     let complex = records::primitive_no(p) == records::primitive_no(Primitive::Complex);
-    let handled = records::handled(code);
+    let handled = tables::handled(code);
     let r = apply(code, at, ak, ai, an, ar, am, az, v, env);
     steps::finish(r, handled, complex)
 }

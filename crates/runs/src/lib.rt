@@ -198,7 +198,7 @@ fn run_nodes(list: &[u8], x: f64) -> RunAnswer
 pub fn run(list: &[u8], x: f64) -> RunAnswer
     ensures { λ r. ⌜ r ≡ runList (now (list .entry)) x ⌝ }
 {
-    match records::check(list) {
+    match verdicts::check(list) {
         Verdict::Refused(q) => RunAnswer::Refused(q, 0),
         Verdict::Good => {
             if !numbers::is_finite(x) {

@@ -140,7 +140,7 @@ pub fn one_operand(
         return steps::short(at, env);
     }
     let n = arena::top_size(az, 0, used);
-    let left = records::left(code);
+    let left = tables::left(code);
     if left == 0 {
         return Ran::Went(AlgebraEnv {
             used: used - n,

@@ -99,7 +99,7 @@ fn two_leave(
     ensures { λ r. ⌜ Does (arena (ak .entry) (ai .entry) (an .entry) (ar .entry) (am .entry) (az .entry)) (arena (ak .exit) (ai .exit) (an .exit) (ar .exit) (am .exit) (az .exit)) v env r (λ st. taking at 2 st (leaves at (1024 - v) (primitiveOf code))) ⌝ }
 {
     let used = env.used;
-    let left = records::left(code);
+    let left = tables::left(code);
     if left == 1 {
         return form_pair(code, at, n, m, ak, ai, an, ar, am, az, v, env);
     }

@@ -1,0 +1,1 @@
+-- The root of fields' laws: they stand in records.

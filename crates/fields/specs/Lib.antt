@@ -1,0 +1,1 @@
+-- The root of fields' definitions: they stand in records.

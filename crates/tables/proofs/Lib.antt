@@ -1,0 +1,1 @@
+-- The root of tables' laws: they stand in records.

@@ -1,0 +1,1 @@
+-- The root of tables' definitions: they stand in records.

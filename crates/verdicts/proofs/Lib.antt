@@ -1,0 +1,1 @@
+-- The root of verdicts' laws: they stand in records.

@@ -1,0 +1,1 @@
+-- The root of verdicts' definitions: they stand in records.
