@@ -20,12 +20,12 @@ fn larger(a: usize, b: usize) -> usize
 // The shape of the records from `from` up to `to`, where the height of what lies inside each is known.
 fn stretch_shape(
     list: &[u8],
-    heights: &[usize; 2048],
+    heights: &[usize],
     from: usize,
     to: usize,
     bodies: bool,
 ) -> Shape
-    requires { ⌜ (from ≤ to) × (24 * to ≤ length (now list)) × (to ≤ 2048) ⌝ }
+    requires { ⌜ (from ≤ to) × (24 * to ≤ length (now list)) × (to ≤ 2048) × (to ≤ length (now heights)) ⌝ }
     requires { ⌜ Measured (now list) (now heights) from to ⌝ }
     ensures { λ r. ⌜ r ≡ shapeOf bodies (forest (now (list .entry)) from to) ⌝ }
 {
@@ -42,14 +42,13 @@ fn stretch_shape(
     Shape::Tall(tall)
 }
 
-// The shape of the first `n` records. What lies inside a record comes after it, so the heights are found from the last record to the first.
+// The shape of the first `n` records, with room for their heights. What lies inside a record comes after it, so the heights are found from the last record to the first.
 // Once a height is known no record in that stretch reaches past its end, so each record is met in one stretch only, and is
 // read at most twice.
-fn shape_of(list: &[u8], n: usize) -> Shape
-    requires { ⌜ (24 * n ≤ length (now list)) × (n ≤ 2048) ⌝ }
+fn shape_in(list: &[u8], n: usize, heights: &mut [usize]) -> Shape
+    requires { ⌜ (24 * n ≤ length (now list)) × (n ≤ 2048) × (n ≤ length (now heights)) ⌝ }
     ensures { λ r. ⌜ r ≡ shapeOf false (forest (now (list .entry)) 0 n) ⌝ }
 {
-    let mut heights = [0usize; 2048];
     let mut i = n;
     while 0 < i {
         i = i - 1;
@@ -60,7 +59,7 @@ fn shape_of(list: &[u8], n: usize) -> Shape
         }
         let inner = stretch_shape(
             list,
-            &heights,
+            heights,
             i + 1,
             next,
             records::is_a(r.kind, Kind::Modifier),
@@ -70,7 +69,20 @@ fn shape_of(list: &[u8], n: usize) -> Shape
         };
         heights[i] = h;
     }
-    stretch_shape(list, &heights, 0, n, false)
+    stretch_shape(list, heights, 0, n, false)
+}
+
+// The shape of the first `n` records. A short list has room for few heights, since clearing room for all costs more than the rest.
+fn shape_of(list: &[u8], n: usize) -> Shape
+    requires { ⌜ (24 * n ≤ length (now list)) × (n ≤ 2048) ⌝ }
+    ensures { λ r. ⌜ r ≡ shapeOf false (forest (now (list .entry)) 0 n) ⌝ }
+{
+    if n <= 64 {
+        let mut few = [0usize; 64];
+        return shape_in(list, n, &mut few);
+    }
+    let mut heights = [0usize; 2048];
+    shape_in(list, n, &mut heights)
 }
 
 fn judged(list: &[u8]) -> Verdict

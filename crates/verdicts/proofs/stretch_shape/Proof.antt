@@ -21,22 +21,22 @@ abbrev μ : tie.MeasureT-loop
 
 bad : tie.Need-returns Inv μ
 bad c =
-    let a = c .before .before .before .before .before .before .args in
+    let a = c .before .before .before .before .before .before .before .args in
     let l = c .before .before .before .before .loop in
     let r = c .before .before .record-at in
     sym (l .inv .1 ∙ ap (joinAt (l .tall)) (turn-bad (a .bodies) (a .list .now) (l .at) (a .to) (r .result) (omega arith) (r .ensures .0) (sym (c .before .may-stand .ensures) ∙ not-true _ (c .if1 .taken))))
 
 tall-fits : tie.Need-add-larger Inv μ
 tall-fits c =
-    let a = c .before .before .before .before .before .before .before .args in
+    let a = c .before .before .before .before .before .before .before .before .args in
     let l = c .before .before .before .before .before .loop in
     let r = c .before .before .before .record-at in
     let e : r .result .inside ≡ recAt (a .list .now) (l .at) .inside = ap (λ (x : Record). x .inside) (r .ensures .0) in
-    omega (arith, tall-least (isA (recAt (a .list .now) (l .at)) Modifier) (a .list .now) (l .at + 1) (nextOf (a .list .now) (l .at)) (getD (a .heights .now) (l .at) 0) (c .before .before .before .before .before .before .before .pre .1 (l .at) (l .inv .0) (omega arith)))
+    omega (arith, tall-least (isA (recAt (a .list .now) (l .at)) Modifier) (a .list .now) (l .at + 1) (nextOf (a .list .now) (l .at)) (getD (a .heights .now) (l .at) 0) (c .before .before .before .before .before .before .before .before .pre .1 (l .at) (l .inv .0) (omega arith)))
 
 again : tie.Need-loop-again Inv μ
 again c =
-    let a = c .before .before .before .before .before .before .before .before .before .args in
+    let a = c .before .before .before .before .before .before .before .before .before .before .args in
     let l = c .before .before .before .before .before .before .before .loop in
     let r = c .before .before .before .before .before .record-at in
     let h : ℕ = getD (a .heights .now) (l .at) 0 in
@@ -44,7 +44,7 @@ again c =
       omega arith,
       l .inv .1
           ∙ ap (joinAt (l .tall))
-          (turn-good (a .bodies) (a .list .now) (l .at) (a .to) (r .result) (omega arith) (r .ensures .0) h (sym (c .before .before .before .before .may-stand .ensures) ∙ not-false _ (c .before .before .before .if1 .left)) (c .before .before .before .before .before .before .before .before .before .pre .1 (l .at) (l .inv .0) (omega arith)))
+          (turn-good (a .bodies) (a .list .now) (l .at) (a .to) (r .result) (omega arith) (r .ensures .0) h (sym (c .before .before .before .before .may-stand .ensures) ∙ not-false _ (c .before .before .before .if1 .left)) (c .before .before .before .before .before .before .before .before .before .before .pre .1 (l .at) (l .inv .0) (omega arith)))
           ∙ join-join (l .tall) (h + 1) y
           ∙ ap (λ m. joinAt m y) (sym (c .before .larger .ensures)),
     )
@@ -52,7 +52,7 @@ again c =
 done : tie.Need-returns-2 Inv μ
 done c =
     let l = c .before .loop in
-    let a = c .before .before .before .args in
+    let a = c .before .before .before .before .args in
     sym (l .inv .1 ∙ ap (joinAt (l .tall)) (shape-none (a .bodies) (a .list .now) (l .at) (a .to) (omega arith)) ∙ ap Tall (omega arith))
 
 pub stretch-shape-spec : {M : Type 1} → statement M

@@ -1,25 +1,25 @@
 -- The loop's invariant: of the records from i on the heights are known. Assumes nothing.
-use mathlib.Core.Path.{_≡_, ap, _∙_, sym}
+use mathlib.Core.Path.{_≡_, refl, ap, _∙_, sym}
 use Prim.Native.Nat.{ℕ, _+_, _-_, _≤_}
 use native.Mathlib.Omega.{arith}
-use lib.ListN.{length, length-set, length-replicate}
+use lib.ListN.{length, length-set}
 use borrow.Author.Needs.{needs}
 use Rattle.records.specs.Measure.{Measured}
 use Rattle.records.specs.declared.Record.{Record}
 use Rattle.records.specs.declared.Shape.the-variants.{Bad, Tall}
 use Rattle.records.proofs.Heights.{measured-more, too-long, bad-inside, inner-shape}
-use Rattle.verdicts.proofs.shape_of.Statement.{statement}
-use Rattle.verdicts.proofs.shape_of.Tie as tie
+use Rattle.verdicts.proofs.shape_in.Statement.{statement}
+use Rattle.verdicts.proofs.shape_in.Tie as tie
 
 abbrev Inv : tie.InvT-loop
-Inv list n heights₀ i₀ heights i = (i ≤ n) × (length heights ≡ 2048) × Measured list heights i n
+Inv list n heights₀ i₀ heights i = (i ≤ n) × (length heights ≡ length heights₀) × Measured list heights i n
 
 abbrev μ : tie.MeasureT-loop
 μ list n heights₀ i₀ heights i = i
 
 ends-late : tie.Need-returns Inv μ
 ends-late c =
-    let a = c .before .before .before .before .before .before .args in
+    let a = c .before .before .before .before .before .before .before .args in
     let i : ℕ = c .before .before .before .before .loop .i - 1 in
     let e = ap (λ (x : Record). x .inside) (c .before .before .record-at .ensures .0) in
     sym (too-long (a .list .now) i (a .n) (omega arith) (omega arith))
@@ -29,14 +29,14 @@ inner-requires c κs = (omega arith, λ j h k. c .before .before .before .before
 
 bad : tie.Need-returns-2 Inv μ
 bad c =
-    let a = c .before .before .before .before .before .before .before .before .before .before .before .args in
+    let a = c .before .before .before .before .before .before .before .before .before .before .before .before .args in
     let r = c .before .before .before .before .before .before .before .record-at in
     let i : ℕ = c .before .before .before .before .before .before .before .before .before .loop .i - 1 in
     sym (bad-inside (a .list .now) i (a .n) (omega arith) (inner-shape (a .list .now) i (r .result) (c .before .before .before .is-a .result) (c .before .before .stretch-shape .result) Bad (r .ensures .0) (c .before .before .before .is-a .ensures) (c .before .before .stretch-shape .ensures) (c .enum-told .given .1)))
 
 again : tie.Need-loop-again Inv μ
 again c =
-    let a = c .before .before .before .before .before .before .before .before .before .before .before .before .args in
+    let a = c .before .before .before .before .before .before .before .before .before .before .before .before .before .args in
     let l = c .before .before .before .before .before .before .before .before .before .before .loop in
     let r = c .before .before .before .before .before .before .before .before .record-at in
     let i : ℕ = l .i - 1 in
@@ -47,28 +47,31 @@ again c =
       measured-more (a .list .now) (l .heights) i (a .n) (g .0 .0) (omega arith) (inner-shape (a .list .now) i (r .result) (c .before .before .before .before .is-a .result) (c .before .before .before .stretch-shape .result) (Tall (g .0 .0)) (r .ensures .0) (c .before .before .before .before .is-a .ensures) (c .before .before .before .stretch-shape .ensures) (g .1)) (rw q (l .inv .2)),
     )
 
-pub shape-of-spec : {M : Type 1} → statement M
-shape-of-spec =
+pub shape-in-spec : {M : Type 1} → statement M
+shape-in-spec =
     tie.close
     (tie.spec
     Inv
     μ
-    (λ c. (omega arith, length-replicate {A = ℕ} 2048 0, λ j h k. absurd (omega arith)))
+    (λ c. (omega arith, refl, λ j h k. absurd (omega arith)))
     (λ c. omega arith)
     (λ c κs. omega arith)
     (λ c. omega arith)
     (λ c. omega arith)
     (λ c. omega arith)
+    (λ c. search needs)
     ends-late
     (λ c. omega arith)
     (λ c κs. tt)
     inner-requires
     (λ c. search needs)
     (λ c. search needs)
+    (λ c. search needs)
     bad
-    (λ c. omega arith)
+    (λ c. search needs)
     (λ c. omega arith)
     (λ c. omega arith)
     again
     (λ c κs. (omega arith, λ j h k. c .before .before .loop .inv .2 j (omega arith) k))
+    (λ c. search needs)
     (λ c. c .stretch-shape2 .ensures))
