@@ -1,5 +1,4 @@
 // A number, given by its bits, put on the stack as a constant; a complex one sets the flag.
-use complex::Complex;
 use steps::AlgebraEnv;
 use steps::Ran;
 use trees::Refusal;
@@ -10,7 +9,7 @@ ghost use Rattle.steps.specs.State.{went, andThen, push};
 ghost use Rattle.steps.specs.Steps.{constantOf, flagged};
 ghost use Rattle.steps.specs.Agree.{Ready, Does};
 
-// A number, given by its bits, is put on the stack.
+// A number, given by its bits, is put on the stack. It is a sum of one cell as it is, so nothing is formed.
 pub fn push_number(
     re: u64,
     im: u64,
@@ -30,24 +29,19 @@ pub fn push_number(
     if !(checks::finite_bits(re) & checks::finite_bits(im)) {
         return steps::halt(Refusal::NotFinite, at, ak, ai, an, ar, am, az, env);
     }
-    let mut vk = [0u8; 64];
-    let mut vi = [0u8; 64];
-    let mut vn = [0u64; 64];
-    let mut vr = [0u64; 64];
-    let mut vm = [0u64; 64];
-    let c = Complex {
-        re: f64::from_bits(re),
-        im: f64::from_bits(im),
-    };
-    let f = monomials::constant_sum(c, &mut vk, &mut vi, &mut vn, &mut vr, &mut vm);
-    steps::push_formed(
-        f,
+    let kinds = [trees::X];
+    let insides = [0u8; 1];
+    let nums = [0u64; 1];
+    let res = [re];
+    let ims = [im];
+    steps::push_cells(
+        1,
         at,
-        &vk,
-        &vi,
-        &vn,
-        &vr,
-        &vm,
+        &kinds,
+        &insides,
+        &nums,
+        &res,
+        &ims,
         ak,
         ai,
         an,

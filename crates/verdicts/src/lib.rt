@@ -18,13 +18,7 @@ fn larger(a: usize, b: usize) -> usize
 }
 
 // The shape of the records from `from` up to `to`, where the height of what lies inside each is known.
-fn stretch_shape(
-    list: &[u8],
-    heights: &[usize],
-    from: usize,
-    to: usize,
-    bodies: bool,
-) -> Shape
+fn stretch_shape(list: &[u8], heights: &[usize], from: usize, to: usize, bodies: bool) -> Shape
     requires { ⌜ (from ≤ to) × (24 * to ≤ length (now list)) × (to ≤ 2048) × (to ≤ length (now heights)) ⌝ }
     requires { ⌜ Measured (now list) (now heights) from to ⌝ }
     ensures { λ r. ⌜ r ≡ shapeOf bodies (forest (now (list .entry)) from to) ⌝ }

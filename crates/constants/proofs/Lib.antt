@@ -1,0 +1,2 @@
+-- The root of constants' laws.
+pub mod Lying
