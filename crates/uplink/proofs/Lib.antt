@@ -1,0 +1,2 @@
+-- The root of uplink's laws.
+pub mod Telling

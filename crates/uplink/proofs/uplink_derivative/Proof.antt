@@ -1,0 +1,13 @@
+-- The entry's answer, told. Assumes nothing.
+use mathlib.Core.Path.{refl}
+use borrow.Author.Needs.{needs}
+use Rattle.demands.specs.Demands as entry
+use Rattle.uplink.proofs.Telling.{told-count}
+use Rattle.uplink.proofs.uplink_derivative.Statement.{statement}
+use Rattle.uplink.proofs.uplink_derivative.Tie as tie
+
+returns : tie.Need-returns
+returns c = told-count entry.derivative (c .before .before .before .before .derivative .result) (c .before .answer-numbers .ensures) (c .before .before .before .before .derivative .result, refl, c .before .before .before .before .derivative .ensures)
+
+pub uplink-derivative-spec : {M : Type 1} → statement M
+uplink-derivative-spec = tie.close (tie.spec (λ c κs. search needs) (λ c κs. search needs) (λ c. search needs) returns)

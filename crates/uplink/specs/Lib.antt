@@ -1,0 +1,2 @@
+-- The root of uplink's definitions.
+pub mod Told

@@ -1,0 +1,33 @@
+-- What a C function tells of an entry's answer.
+use Prim.Native.Nat.{ℕ}
+use mathlib.Core.Path.{_≡_}
+use mathlib.Core.Bool.{cond}
+use mathlib.Core.List.{List, [], _∷_}
+use lib.Ieee.{Float}
+use Rattle.demands.specs.Demands.{Entry, Reply, Promised}
+use Rattle.demands.specs.Demands as entry
+
+-- what stands in `answer`
+abbrev pub withCount : Reply → List ℕ
+withCount r = r .place ∷ r .count ∷ []
+
+abbrev pub withFlag : Reply → List ℕ
+withFlag r = r .place ∷ r .count ∷ cond (r .flag) 1 0 ∷ []
+
+abbrev pub withSteps : Reply → List ℕ
+withSteps r = r .place ∷ r .steps ∷ r .peak ∷ []
+
+-- the entry's promise allows a reply, whose number is returned and whose place and counts stand in `answer`
+pub record Told (e : Entry) (shown : Reply → List ℕ) (l out out′ : List ℕ) (number : ℕ) (answer : List ℕ) : Type 0 where
+  pub reply : Reply
+  pub promised : Promised e l out out′ reply
+  pub returned : number ≡ reply .number
+  pub told : answer ≡ shown reply
+
+-- run has no output; its value stands apart
+pub record Ran (x : Float) (l : List ℕ) (number : ℕ) (value : Float) (answer : List ℕ) : Type 0 where
+  pub reply : Reply
+  pub promised : Promised (entry.run x) l [] [] reply
+  pub returned : number ≡ reply .number
+  pub valued : value ≡ reply .value
+  pub told : answer ≡ withSteps reply

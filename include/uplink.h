@@ -1,0 +1,164 @@
+/* Uplink: the algebra of dive formulas, as C functions over bytes.
+ *
+ * A list is node records of 24 bytes, a sum is entries of 32 bytes, both without a header and
+ * little-endian; docs/FORMATS.md has every field. Every byte list and every number gets a result
+ * or one refusal, and nothing is asked of the caller but that each pointer be good for the length
+ * that goes with it. A length of 0 is fine; its pointer is not read through.
+ *
+ * Each function returns UPLINK_DONE or the number of a refusal. On a refusal the counts are zero
+ * and no byte of `sum` or `out` is changed; on success bytes past what was written stay as they
+ * were. Input and output must not overlap.
+ *
+ * The functions keep no state, allocate nothing and may be called from several threads at once.
+ */
+#ifndef UPLINK_H
+#define UPLINK_H
+
+#include <stddef.h>
+#include <stdint.h>
+
+#ifdef __cplusplus
+extern "C" {
+#endif
+
+/* What comes back. */
+enum uplink_number {
+    UPLINK_DONE = 0,
+    UPLINK_TOO_MANY_VARIABLES = 1, /* a pop finds nothing */
+    UPLINK_NOT_SUPPORTED = 2,      /* a kind, primitive or modifier that isn't handled */
+    UPLINK_NO_OUTPUT = 3,          /* nothing is left at the end */
+    UPLINK_TOO_MANY_OUTPUTS = 4,   /* several are left at the end */
+    UPLINK_NON_SCALAR = 5,         /* an array push */
+    UPLINK_NON_REAL = 6,           /* a push of something else; in the run anything complex */
+    UPLINK_TOO_COMPLEX = 7,        /* outside of what the algebra expresses */
+    UPLINK_INTERPRETER_BUG = 8,    /* a modifier with the wrong number of bodies */
+    UPLINK_NO_INVERSE = 9,         /* a custom inverse without a normal form */
+    UPLINK_NOT_HANDLED = 10,       /* inverse: too little arithmetic to invert */
+    UPLINK_BAD_RECORD = 11,        /* the bytes are no list, or no sum */
+    UPLINK_NO_ROOM = 12,           /* a sum, the stack, or what is held grows too large */
+    UPLINK_TOO_DEEP = 13,          /* nested too deep */
+    UPLINK_NEEDS_MATH = 14,        /* a power, log or root outside of the exact cases */
+    UPLINK_NOT_FINITE = 15,        /* a number that isn't finite, given or formed */
+    UPLINK_BIG_POWER = 16,         /* a sum raised to a whole number above 64 */
+    UPLINK_OUTPUT_ROOM = 17        /* the output lent is too short */
+};
+
+/* Sizes in bytes, and the most there can be. A buffer of UPLINK_LIST_BYTES takes every list, one of
+ * UPLINK_SUM_BYTES every sum. */
+enum {
+    UPLINK_RECORD_BYTES = 24,
+    UPLINK_ENTRY_BYTES = 32,
+    UPLINK_MOST_RECORDS = 2048,
+    UPLINK_MOST_ENTRIES = 64,
+    UPLINK_LIST_BYTES = UPLINK_MOST_RECORDS * UPLINK_RECORD_BYTES,
+    UPLINK_SUM_BYTES = UPLINK_MOST_ENTRIES * UPLINK_ENTRY_BYTES
+};
+
+/* A node record. On a little-endian machine a list is an array of these; unused fields are zero. */
+struct uplink_record {
+    uint8_t kind;    /* enum uplink_kind */
+    uint8_t code;    /* enum uplink_primitive or uplink_modifier, for those two kinds */
+    uint8_t args;    /* a body's argument count */
+    uint8_t zero;
+    uint32_t inside; /* how many following records lie inside */
+    double re;       /* the number of a push */
+    double im;       /* of a complex push */
+};
+
+enum uplink_kind {
+    UPLINK_REAL = 1,
+    UPLINK_COMPLEX = 2,
+    UPLINK_ARRAY = 3,
+    UPLINK_OTHER = 4,
+    UPLINK_PRIMITIVE = 5,
+    UPLINK_MODIFIER = 6,
+    UPLINK_BODY = 7,
+    UPLINK_RUN = 8,
+    UPLINK_CUSTOM_INVERSE = 9, /* with its normal form inside */
+    UPLINK_OBVERSE = 10,
+    UPLINK_CUSTOM_INVERSE_ALONE = 11,
+    UPLINK_UNDER_MARKER = 12,
+    UPLINK_ANYTHING_ELSE = 13
+};
+
+enum uplink_primitive {
+    UPLINK_IDENTITY = 1, UPLINK_POP = 2, UPLINK_DUP = 3, UPLINK_FLIP = 4,
+    UPLINK_NEG = 5, UPLINK_NOT = 6, UPLINK_SQRT = 7, UPLINK_ADD = 8,
+    UPLINK_SUB = 9, UPLINK_MUL = 10, UPLINK_DIV = 11, UPLINK_POW = 12,
+    UPLINK_EXP = 13, UPLINK_SIN = 14, UPLINK_COS = 15, UPLINK_RECIPROCAL = 16,
+    UPLINK_COMPLEX_OF = 17,
+    UPLINK_MAX = 18, UPLINK_SINH = 19, UPLINK_COSH = 20, /* only written */
+    UPLINK_EXP2 = 32, UPLINK_EXP10 = 33, UPLINK_LOG = 34, UPLINK_LN = 35,
+    UPLINK_LOG2 = 36, UPLINK_LOG10 = 37, UPLINK_OVER = 38,
+    UPLINK_ROOT = 39 /* only written */
+};
+
+enum uplink_modifier {
+    UPLINK_DIP = 1, UPLINK_GAP = 2, UPLINK_ON = 3, UPLINK_BY = 4,
+    UPLINK_BOTH = 5, UPLINK_BRACKET = 6, UPLINK_FORK = 7
+};
+
+/* A sum entry: a term with its coefficient. Each level is in strictly rising order. */
+struct uplink_entry {
+    uint8_t kind;    /* enum uplink_term */
+    uint8_t zero[3];
+    uint32_t inside; /* how many following entries lie inside */
+    double number;   /* the power of an X, the base of a Log, else 0 */
+    double re;       /* the coefficient */
+    double im;
+};
+
+enum uplink_term {
+    UPLINK_TERM_X = 1, UPLINK_TERM_DIV = 2, UPLINK_TERM_LOG = 3, UPLINK_TERM_EXP = 4,
+    UPLINK_TERM_SIN = 5, UPLINK_TERM_COS = 6, UPLINK_TERM_SINH = 7, UPLINK_TERM_COSH = 8
+};
+
+/* Place: the record that refused while a list was read or run, else 0. */
+struct uplink_answer {
+    uint64_t place;
+    uint64_t count; /* entries or records written */
+};
+
+struct uplink_read_answer {
+    uint64_t place;
+    uint64_t count;   /* entries written */
+    uint64_t complex; /* 1 where a complex step was met, else 0 */
+};
+
+struct uplink_run_answer {
+    uint64_t place;
+    uint64_t steps; /* records run */
+    uint64_t peak;  /* the most values on the stack and held at once */
+};
+
+/* From a list to the sum that it stands for. */
+uint64_t uplink_read(const uint8_t *list, size_t list_bytes, uint8_t *sum, size_t sum_bytes,
+                     struct uplink_read_answer *answer);
+
+/* The derivative and the integral of a sum. */
+uint64_t uplink_derive(const uint8_t *sum, size_t sum_bytes, uint8_t *out, size_t out_bytes,
+                       struct uplink_answer *answer);
+uint64_t uplink_integrate(const uint8_t *sum, size_t sum_bytes, uint8_t *out, size_t out_bytes,
+                          struct uplink_answer *answer);
+
+/* A sum as a list; `complex` is the flag that read answered (0 is false, all else true). */
+uint64_t uplink_write(const uint8_t *sum, size_t sum_bytes, uint8_t complex, uint8_t *out,
+                      size_t out_bytes, struct uplink_answer *answer);
+
+/* From a list to the list of its derivative, of its integral, or of what undoes it. */
+uint64_t uplink_derivative(const uint8_t *list, size_t list_bytes, uint8_t *out, size_t out_bytes,
+                           struct uplink_answer *answer);
+uint64_t uplink_integral(const uint8_t *list, size_t list_bytes, uint8_t *out, size_t out_bytes,
+                         struct uplink_answer *answer);
+uint64_t uplink_inverse(const uint8_t *list, size_t list_bytes, uint8_t *out, size_t out_bytes,
+                        struct uplink_answer *answer);
+
+/* The value of a list at x; +0 when refused. */
+uint64_t uplink_run(const uint8_t *list, size_t list_bytes, double x, double *value,
+                    struct uplink_run_answer *answer);
+
+#ifdef __cplusplus
+}
+#endif
+
+#endif
