@@ -1,0 +1,145 @@
+//! The eight entries over bytes, with the caller's buffers: nothing is allocated.
+//!
+//! A buffer of [`SUM_BYTES`](crate::SUM_BYTES) has room for any sum and one of [`LIST_BYTES`](crate::LIST_BYTES) for any list. A refusal changes no byte
+//! of it; a result is written to its front, and the bytes behind that stay as they were.
+//!
+//! ```
+//! use uplink::{bytes, LIST_BYTES, RECORD_BYTES};
+//!
+//! // Dup, Mul: x squared
+//! let mut list = [0; 2 * RECORD_BYTES];
+//! list[..2].copy_from_slice(&[5, 3]);
+//! list[RECORD_BYTES..][..2].copy_from_slice(&[5, 10]);
+//!
+//! let mut room = [0; LIST_BYTES];
+//! let derivative = bytes::derivative(&list, &mut room)?;
+//! assert_eq!(derivative.len(), 2 * RECORD_BYTES); // push 2, Mul
+//! assert_eq!(bytes::run(derivative, 1.5)?.value, 3.0);
+//! # Ok::<(), uplink::Refused>(())
+//! ```
+
+use crate::{ffi, Refusal, Refused, ENTRY_BYTES, RECORD_BYTES};
+
+/// A sum that was read.
+#[derive(Debug, Clone, Copy, PartialEq, Eq)]
+pub struct ReadSum<'a> {
+    /// Its entries, at the front of what was lent.
+    pub sum: &'a [u8],
+    /// Whether a complex step was met on the way.
+    pub is_complex: bool,
+}
+
+/// The value of a list at x.
+#[derive(Debug, Clone, Copy, PartialEq)]
+pub struct Ran {
+    pub value: f64,
+    /// How many records were run, bodies included.
+    pub steps: u64,
+    /// The most values that there were at once, on the stack and held.
+    pub peak: u64,
+}
+
+/// The refusal with this number, unless the number says that all is done.
+fn checked(number: u64, place: u64) -> Result<(), Refused> {
+    if number == 0 {
+        return Ok(());
+    }
+    let refusal = Refusal::from_number(number).expect("the library returns 0 to 17");
+    Err(Refused {
+        refusal,
+        place: size(place),
+    })
+}
+
+/// A place or a count: it is of records or entries in memory.
+fn size(number: u64) -> usize {
+    usize::try_from(number).expect("a place or a count fits")
+}
+
+fn written(
+    out: &mut [u8],
+    each: usize,
+    (number, [place, count]): (u64, ffi::Answer),
+) -> Result<&[u8], Refused> {
+    checked(number, place)?;
+    Ok(&out[..size(count) * each])
+}
+
+/// From a list to the sum that it stands for.
+///
+/// Both inside Both, many times over, doubles the steps at each level, and no limit is set on them.
+///
+/// # Errors
+/// Any refusal but NotHandled.
+pub fn read<'a>(list: &[u8], sum: &'a mut [u8]) -> Result<ReadSum<'a>, Refused> {
+    let (number, [place, count, flag]) = ffi::read(list, sum);
+    checked(number, place)?;
+    Ok(ReadSum {
+        sum: &sum[..size(count) * ENTRY_BYTES],
+        is_complex: flag != 0,
+    })
+}
+
+/// The derivative of a sum, as a sum.
+///
+/// # Errors
+/// BadRecord, TooDeep, what the derivative refuses, OutputRoom.
+pub fn derive<'a>(sum: &[u8], out: &'a mut [u8]) -> Result<&'a [u8], Refused> {
+    let answer = ffi::derive(sum, out);
+    written(out, ENTRY_BYTES, answer)
+}
+
+/// The integral of a sum, as a sum.
+///
+/// # Errors
+/// BadRecord, TooDeep, what the integral refuses, OutputRoom.
+pub fn integrate<'a>(sum: &[u8], out: &'a mut [u8]) -> Result<&'a [u8], Refused> {
+    let answer = ffi::integrate(sum, out);
+    written(out, ENTRY_BYTES, answer)
+}
+
+/// A sum as a list. `is_complex` says whether its numbers are written as complex ones.
+///
+/// # Errors
+/// BadRecord, TooDeep, NotFinite (an imaginary part in a list of reals too), OutputRoom.
+pub fn write<'a>(sum: &[u8], is_complex: bool, out: &'a mut [u8]) -> Result<&'a [u8], Refused> {
+    let answer = ffi::write(sum, is_complex, out);
+    written(out, RECORD_BYTES, answer)
+}
+
+/// From a list to the list of its derivative.
+///
+/// # Errors
+/// What reading, deriving or writing refuses.
+pub fn derivative<'a>(list: &[u8], out: &'a mut [u8]) -> Result<&'a [u8], Refused> {
+    let answer = ffi::derivative(list, out);
+    written(out, RECORD_BYTES, answer)
+}
+
+/// From a list to the list of its integral.
+///
+/// # Errors
+/// What reading, integrating or writing refuses.
+pub fn integral<'a>(list: &[u8], out: &'a mut [u8]) -> Result<&'a [u8], Refused> {
+    let answer = ffi::integral(list, out);
+    written(out, RECORD_BYTES, answer)
+}
+
+/// From a list to the list that undoes it.
+///
+/// # Errors
+/// What reading or inverting refuses; NotHandled in place of what reading refuses by the algebra's rules where the list does too little.
+pub fn inverse<'a>(list: &[u8], out: &'a mut [u8]) -> Result<&'a [u8], Refused> {
+    let answer = ffi::inverse(list, out);
+    written(out, RECORD_BYTES, answer)
+}
+
+/// The value of a list at x.
+///
+/// # Errors
+/// What the runner lacks (NotSupported, NonScalar, NonReal, NeedsMath), and what goes wrong on the way.
+pub fn run(list: &[u8], x: f64) -> Result<Ran, Refused> {
+    let (number, value, [place, steps, peak]) = ffi::run(list, x);
+    checked(number, place)?;
+    Ok(Ran { value, steps, peak })
+}

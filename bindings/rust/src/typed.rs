@@ -1,0 +1,152 @@
+//! The eight entries over typed lists and sums.
+
+use crate::{
+    bytes, decode_list, decode_sum, encode_list, encode_sum, Entry, Ran, Record, Refused,
+    LIST_BYTES, SUM_BYTES,
+};
+
+/// A sum that was read.
+#[derive(Debug, Clone, PartialEq, Eq)]
+pub struct Sum {
+    pub entries: Vec<Entry>,
+    /// Whether a complex step was met on the way.
+    pub is_complex: bool,
+}
+
+fn records(written: &[u8]) -> Vec<Record> {
+    decode_list(written).expect("what the library writes is a list")
+}
+
+fn entries(written: &[u8]) -> Vec<Entry> {
+    decode_sum(written).expect("what the library writes is a sum")
+}
+
+/// From a list to the sum that it stands for: terms in rising order.
+///
+/// ```
+/// use uplink::{read, Entry, Primitive, Record};
+/// // x + x^3
+/// let list = [Primitive::Dup.into(), Record::RealPush(3.0), Primitive::Pow.into(), Primitive::Add.into()];
+/// let sum = read(&list)?;
+/// assert_eq!(sum.entries, [Entry::power(1.0, 1.0), Entry::power(3.0, 1.0)]);
+/// assert!(!sum.is_complex);
+/// # Ok::<(), uplink::Refused>(())
+/// ```
+///
+/// # Errors
+/// As [`bytes::read`].
+pub fn read(list: &[Record]) -> Result<Sum, Refused> {
+    let mut room = [0; SUM_BYTES];
+    let read = bytes::read(&encode_list(list), &mut room)?;
+    Ok(Sum {
+        entries: entries(read.sum),
+        is_complex: read.is_complex,
+    })
+}
+
+/// The derivative of a sum.
+///
+/// # Errors
+/// As [`bytes::derive`].
+pub fn derive(sum: &[Entry]) -> Result<Vec<Entry>, Refused> {
+    let mut room = [0; SUM_BYTES];
+    bytes::derive(&encode_sum(sum), &mut room).map(entries)
+}
+
+/// The integral of a sum.
+///
+/// ```
+/// use uplink::{integrate, Entry};
+/// assert_eq!(integrate(&[Entry::power(2.0, 3.0)])?, [Entry::power(3.0, 1.0)]);
+/// # Ok::<(), uplink::Refused>(())
+/// ```
+///
+/// # Errors
+/// As [`bytes::integrate`].
+pub fn integrate(sum: &[Entry]) -> Result<Vec<Entry>, Refused> {
+    let mut room = [0; SUM_BYTES];
+    bytes::integrate(&encode_sum(sum), &mut room).map(entries)
+}
+
+/// A sum as a list. `is_complex` says whether its numbers are written as complex ones.
+///
+/// ```
+/// use uplink::{write, Entry, Primitive, Record};
+/// let list = write(&[Entry::power(1.0, 2.0)], false)?;
+/// assert_eq!(list, [Record::RealPush(2.0), Primitive::Mul.into()]);
+/// # Ok::<(), uplink::Refused>(())
+/// ```
+///
+/// # Errors
+/// As [`bytes::write`].
+pub fn write(sum: &[Entry], is_complex: bool) -> Result<Vec<Record>, Refused> {
+    let mut room = vec![0; LIST_BYTES];
+    bytes::write(&encode_sum(sum), is_complex, &mut room).map(records)
+}
+
+/// From a list to the list of its derivative.
+///
+/// ```
+/// use uplink::{derivative, Primitive, Record};
+/// let list = [Primitive::Dup.into(), Primitive::Mul.into()];
+/// assert_eq!(derivative(&list)?, [Record::RealPush(2.0), Primitive::Mul.into()]);
+/// # Ok::<(), uplink::Refused>(())
+/// ```
+///
+/// # Errors
+/// As [`bytes::derivative`].
+pub fn derivative(list: &[Record]) -> Result<Vec<Record>, Refused> {
+    let mut room = vec![0; LIST_BYTES];
+    bytes::derivative(&encode_list(list), &mut room).map(records)
+}
+
+/// From a list to the list of its integral.
+///
+/// ```
+/// use std::f64::consts::E;
+/// use uplink::{integral, Primitive, Record};
+/// let list = integral(&[Primitive::Reciprocal.into()])?;
+/// assert_eq!(list, [Primitive::Identity.into(), Record::RealPush(E), Primitive::Log.into()]);
+/// # Ok::<(), uplink::Refused>(())
+/// ```
+///
+/// # Errors
+/// As [`bytes::integral`].
+pub fn integral(list: &[Record]) -> Result<Vec<Record>, Refused> {
+    let mut room = vec![0; LIST_BYTES];
+    bytes::integral(&encode_list(list), &mut room).map(records)
+}
+
+/// From a list to the list that undoes it.
+///
+/// ```
+/// use uplink::{inverse, Primitive::*, Record::RealPush};
+/// // 2 x + 5 is undone by taking 5 away and dividing by 2
+/// let list = [RealPush(2.0), Mul.into(), RealPush(5.0), Add.into()];
+/// assert_eq!(inverse(&list)?, [RealPush(5.0), Sub.into(), RealPush(2.0), Div.into()]);
+/// # Ok::<(), uplink::Refused>(())
+/// ```
+///
+/// # Errors
+/// As [`bytes::inverse`].
+pub fn inverse(list: &[Record]) -> Result<Vec<Record>, Refused> {
+    let mut room = vec![0; LIST_BYTES];
+    bytes::inverse(&encode_list(list), &mut room).map(records)
+}
+
+/// The value of a list at x, with steps and peak.
+///
+/// ```
+/// use uplink::{run, Primitive, Record, Refusal};
+/// let squared = [Record::RealPush(2.0), Primitive::Pow.into()];
+/// assert_eq!(run(&squared, 3.0)?.value, 9.0);
+/// let root = [Primitive::Sqrt.into()];
+/// assert_eq!(run(&root, 9.0).map_err(|refused| refused.refusal), Err(Refusal::NeedsMath));
+/// # Ok::<(), uplink::Refused>(())
+/// ```
+///
+/// # Errors
+/// As [`bytes::run`].
+pub fn run(list: &[Record], x: f64) -> Result<Ran, Refused> {
+    bytes::run(&encode_list(list), x)
+}

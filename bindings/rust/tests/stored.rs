@@ -1,0 +1,175 @@
+//! Every stored answer (vectors/) holds of this crate's functions: number, place, flag and every byte.
+
+use std::{fs, path::Path};
+
+use uplink::{
+    bytes, decode_list, decode_sum, encode_list, encode_sum, list_fault, Refusal, Refused,
+    ENTRY_BYTES, LIST_BYTES, RECORD_BYTES, SUM_BYTES,
+};
+
+/// A line of stored answers: a keyword, then words.
+struct Line<'a> {
+    keyword: &'a str,
+    words: Vec<&'a str>,
+}
+
+impl Line<'_> {
+    fn number(&self, at: usize) -> u64 {
+        self.words[at].parse().expect("a number")
+    }
+
+    /// Records or entries in hex, zero bytes at their ends left off.
+    fn bytes(&self, from: usize, each: usize) -> Vec<u8> {
+        let mut bytes = Vec::new();
+        for word in &self.words[from..] {
+            let digits = (0..word.len() / 2).map(|at| &word[2 * at..2 * at + 2]);
+            bytes.extend(digits.map(|digits| u8::from_str_radix(digits, 16).expect("hex")));
+            bytes.resize(bytes.len().next_multiple_of(each), 0);
+        }
+        bytes
+    }
+
+    /// The answer that starts at a word: a refusal with its place, or bytes behind so many more words.
+    fn answer(&self, at: usize, skipped: usize, each: usize) -> Result<Vec<u8>, Refused> {
+        let place = self.number(at + 1) as usize;
+        match Refusal::from_number(self.number(at)) {
+            Some(refusal) => Err(Refused { refusal, place }),
+            None => Ok(self.bytes(at + 2 + skipped, each)),
+        }
+    }
+}
+
+fn file(name: &str) -> String {
+    let folder = Path::new(env!("CARGO_MANIFEST_DIR")).join("../../vectors");
+    fs::read_to_string(folder.join(name)).expect("stored answers")
+}
+
+fn lines(text: &str) -> impl Iterator<Item = Line<'_>> {
+    text.lines().map(|line| {
+        let mut words = line.split(' ');
+        Line {
+            keyword: words.next().unwrap_or(""),
+            words: words.collect(),
+        }
+    })
+}
+
+/// What the library answers to a line about a list or a sum, and what is stored.
+fn answers(line: &Line<'_>, given: &[u8]) -> [Result<Vec<u8>, Refused>; 2] {
+    let mut room = vec![0; LIST_BYTES];
+    let answer = match line.keyword {
+        "read" => return read_answers(line, given),
+        "derivative" => bytes::derivative(given, &mut room),
+        "integral" => bytes::integral(given, &mut room),
+        "inverse" => bytes::inverse(given, &mut room),
+        "derive" => bytes::derive(given, &mut room),
+        "integrate" => bytes::integrate(given, &mut room),
+        "write" => bytes::write(given, line.number(0) == 1, &mut room),
+        other => panic!("no entry is called {other}"),
+    };
+    let each = if matches!(line.keyword, "derive" | "integrate") {
+        ENTRY_BYTES
+    } else {
+        RECORD_BYTES
+    };
+    let at = usize::from(line.keyword == "write");
+    [answer.map(<[u8]>::to_vec), line.answer(at, 0, each)]
+}
+
+fn read_answers(line: &Line<'_>, given: &[u8]) -> [Result<Vec<u8>, Refused>; 2] {
+    let mut room = [0; SUM_BYTES];
+    let answer = bytes::read(given, &mut room);
+    if let Ok(read) = answer {
+        assert_eq!(u64::from(read.is_complex), line.number(2));
+    }
+    [
+        answer.map(|read| read.sum.to_vec()),
+        line.answer(0, 1, ENTRY_BYTES),
+    ]
+}
+
+/// How many answers of a file hold; all of them do.
+fn replayed(name: &str) -> usize {
+    let text = file(name);
+    let (mut given, mut count) = (Vec::new(), 0);
+    for line in lines(&text) {
+        match line.keyword {
+            "list" => given = line.bytes(0, RECORD_BYTES),
+            "sum" => given = line.bytes(0, ENTRY_BYTES),
+            keyword => {
+                let [found, stored] = answers(&line, &given);
+                assert_eq!(found, stored, "{keyword} of {given:?}");
+                count += 1;
+            }
+        }
+    }
+    count
+}
+
+#[test]
+fn stored_answers_of_lists_hold() {
+    assert_eq!(replayed("lists.txt"), 4305 + 4237 + 4303 + 4252);
+}
+
+#[test]
+fn stored_answers_of_sums_hold() {
+    assert_eq!(replayed("sums.txt"), 1549 + 1646 + 2608);
+}
+
+#[test]
+fn stored_answers_at_the_limits_hold() {
+    assert!(replayed("limits.txt") > 2000);
+}
+
+#[test]
+fn faults_are_found_exactly_where_lists_are_refused_as_a_whole() {
+    for name in ["lists.txt", "limits.txt"] {
+        let text = file(name);
+        for line in lines(&text).filter(|line| line.keyword == "list") {
+            let list = line.bytes(0, RECORD_BYTES);
+            let refusal = list_fault(&list).map(uplink::Fault::refusal);
+            let answer = bytes::run(&list, f64::NAN)
+                .expect_err("no value at NaN")
+                .refusal;
+            // In the run, an x that isn't finite is refused straight after lists that are none.
+            assert_eq!(refusal.unwrap_or(Refusal::NotFinite), answer);
+        }
+    }
+}
+
+#[test]
+fn typed_lists_and_sums_have_the_stored_bytes() {
+    let text = file("lists.txt");
+    for line in lines(&text).filter(|line| line.keyword == "list") {
+        let list = line.bytes(0, RECORD_BYTES);
+        assert_eq!(encode_list(&decode_list(&list).expect("a list")), list);
+    }
+    let text = file("sums.txt");
+    for line in lines(&text).filter(|line| line.keyword == "sum") {
+        let sum = line.bytes(0, ENTRY_BYTES);
+        assert_eq!(encode_sum(&decode_sum(&sum).expect("a sum")), sum);
+    }
+}
+
+#[test]
+fn a_refusal_changes_no_byte_and_a_result_none_behind_it() {
+    let mut room = [0xa5; LIST_BYTES];
+    let squared = encode_list(&[uplink::Primitive::Dup.into(), uplink::Primitive::Mul.into()]);
+    let refused = bytes::derivative(&squared, &mut room[..47]).expect_err("no room");
+    assert_eq!((refused.refusal, refused.place), (Refusal::OutputRoom, 0));
+    assert!(room.iter().all(|&byte| byte == 0xa5));
+    assert_eq!(
+        bytes::derivative(&squared, &mut room).map(<[u8]>::len),
+        Ok(48)
+    );
+    assert!(room[48..].iter().all(|&byte| byte == 0xa5));
+}
+
+#[test]
+fn empty_slices_are_taken() {
+    assert_eq!(bytes::run(&[], 2.5).map(|ran| ran.value), Ok(2.5));
+    let no_room = bytes::derivative(&[], &mut []).expect_err("no room");
+    assert_eq!(no_room.refusal, Refusal::OutputRoom);
+    let no_sum = bytes::derive(&[], &mut []).expect_err("no sum");
+    assert_eq!(no_sum.refusal, Refusal::BadRecord);
+}
