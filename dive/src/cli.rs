@@ -1,0 +1,282 @@
+//! The words of the command line.
+
+use crate::{explain::Asked, failure::Failure, help, nearest::nearest, numbers, table::Minutes};
+
+/// What the command line asks for.
+#[derive(Debug, Clone, PartialEq)]
+pub enum Command {
+    Help(Option<String>),
+    Version,
+    Show {
+        file: String,
+    },
+    Assemble {
+        file: String,
+        out: String,
+    },
+    Text {
+        file: String,
+        out: Option<String>,
+    },
+    Read {
+        file: String,
+        out: Option<String>,
+    },
+    /// Derivative, integral or inverse.
+    Make {
+        asked: Asked,
+        file: String,
+        out: Option<String>,
+    },
+    Run {
+        file: String,
+        x: f64,
+    },
+    Table {
+        file: String,
+        minutes: Minutes,
+        csv: bool,
+    },
+    Plot {
+        file: String,
+        minutes: Minutes,
+        out: String,
+    },
+}
+
+/// The words behind a command's name.
+#[derive(Debug, Default)]
+struct Words {
+    plain: Vec<String>,
+    out: Option<String>,
+    csv: bool,
+    help: bool,
+}
+
+/// What the words of a command line ask for, the program's name left out.
+///
+/// # Errors
+/// Words that are no command, with a sentence that helps.
+pub fn parse(words: &[String]) -> Result<Command, Failure> {
+    let Some((name, rest)) = words.split_first() else {
+        return Err(Failure::Usage(format!(
+            "no command is given.\n\n{}",
+            help::OVERVIEW
+        )));
+    };
+    match name.as_str() {
+        "-h" | "--help" => return Ok(Command::Help(None)),
+        "-V" | "--version" | "version" => return Ok(Command::Version),
+        "help" => return topic(rest),
+        _ => {}
+    }
+    let usage = help::usage(name).ok_or_else(|| Failure::Usage(no_command(name)))?;
+    let words = sorted(rest).map_err(|message| misused(name, usage, &message))?;
+    if words.help {
+        return Ok(Command::Help(Some(name.clone())));
+    }
+    command(name, words).map_err(|failure| match failure {
+        Failure::Usage(message) => misused(name, usage, &message),
+        refused => refused,
+    })
+}
+
+fn misused(name: &str, usage: &str, message: &str) -> Failure {
+    Failure::Usage(format!(
+        "{name}: {message}\nusage: dive {usage}\n`dive help {name}` tells more"
+    ))
+}
+
+fn no_command(name: &str) -> String {
+    match nearest(name, help::COMMANDS.iter().map(|command| command.name)) {
+        Some(meant) => {
+            format!("there is no command `{name}`; is `{meant}` meant? `dive help` lists them all")
+        }
+        None => format!("there is no command `{name}`; `dive help` lists them all"),
+    }
+}
+
+fn topic(words: &[String]) -> Result<Command, Failure> {
+    match words {
+        [] => Ok(Command::Help(None)),
+        [name] if help::of(name).is_some() => Ok(Command::Help(Some(name.clone()))),
+        [name] => Err(Failure::Usage(no_command(name))),
+        _ => Err(Failure::Usage("help takes one command".into())),
+    }
+}
+
+fn sorted(rest: &[String]) -> Result<Words, String> {
+    let mut words = Words::default();
+    let mut rest = rest.iter();
+    while let Some(word) = rest.next() {
+        match word.as_str() {
+            "-o" | "--output" => {
+                let out = rest.next().ok_or("after -o comes the name of a file")?;
+                if words.out.replace(out.clone()).is_some() {
+                    return Err("-o is given twice".into());
+                }
+            }
+            "--csv" => words.csv = true,
+            "-h" | "--help" => words.help = true,
+            option
+                if option.len() > 1
+                    && option.starts_with('-')
+                    && numbers::parse(option).is_err() =>
+            {
+                return Err(format!("there is no option {option}"));
+            }
+            _ => words.plain.push(word.clone()),
+        }
+    }
+    Ok(words)
+}
+
+fn command(name: &str, words: Words) -> Result<Command, Failure> {
+    if words.csv && name != "table" {
+        return Err(Failure::Usage("--csv is for the table alone".into()));
+    }
+    if words.out.is_some() && matches!(name, "show" | "run" | "table") {
+        return Err(Failure::Usage(
+            "what it finds is printed, and it takes no -o".into(),
+        ));
+    }
+    let made = |asked, file, out| Command::Make { asked, file, out };
+    let Words {
+        plain, out, csv, ..
+    } = words;
+    Ok(match name {
+        "show" => Command::Show { file: one(plain)? },
+        "assemble" => Command::Assemble {
+            file: one(plain)?,
+            out: needed(out)?,
+        },
+        "text" => Command::Text {
+            file: one(plain)?,
+            out,
+        },
+        "read" => Command::Read {
+            file: one(plain)?,
+            out,
+        },
+        "derivative" => made(Asked::Derivative, one(plain)?, out),
+        "integral" => made(Asked::Integral, one(plain)?, out),
+        "inverse" => made(Asked::Inverse, one(plain)?, out),
+        "run" => {
+            let [file, x] = exactly(plain, "FILE and X")?;
+            let x =
+                numbers::parse(&x).map_err(|message| Failure::Usage(format!("X: {message}")))?;
+            Command::Run { file, x }
+        }
+        "table" => {
+            let (file, minutes) = file_and_minutes(plain)?;
+            Command::Table { file, minutes, csv }
+        }
+        _ => {
+            let (file, minutes) = file_and_minutes(plain)?;
+            if minutes.from == minutes.to {
+                return Err(Failure::Usage("FROM must be below TO for a plot".into()));
+            }
+            Command::Plot {
+                file,
+                minutes,
+                out: needed(out)?,
+            }
+        }
+    })
+}
+
+fn exactly<const N: usize>(plain: Vec<String>, what: &str) -> Result<[String; N], Failure> {
+    let count = plain.len();
+    plain
+        .try_into()
+        .map_err(|_| Failure::Usage(format!("it takes {what}, and {count} words are given")))
+}
+
+fn one(plain: Vec<String>) -> Result<String, Failure> {
+    let [file] = exactly(plain, "one FILE")?;
+    Ok(file)
+}
+
+fn needed(out: Option<String>) -> Result<String, Failure> {
+    out.ok_or_else(|| Failure::Usage("-o and the name of a file to write are needed".into()))
+}
+
+fn file_and_minutes(plain: Vec<String>) -> Result<(String, Minutes), Failure> {
+    let [file, from, to, step] = exactly(plain, "FILE, FROM, TO and STEP")?;
+    let minutes = Minutes::parse([&from, &to, &step])?;
+    Ok((file, minutes))
+}
+
+#[cfg(test)]
+mod tests {
+    use super::*;
+
+    fn parsed(line: &str) -> Result<Command, Failure> {
+        let words: Vec<String> = line.split_whitespace().map(String::from).collect();
+        parse(&words)
+    }
+
+    fn refused(line: &str) -> String {
+        let failure = parsed(line).expect_err("wrong usage");
+        assert_eq!(failure.exit_code(), 2);
+        failure.to_string()
+    }
+
+    #[test]
+    fn commands_are_understood() {
+        let file = || String::from("a.txt");
+        assert_eq!(parsed("show a.txt"), Ok(Command::Show { file: file() }));
+        assert_eq!(
+            parsed("run a.txt -2.5"),
+            Ok(Command::Run {
+                file: file(),
+                x: -2.5
+            })
+        );
+        let out = Some(String::from("b"));
+        assert_eq!(
+            parsed("read -o b a.txt"),
+            Ok(Command::Read {
+                file: file(),
+                out: out.clone()
+            })
+        );
+        let made = Command::Make {
+            asked: Asked::Inverse,
+            file: file(),
+            out,
+        };
+        assert_eq!(parsed("inverse a.txt --output b"), Ok(made));
+        assert!(matches!(
+            parsed("table - 0 10 1 --csv"),
+            Ok(Command::Table { csv: true, .. })
+        ));
+        assert_eq!(
+            parsed("help table"),
+            Ok(Command::Help(Some("table".into())))
+        );
+        assert_eq!(
+            parsed("table --help"),
+            Ok(Command::Help(Some("table".into())))
+        );
+        assert_eq!(parsed("--version"), Ok(Command::Version));
+    }
+
+    #[test]
+    fn wrong_usage_says_what_is_right() {
+        assert!(refused("").contains("no command"));
+        assert!(refused("derivitive a").contains("is `derivative` meant?"));
+        assert!(refused("frobnicate").contains("`dive help` lists"));
+        assert!(refused("run a.txt")
+            .contains("it takes FILE and X, and 1 words are given\nusage: dive run FILE X"));
+        assert!(refused("run a.txt two").contains("X: `two` is no number"));
+        assert!(refused("plot a.txt 0 1 0.1").contains("-o and the name"));
+        assert!(refused("plot a.txt 1 1 0.1 -o b").contains("below TO"));
+        assert!(refused("table a.txt 0 1 0").contains("STEP"));
+        assert!(refused("show a.txt --fast").contains("no option --fast"));
+        assert!(refused("show a.txt -o").contains("after -o"));
+        assert!(refused("show a.txt -o b").contains("no -o"));
+        assert!(refused("read a.txt --csv").contains("table alone"));
+        assert!(refused("help me").contains("no command `me`"));
+    }
+}

@@ -1,0 +1,168 @@
+//! Refusals explained: by name, place and a sentence that helps.
+
+use uplink::{bytes, list_fault, Primitive, Record, Refusal, Refused, SUM_BYTES};
+
+use crate::{
+    numbers,
+    source::{fault_sentence, Source},
+    words,
+};
+
+/// What was asked of a list.
+#[derive(Debug, Clone, Copy, PartialEq)]
+pub enum Asked {
+    Read,
+    Derivative,
+    Integral,
+    Inverse,
+    /// The value at this x.
+    Run(f64),
+}
+
+impl Asked {
+    fn named(self) -> String {
+        match self {
+            Asked::Read => "reading it".into(),
+            Asked::Derivative => "its derivative".into(),
+            Asked::Integral => "its integral".into(),
+            Asked::Inverse => "its inverse".into(),
+            Asked::Run(x) => format!("its run at x = {}", numbers::text(x)),
+        }
+    }
+}
+
+/// A refusal in full: what was refused, where, and what to do.
+pub fn explained(asked: Asked, source: &Source, refused: Refused) -> String {
+    let Refused { refusal, .. } = refused;
+    let place = refusing_record(asked, &source.bytes, refused);
+    let record = place.and_then(|place| source.record(place));
+    let mut text = format!(
+        "{}: {} is refused: {refusal} ({})",
+        source.name,
+        asked.named(),
+        refusal.number()
+    );
+    if let (Some(place), Some(record)) = (place, record) {
+        text.push_str(&format!(" at record {place}, {}\n", words::name(&record)));
+        text.push_str(&source.shown_at(place).unwrap_or_default());
+    } else {
+        text.push('\n');
+    }
+    text.push_str(&sentence(asked, source, refusal, record));
+    text
+}
+
+/// The record that refuses, if it is one and not the whole list, its end, or what was made of it.
+fn refusing_record(asked: Asked, list: &[u8], refused: Refused) -> Option<usize> {
+    if refused.refusal.is_of_the_whole() || list_fault(list).is_some() {
+        return None;
+    }
+    let is_record = match asked {
+        Asked::Read => true,
+        Asked::Run(x) => x.is_finite(),
+        _ => bytes::read(list, &mut [0; SUM_BYTES]).is_err_and(|reading| reading == refused),
+    };
+    is_record.then_some(refused.place)
+}
+
+fn sentence(asked: Asked, source: &Source, refusal: Refusal, record: Option<Record>) -> String {
+    if let Some(fault) = list_fault(&source.bytes) {
+        return fault_sentence(fault);
+    }
+    let special = match (asked, record) {
+        (Asked::Run(x), Some(record)) => of_the_run(refusal, &record, x),
+        (Asked::Run(_), None) => of_x(refusal),
+        (_, Some(record)) => of_reading(refusal, &record),
+        (_, None) => of_the_result(asked, refusal),
+    };
+    special.unwrap_or_else(|| in_general(refusal))
+}
+
+fn in_general(refusal: Refusal) -> String {
+    let meaning = refusal.meaning();
+    let (first, rest) = meaning.split_at(1);
+    format!("{}{rest}. {}", first.to_uppercase(), refusal.advice())
+}
+
+const PAGE: &str =
+    "so the page can't show this formula yet. It can still be read, derived and integrated.";
+
+fn of_the_run(refusal: Refusal, record: &Record, x: f64) -> Option<String> {
+    Some(match (refusal, record) {
+        (Refusal::NeedsMath, Record::Primitive(Primitive::Pow)) => {
+            format!("The runner raises to whole powers from 0 to 64 and to no others, {PAGE}")
+        }
+        (Refusal::NeedsMath, Record::Primitive(Primitive::Sqrt)) => {
+            format!("This is the power 0.5. The runner raises to whole powers from 0 to 64 and has no roots, {PAGE}")
+        }
+        (Refusal::NeedsMath, record) => {
+            format!("The runner has no {}: it adds, subtracts, multiplies, divides and raises to whole powers, {PAGE}", words::name(record))
+        }
+        (Refusal::NotSupported, Record::Modifier { .. }) => {
+            format!("Of the modifiers the runner has On alone, {PAGE} Its derivative's list has no other modifier.")
+        }
+        (Refusal::NotSupported, _) => "The runner has no such step.".into(),
+        (Refusal::NonReal, _) => {
+            "The runner works on real numbers alone, and this step makes something else.".into()
+        }
+        (Refusal::NotFinite, Record::RealPush(_)) => NOT_FINITE_PUSH.into(),
+        (Refusal::NotFinite, _) => {
+            format!("At x = {} this step makes a value that is infinite or not a number; look for a division by zero.", numbers::text(x))
+        }
+        (Refusal::NoRoom, _) => "The runner has room for 256 values at once.".into(),
+        _ => return None,
+    })
+}
+
+fn of_x(refusal: Refusal) -> Option<String> {
+    (refusal == Refusal::NotFinite).then(|| "x must be a finite number.".into())
+}
+
+const NOT_FINITE_PUSH: &str =
+    "The number that is pushed is infinite or not a number. Push a finite one.";
+
+fn of_reading(refusal: Refusal, record: &Record) -> Option<String> {
+    let text = match (refusal, record) {
+        (Refusal::NotFinite, Record::RealPush(_) | Record::ComplexPush { .. }) => NOT_FINITE_PUSH,
+        (Refusal::NeedsMath, Record::Primitive(Primitive::Pow | Primitive::Sqrt)) => {
+            "To a power that isn't a whole number from 0 up, a single power of x is raised, and its coefficient must be 1. \
+             Raise first and multiply by the coefficient after that."
+        }
+        (Refusal::TooComplex, Record::Primitive(Primitive::Mul | Primitive::Div)) => {
+            "Sines, cosines, exponentials and logarithms can be added up, but not multiplied or divided, not by a number either; \
+             and of sums of several terms only the reciprocal is taken."
+        }
+        (Refusal::TooComplex, Record::Primitive(Primitive::Pow | Primitive::Sqrt)) => {
+            "The power must be a constant. To one that isn't a whole number from 0 up, only a single power of x can be raised."
+        }
+        (Refusal::TooComplex, Record::Primitive(Primitive::Exp)) => "The exponential is taken of k x alone, k being a number.",
+        (Refusal::NotSupported, Record::Primitive(Primitive::Max | Primitive::SinH | Primitive::CosH | Primitive::Root)) => {
+            "This step is written in results, and not read."
+        }
+        _ => return None,
+    };
+    Some(text.into())
+}
+
+fn of_the_result(asked: Asked, refusal: Refusal) -> Option<String> {
+    let text = match (asked, refusal) {
+        (Asked::Derivative, Refusal::TooComplex) => {
+            "The formula is read, but has no derivative here: a sine, a logarithm or their like is derived where its argument is k x + c, \
+             and 1 over such a function isn't. `dive read` shows the formula."
+        }
+        (Asked::Derivative, Refusal::NeedsMath) => {
+            "The formula is read, but has no derivative here: logarithms are derived to base E, 2 and 10 alone. `dive read` shows the formula."
+        }
+        (Asked::Integral, Refusal::TooComplex) => {
+            "The formula is read, but has no integral here: powers of x and the sine and cosine of x are integrated, and no other function. \
+             `dive read` shows the formula."
+        }
+        (Asked::Inverse, Refusal::TooComplex) => {
+            "The formula is read, but can't be undone here: constants, linear and quadratic formulas and k x^p + c can be. \
+             `dive read` shows the formula."
+        }
+        (Asked::Inverse, Refusal::NeedsMath) => "The formula is k x^p + c, which is undone where k is a whole number.",
+        _ => return None,
+    };
+    Some(text.into())
+}

@@ -1,0 +1,219 @@
+//! What `dive help` says.
+
+/// A command or topic, how it is called, and what it does.
+#[derive(Debug)]
+pub struct Command {
+    pub name: &'static str,
+    usage: &'static str,
+    about: &'static str,
+}
+
+pub const OVERVIEW: &str = "\
+dive: formulas of dives as lists of steps
+
+  dive show FILE                       the list in words, numbered by place
+  dive assemble FILE -o OUT            from the text notation to records
+  dive text FILE                       from records to the text notation
+  dive read FILE                       the formula that the list stands for
+  dive derivative FILE                 the list of its derivative: speed
+  dive integral FILE                   the list of its integral
+  dive inverse FILE                    the list that undoes it
+  dive run FILE X                      the list's value at x
+  dive table FILE FROM TO STEP         minutes, depth and speed
+  dive plot FILE FROM TO STEP -o OUT   the same as a picture (SVG)
+  dive help COMMAND                    more about a command
+  dive help notation                   the text notation
+
+FILE is a list of records (24 bytes each) or in the text notation: a file with
+a zero byte in it is taken as records, any other as text. - is what comes from
+the standard input.
+
+Exit codes: 0 done, 1 refused, 2 wrong usage or a file that can't be read or
+written.
+";
+
+pub const COMMANDS: [Command; 11] = [
+    Command {
+        name: "show",
+        usage: "show FILE",
+        about: "\
+Shows the list in words, one record to a line: its place, counted from 0, and
+what it does to the stack of values. The stack starts with x, the minutes of
+the dive. What lies inside a record is set to the right below it.
+",
+    },
+    Command {
+        name: "assemble",
+        usage: "assemble FILE -o OUT",
+        about: "\
+Writes the list in FILE to OUT as records, 24 bytes each. A mistake in the text
+is shown with its line and column. See `dive help notation`.
+",
+    },
+    Command {
+        name: "text",
+        usage: "text FILE [-o OUT]",
+        about: "\
+Prints the list in FILE in the text notation, or writes it to OUT. Every number
+is written so that it reads back bit for bit: assembled again, the text gives
+the same bytes.
+",
+    },
+    Command {
+        name: "read",
+        usage: "read FILE [-o OUT]",
+        about: "\
+Reads the list as a formula, a sum of terms, and prints it, with the coefficient
+of each term. With -o the sum is written to OUT as entries, 32 bytes each, and
+nothing is printed.
+",
+    },
+    Command {
+        name: "derivative",
+        usage: "derivative FILE [-o OUT]",
+        about: "\
+Prints the derivative of the list's formula, and the list of steps that computes
+it: for a list of depth that is the list of speed. With -o the list is written
+to OUT as records, and nothing is printed.
+",
+    },
+    Command {
+        name: "integral",
+        usage: "integral FILE [-o OUT]",
+        about: "\
+Prints the integral of the list's formula, and the list of steps that computes
+it. With -o the list is written to OUT as records, and nothing is printed.
+",
+    },
+    Command {
+        name: "inverse",
+        usage: "inverse FILE [-o OUT]",
+        about: "\
+Prints the list of steps that undoes the list: from a depth to the minute. With
+-o it is written to OUT as records, and nothing is printed.
+",
+    },
+    Command {
+        name: "run",
+        usage: "run FILE X",
+        about: "\
+Runs the list at x = X, as the page does, and prints the value, how many records
+were run (steps), and the most values that there were at once (peak).
+
+The runner adds, subtracts, multiplies and divides real numbers, raises to whole
+powers from 0 to 64, and has the modifier On. Anything else is refused, although
+it can be read and derived.
+",
+    },
+    Command {
+        name: "table",
+        usage: "table FILE FROM TO STEP [--csv]",
+        about: "\
+Prints depth (the list's value, in metres) and speed (its derivative's value, in
+metres per minute, above 0 on the way down) at the minutes FROM, FROM + STEP and
+so on up to TO. Metres are rounded to two digits; --csv prints every number in
+full, parted by commas. Where a value isn't finite there is a dash.
+",
+    },
+    Command {
+        name: "plot",
+        usage: "plot FILE FROM TO STEP -o OUT",
+        about: "\
+Writes the table of `dive table` to OUT as a picture (SVG): depth above, growing
+downward, and speed below, over the same minutes.
+",
+    },
+    Command {
+        name: "notation",
+        usage: "help notation",
+        about: "\
+Steps stand one after the other, parted by spaces, new lines or commas. # starts
+a comment, up to the end of the line. Capitals matter.
+
+  push 3                  pushes a number: 3, -0.5, 2.5e-3, E (e, 2.718..), inf;
+                          bits:7ff8000000000000 is the number with these bits
+  push 2 + 3i             pushes a complex number, with spaces round the sign
+  Dup Flip Pop Over Identity                 values copied, turned, taken away
+  Add Sub Mul Div Pow Neg Not Sqrt Reciprocal                     arithmetic
+  Exp Exp2 Exp10 Log Ln Log2 Log10 Sin Cos                        functions
+  Complex                 b + a i, of the top a and the value b below it
+  Max Root SinH CosH      written in results, not read
+  On { push 2, Mul }      a modifier with its body, in braces: On Dip Gap By
+                          Both have one, Bracket two, Fork any number
+  Fork {2: Add } { Neg }  a body of other than one argument says so
+  Run { Dup, Mul }        steps in a row, as of a function
+
+The other kinds of records by name, with their numbers: ArrayPush (3), OtherPush
+(4), CustomInverse { .. } (9), Obverse (10), NoNormal (11), UnderMarker (12),
+AnythingElse (13). `Primitive 99` and `Modifier 99` are those with a code that
+has no name.
+
+Example: a dive of ten minutes to 150 metres, 60 x - 6 x^2
+
+  Dup, push 2, Pow, push -6, Mul   # -6 x^2; x itself is still below it
+  Flip, push 60, Mul               # 60 x
+  Add
+",
+    },
+];
+
+/// A command's or topic's text.
+pub fn of(name: &str) -> Option<String> {
+    let command = COMMANDS.iter().find(|command| command.name == name)?;
+    Some(format!("dive {}\n\n{}", command.usage, command.about))
+}
+
+/// How a command is called.
+pub fn usage(name: &str) -> Option<&'static str> {
+    let command = COMMANDS
+        .iter()
+        .find(|command| command.name == name && name != "notation")?;
+    Some(command.usage)
+}
+
+#[cfg(test)]
+mod tests {
+    use super::*;
+
+    #[test]
+    fn every_command_is_listed_and_fits_a_terminal() {
+        for command in &COMMANDS {
+            assert!(OVERVIEW.contains(command.name), "{}", command.name);
+            let text = of(command.name).expect("a text");
+            assert!(
+                text.lines().all(|line| line.len() <= 80),
+                "{}",
+                command.name
+            );
+        }
+        assert!(OVERVIEW.lines().all(|line| line.len() <= 80));
+    }
+
+    #[test]
+    fn the_notation_lists_every_name() {
+        let text = of("notation").expect("a text");
+        let primitives = uplink::Primitive::LISTED
+            .iter()
+            .filter_map(|primitive| primitive.name());
+        let modifiers = uplink::Modifier::LISTED
+            .iter()
+            .filter_map(|modifier| modifier.name());
+        let others = crate::notation::PLAIN
+            .iter()
+            .chain(&crate::notation::HOLDING)
+            .map(|(name, _)| *name);
+        for name in primitives.chain(modifiers).chain(others) {
+            let is_there = text
+                .split(|part: char| !part.is_ascii_alphanumeric())
+                .any(|word| word == name);
+            assert!(is_there, "{name}");
+        }
+    }
+
+    #[test]
+    fn the_example_is_a_list() {
+        let text = of("notation").expect("a text");
+        let (_, example) = text.split_once("60 x - 6 x^2\n").expect("an example");
+        assert!(crate::notation::parse(example).is_ok());
+    }
+}

@@ -1,0 +1,274 @@
+//! Depth and speed at minutes from one number to another.
+
+use uplink::{bytes, Refusal, LIST_BYTES};
+
+use crate::{
+    explain::{explained, Asked},
+    failure::Failure,
+    numbers,
+    source::Source,
+};
+
+/// The most rows of a table.
+const MOST_ROWS: f64 = 100_000.0;
+
+/// Minutes from one number up to another.
+#[derive(Debug, Clone, Copy, PartialEq)]
+pub struct Minutes {
+    pub from: f64,
+    pub to: f64,
+    step: f64,
+    /// How many digits stand behind the decimal point, where the numbers were given in decimals.
+    digits: Option<usize>,
+}
+
+impl Minutes {
+    /// From three words: FROM, TO and STEP.
+    pub fn parse([from, to, step]: [&str; 3]) -> Result<Self, Failure> {
+        let number = |name: &str, word: &str| match numbers::parse(word) {
+            Ok(number) if number.is_finite() => Ok(number),
+            Ok(_) => Err(Failure::Usage(format!(
+                "{name} must be a finite number, and {word} is not"
+            ))),
+            Err(message) => Err(Failure::Usage(format!("{name}: {message}"))),
+        };
+        let digits = [from, to, step].map(digits_behind_point);
+        let digits = digits
+            .into_iter()
+            .collect::<Option<Vec<_>>>()
+            .and_then(|digits| digits.into_iter().max());
+        let minutes = Minutes {
+            from: number("FROM", from)?,
+            to: number("TO", to)?,
+            step: number("STEP", step)?,
+            digits,
+        };
+        minutes.checked()
+    }
+
+    fn checked(self) -> Result<Self, Failure> {
+        let Minutes { from, to, step, .. } = self;
+        if from > to {
+            return Err(Failure::Usage(format!(
+                "FROM ({from}) must not be above TO ({to})"
+            )));
+        }
+        if step <= 0.0 {
+            return Err(Failure::Usage(format!("STEP ({step}) must be above 0")));
+        }
+        if self.intervals() >= MOST_ROWS {
+            return Err(Failure::Usage(format!(
+                "that makes more than {MOST_ROWS} rows: take a larger STEP"
+            )));
+        }
+        Ok(self)
+    }
+
+    /// How many whole steps there are; a step that ends at TO but for rounding is whole.
+    fn intervals(self) -> f64 {
+        ((self.to - self.from) / self.step + 1e-9).floor()
+    }
+
+    pub fn each(self) -> impl Iterator<Item = f64> {
+        (0..=self.intervals() as u32)
+            .map(move |row| self.rounded(self.from + f64::from(row) * self.step))
+    }
+
+    /// The number nearest to the decimal number that is meant: 3 steps of 0.1 are 0.3.
+    fn rounded(self, minute: f64) -> f64 {
+        match self.digits {
+            Some(digits) => format!("{minute:.digits$}").parse().unwrap_or(minute),
+            None => minute,
+        }
+    }
+
+    fn text(self, minute: f64) -> String {
+        match self.digits {
+            Some(digits) => format!("{minute:.digits$}"),
+            None => numbers::decimal(minute),
+        }
+    }
+}
+
+fn digits_behind_point(word: &str) -> Option<usize> {
+    let is_plain = word
+        .bytes()
+        .all(|byte| byte.is_ascii_digit() || matches!(byte, b'.' | b'+' | b'-'));
+    let digits = word.split_once('.').map_or(0, |(_, digits)| digits.len());
+    (is_plain && digits <= 15).then_some(digits)
+}
+
+/// Depth and speed at a minute; none where the value isn't finite.
+#[derive(Debug, Clone, Copy, PartialEq)]
+pub struct Row {
+    pub minute: f64,
+    pub depth: Option<f64>,
+    pub speed: Option<f64>,
+}
+
+/// The rows of a list and its derivative.
+pub fn rows(source: &Source, minutes: Minutes) -> Result<Vec<Row>, Failure> {
+    let speed = derivative(source)?;
+    let mut rows = Vec::new();
+    for minute in minutes.each() {
+        let (depth, speed) = (value(source, minute)?, value(&speed, minute)?);
+        rows.push(Row {
+            minute,
+            depth,
+            speed,
+        });
+    }
+    if rows
+        .iter()
+        .all(|row| row.depth.is_none() && row.speed.is_none())
+    {
+        let message = "neither depth nor speed is finite at any of these minutes";
+        return Err(Failure::Refused(format!("{}: {message}", source.name)));
+    }
+    Ok(rows)
+}
+
+fn derivative(source: &Source) -> Result<Source, Failure> {
+    let mut room = vec![0; LIST_BYTES];
+    match bytes::derivative(&source.bytes, &mut room) {
+        Ok(list) => Ok(Source::of_records(
+            format!("the derivative of {}", source.name),
+            list,
+        )),
+        Err(refused) => Err(Failure::Refused(explained(
+            Asked::Derivative,
+            source,
+            refused,
+        ))),
+    }
+}
+
+fn value(source: &Source, x: f64) -> Result<Option<f64>, Failure> {
+    match bytes::run(&source.bytes, x) {
+        Ok(ran) => Ok(Some(ran.value)),
+        Err(refused) if refused.refusal == Refusal::NotFinite => Ok(None),
+        Err(refused) => Err(Failure::Refused(explained(Asked::Run(x), source, refused))),
+    }
+}
+
+/// The rows for reading: metres to two digits.
+pub fn text(rows: &[Row], minutes: Minutes) -> String {
+    let mut text = format!(
+        "{:>10}  {:>12}  {:>14}\n",
+        "minutes", "depth (m)", "speed (m/min)"
+    );
+    for row in rows {
+        let cells = [
+            minutes.text(row.minute),
+            metres(row.depth),
+            metres(row.speed),
+        ];
+        text.push_str(&format!(
+            "{:>10}  {:>12}  {:>14}\n",
+            cells[0], cells[1], cells[2]
+        ));
+    }
+    text
+}
+
+fn metres(value: Option<f64>) -> String {
+    match value {
+        None => "-".into(),
+        Some(value) if value.abs() >= 1e9 => format!("{value:.3e}"),
+        Some(value) => {
+            let text = format!("{value:.2}");
+            if text == "-0.00" {
+                "0.00".into()
+            } else {
+                text
+            }
+        }
+    }
+}
+
+/// The rows for programs: every number in full.
+pub fn csv(rows: &[Row]) -> String {
+    let cell = |value: Option<f64>| value.map_or_else(String::new, numbers::decimal);
+    let mut text = String::from("minutes,depth_m,speed_m_per_min\n");
+    for row in rows {
+        text.push_str(&format!(
+            "{},{},{}\n",
+            numbers::decimal(row.minute),
+            cell(row.depth),
+            cell(row.speed)
+        ));
+    }
+    text
+}
+
+/// What to say of minutes at which a value isn't finite, if there are any.
+pub fn note(rows: &[Row]) -> Option<String> {
+    let missing = rows
+        .iter()
+        .filter(|row| row.depth.is_none() || row.speed.is_none())
+        .count();
+    (missing > 0).then(|| {
+        format!(
+            "dive: at {missing} of {} minutes a value isn't finite (NotFinite), and is left out",
+            rows.len()
+        )
+    })
+}
+
+#[cfg(test)]
+mod tests {
+    use super::*;
+
+    fn minutes(words: [&str; 3]) -> Minutes {
+        Minutes::parse(words).expect("good minutes")
+    }
+
+    fn refused(words: [&str; 3]) -> String {
+        Minutes::parse(words).unwrap_err().to_string()
+    }
+
+    #[test]
+    fn minutes_are_the_decimal_ones() {
+        let all: Vec<f64> = minutes(["0", "0.5", "0.1"]).each().collect();
+        assert_eq!(all, [0.0, 0.1, 0.2, 0.3, 0.4, 0.5]);
+        let all: Vec<f64> = minutes(["-1", "1", "0.75"]).each().collect();
+        assert_eq!(all, [-1.0, -0.25, 0.5]);
+        assert_eq!(minutes(["2", "2", "1"]).each().count(), 1);
+        assert_eq!(minutes(["0", "1e1", "1"]).each().count(), 11);
+    }
+
+    #[test]
+    fn wrong_minutes_are_said() {
+        assert!(refused(["1", "0", "1"]).contains("must not be above"));
+        assert!(refused(["0", "1", "0"]).contains("above 0"));
+        assert!(refused(["0", "1", "-1"]).contains("above 0"));
+        assert!(refused(["0", "inf", "1"]).contains("finite"));
+        assert!(refused(["0", "x", "1"]).contains("TO: `x` is no number"));
+        assert!(refused(["0", "1", "1e-9"]).contains("rows"));
+        assert!(refused(["-1e308", "1e308", "1"]).contains("rows"));
+    }
+
+    #[test]
+    fn tables_are_aligned() {
+        let rows = [
+            Row {
+                minute: 0.0,
+                depth: Some(-0.001),
+                speed: None,
+            },
+            Row {
+                minute: 0.5,
+                depth: Some(1234.567),
+                speed: Some(-1e12),
+            },
+        ];
+        let expected = "   minutes     depth (m)   speed (m/min)\n       0.0          0.00               -\n       0.5       1234.57       -1.000e12\n";
+        assert_eq!(text(&rows, minutes(["0", "1", "0.5"])), expected);
+        assert_eq!(
+            csv(&rows),
+            "minutes,depth_m,speed_m_per_min\n0,-0.001,\n0.5,1234.567,-1000000000000\n"
+        );
+        assert!(note(&rows).expect("a note").contains("1 of 2"));
+        assert_eq!(note(&rows[1..]), None);
+    }
+}
