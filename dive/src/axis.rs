@@ -14,6 +14,9 @@ pub struct Mark {
     pub label: String,
 }
 
+/// A number that lies less than this share of a step past a mark asks for no further mark.
+const SLACK: f64 = 0.02;
+
 impl Axis {
     /// An axis from one number to another, with about so many round numbers marked.
     pub fn exact(low: f64, high: f64, about: f64) -> Self {
@@ -31,7 +34,8 @@ impl Axis {
         });
         let high = if low == high { 1.0 } else { high };
         let step = round_step((high - low) / about);
-        let (low, high) = ((low / step).floor() * step, (high / step).ceil() * step);
+        let low = (low / step + SLACK).floor() * step;
+        let high = (high / step - SLACK).ceil() * step;
         (step > 0.0 && (high - low).is_finite()).then(|| Axis {
             low,
             high,
@@ -136,6 +140,8 @@ mod tests {
         assert_eq!(labels(&axis), ["0", "50", "100", "150"]);
         let axis = Axis::around([-61.0, 59.0].into_iter(), 5.0).expect("an axis");
         assert_eq!(labels(&axis), ["-100", "-50", "0", "50", "100"]);
+        let axis = Axis::around([-0.01, 149.0].into_iter(), 5.0).expect("an axis");
+        assert_eq!((axis.low, axis.high), (0.0, 150.0));
         let axis = Axis::around([0.0].into_iter(), 5.0).expect("an axis");
         assert_eq!((axis.low, axis.high), (0.0, 1.0));
     }

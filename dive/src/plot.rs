@@ -8,7 +8,6 @@ use crate::{
 
 const WIDTH: f64 = 900.0;
 const HEIGHT: f64 = 640.0;
-const RIGHT: f64 = WIDTH - 28.0;
 const DEPTH: (f64, f64) = (108.0, 348.0);
 const SPEED: (f64, f64) = (388.0, 568.0);
 /// About how wide a digit of a label is.
@@ -44,12 +43,26 @@ struct Panel {
 /// Where things stand from left to right.
 struct Across {
     left: f64,
+    right: f64,
     axis: Axis,
 }
 
 impl Across {
+    /// From one minute to another, with room for so many characters at the left.
+    fn new(minutes: Minutes, characters: usize) -> Self {
+        let marked = |about| Axis::exact(minutes.from, minutes.to, about);
+        let axis = if marked(10.0).label_width() > 7 {
+            marked(5.0)
+        } else {
+            marked(10.0)
+        };
+        let left = 52.0 + characters as f64 * DIGIT;
+        let right = WIDTH - 8.0 - (axis.label_width().max(5) as f64 * DIGIT) / 2.0;
+        Across { left, right, axis }
+    }
+
     fn x(&self, minute: f64) -> f64 {
-        self.left + self.axis.share(minute) * (RIGHT - self.left)
+        self.left + self.axis.share(minute) * (self.right - self.left)
     }
 }
 
@@ -81,12 +94,10 @@ pub fn svg(heading: Heading<'_>, rows: &[Row], minutes: Minutes) -> Option<Strin
         colour: SPEED_COLOUR,
         points: rows.iter().map(|row| (row.minute, row.speed)).collect(),
     };
-    let digits = depth.axis.label_width().max(speed.axis.label_width());
-    let left = 52.0 + digits as f64 * DIGIT;
-    let across = Across {
-        left,
-        axis: Axis::exact(minutes.from, minutes.to, 10.0),
-    };
+    let across = Across::new(
+        minutes,
+        depth.axis.label_width().max(speed.axis.label_width()),
+    );
     Some(drawn(heading, &across, &[depth, speed]))
 }
 
@@ -102,7 +113,7 @@ fn drawn(heading: Heading<'_>, across: &Across, panels: &[Panel; 2]) -> String {
         put_values(&mut svg, across, panel);
         put_curve(&mut svg, across, panel);
     }
-    let middle = (across.left + RIGHT) / 2.0;
+    let middle = (across.left + across.right) / 2.0;
     svg.text(
         (middle, SPEED.1 + 46.0),
         Anchor::Middle,
@@ -140,25 +151,25 @@ fn put_minutes(svg: &mut Svg, across: &Across, panel: &Panel) {
         let x = across.x(*at);
         svg.line((x, top), (x, bottom), GRID, 1.0);
         svg.line((x, bottom), (x, bottom + 5.0), FRAME, 1.0);
-        svg.text((x, bottom + 20.0), Anchor::Middle, PLAIN, label);
+        svg.text((x, bottom + 22.0), Anchor::Middle, PLAIN, label);
     }
 }
 
 /// The marks of the values, from left to right, with their labels; the frame and the panel's name.
 fn put_values(svg: &mut Svg, across: &Across, panel: &Panel) {
-    let left = across.left;
+    let (left, right) = (across.left, across.right);
     for Mark { at, label } in &panel.axis.marks {
         let y = panel.y(*at);
         svg.line(
             (left, y),
-            (RIGHT, y),
+            (right, y),
             if *at == 0.0 { ZERO } else { GRID },
             1.0,
         );
         svg.line((left - 5.0, y), (left, y), FRAME, 1.0);
         svg.text((left - 9.0, y + 4.5), Anchor::End, PLAIN, label);
     }
-    svg.frame((left, panel.top), (RIGHT, panel.bottom), FRAME);
+    svg.frame((left, panel.top), (right, panel.bottom), FRAME);
     let style = format!("font-size=\"13\" fill=\"{}\"", panel.colour);
     svg.text(
         (20.0, (panel.top + panel.bottom) / 2.0),
