@@ -22,7 +22,7 @@ pub enum Command {
         file: String,
         out: Option<String>,
     },
-    /// Derivative, integral or inverse.
+    /// Derivative, integral, inverse, or the list written anew.
     Make {
         asked: Asked,
         file: String,
@@ -161,6 +161,7 @@ fn command(name: &str, words: Words) -> Result<Command, Failure> {
         "derivative" => made(Asked::Derivative, one(plain)?, out),
         "integral" => made(Asked::Integral, one(plain)?, out),
         "inverse" => made(Asked::Inverse, one(plain)?, out),
+        "write" => made(Asked::Write, one(plain)?, out),
         "run" => {
             let [file, x] = exactly(plain, "FILE and X")?;
             let x =

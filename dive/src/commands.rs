@@ -3,19 +3,19 @@
 use std::path::Path;
 
 use uplink::{
-    bytes, decode_list, decode_sum, derive, integrate, read, Entry, Record, Refused, LIST_BYTES,
-    SUM_BYTES,
+    bytes, decode_list, decode_sum, derive, integrate, read, Record, Refused, LIST_BYTES, SUM_BYTES,
 };
 
 use crate::{
     cli::Command,
     explain::{explained, Asked},
     failure::Failure,
-    formula::{formula, same_but_for_zeros, table as term_table},
+    formula::{formula, table as term_table},
     help, notation, numbers,
     plot::{self, Heading},
+    remarks,
     source::{save, Source},
-    table::{self, Minutes},
+    table::{self, Minutes, Row},
     words,
 };
 
@@ -23,12 +23,15 @@ use crate::{
 #[derive(Debug, Clone, Default, PartialEq, Eq)]
 pub struct Printed {
     pub text: String,
-    pub note: Option<String>,
+    pub remarks: Vec<String>,
 }
 
 impl From<String> for Printed {
     fn from(text: String) -> Self {
-        Printed { text, note: None }
+        Printed {
+            text,
+            remarks: Vec::new(),
+        }
     }
 }
 
@@ -109,41 +112,45 @@ fn make(asked: Asked, file: &str, out: Option<&str>) -> Done {
     let made = match asked {
         Asked::Derivative => bytes::derivative(&source.bytes, &mut room),
         Asked::Integral => bytes::integral(&source.bytes, &mut room),
+        Asked::Write => written_anew(&source.bytes, &mut room),
         _ => bytes::inverse(&source.bytes, &mut room),
     };
     let made = made.map_err(refuse(asked, &source))?;
-    if let Some(out) = out {
-        return save(out, made, file).map(|()| Printed::default());
-    }
     let list = decode_list(made).unwrap_or_default();
-    let sum = made_sum(asked, &source);
-    let heading = sum
-        .as_deref()
-        .map_or_else(String::new, |sum| format!("{}\n\n", formula(sum)));
-    let note = sum.as_deref().and_then(|sum| departure(sum, &list));
-    Ok(Printed {
-        text: heading + &words::shown(&list),
-        note,
-    })
-}
-
-/// The sum that a derivative's or an integral's list is written from.
-fn made_sum(asked: Asked, source: &Source) -> Option<Vec<Entry>> {
-    let sum = read(&source.list().ok()?).ok()?;
-    match asked {
-        Asked::Derivative => derive(&sum.entries).ok(),
-        Asked::Integral => integrate(&sum.entries).ok(),
-        _ => None,
+    let (heading, remarks) = about(asked, &source, &list).unwrap_or_default();
+    match out {
+        Some(out) => save(out, made, file).map(|()| Printed {
+            text: String::new(),
+            remarks,
+        }),
+        None => Ok(Printed {
+            text: heading + &words::shown(&list),
+            remarks,
+        }),
     }
 }
 
-/// A remark where the list that is written, read again, isn't the sum that it was written from.
-fn departure(sum: &[Entry], list: &[Record]) -> Option<String> {
-    let back = read(list).ok()?;
-    (!same_but_for_zeros(&back.entries, sum)).then(|| {
-        let found = formula(&back.entries);
-        format!("dive: the list, as it is written, computes another formula: {found}\n(docs/DIFFERENCES.md, Written lists, says why)")
-    })
+/// The list of the formula that a list stands for.
+fn written_anew<'a>(list: &[u8], room: &'a mut [u8]) -> Result<&'a [u8], Refused> {
+    let mut sum = [0; SUM_BYTES];
+    let found = bytes::read(list, &mut sum)?;
+    bytes::write(found.sum, found.is_complex, room)
+}
+
+/// The formula that a list is written from, where there is one, and what is to be remarked.
+fn about(asked: Asked, source: &Source, list: &[Record]) -> Option<(String, Vec<String>)> {
+    let sum = read(&source.list().ok()?).ok()?.entries;
+    let (made, remark) = match asked {
+        Asked::Derivative => (derive(&sum).ok()?, remarks::of_derivative(&sum)),
+        Asked::Integral => (integrate(&sum).ok()?, remarks::of_integral(&sum)),
+        Asked::Write => (sum, None),
+        _ => return None,
+    };
+    let written = remarks::of_written(&made, list);
+    Some((
+        formula(&made) + "\n\n",
+        remark.into_iter().chain(written).collect(),
+    ))
 }
 
 fn run_list(file: &str, x: f64) -> Done {
@@ -159,7 +166,8 @@ fn run_list(file: &str, x: f64) -> Done {
 }
 
 fn table(file: &str, minutes: Minutes, csv: bool) -> Done {
-    let rows = table::rows(&Source::load(file)?, minutes)?;
+    let source = Source::load(file)?;
+    let rows = table::rows(&source, minutes)?;
     let text = if csv {
         table::csv(&rows)
     } else {
@@ -167,37 +175,37 @@ fn table(file: &str, minutes: Minutes, csv: bool) -> Done {
     };
     Ok(Printed {
         text,
-        note: table::note(&rows),
+        remarks: of_rows(&source, &rows),
     })
+}
+
+fn of_rows(source: &Source, rows: &[Row]) -> Vec<String> {
+    let sum = source.list().ok().and_then(|list| read(&list).ok());
+    let departure = sum.and_then(|sum| remarks::of_derivative(&sum.entries));
+    departure.into_iter().chain(table::gaps(rows)).collect()
 }
 
 fn plot(file: &str, minutes: Minutes, out: &str) -> Done {
     let source = Source::load(file)?;
     let rows = table::rows(&source, minutes)?;
-    let title = Path::new(&source.name).file_name().map_or_else(
-        || source.name.clone(),
-        |name| name.to_string_lossy().into_owned(),
-    );
-    let subtitle = subtitle(&source);
-    let picture = plot::svg(
-        Heading {
-            title: &title,
-            subtitle: &subtitle,
-        },
-        &rows,
-        minutes,
-    )
-    .ok_or_else(|| Failure::Refused(format!("{file}: the values lie too far apart to draw")))?;
+    let title = Path::new(&source.name)
+        .file_name()
+        .map_or(source.name.as_str().into(), |name| name.to_string_lossy());
+    let heading = Heading {
+        title: &title,
+        subtitle: &subtitle(&source),
+    };
+    let picture = plot::svg(heading, &rows, minutes)
+        .ok_or_else(|| Failure::Refused(format!("{file}: the values lie too far apart to draw")))?;
     save(out, picture.as_bytes(), file)?;
-    let note = table::note(&rows);
+    let points = counted(rows.len(), "point", "points");
+    let text = format!(
+        "{out}: {points} from {} to {} minutes\n",
+        minutes.from, minutes.to
+    );
     Ok(Printed {
-        text: format!(
-            "{out}: {} from {} to {} minutes\n",
-            counted(rows.len(), "point", "points"),
-            minutes.from,
-            minutes.to
-        ),
-        note,
+        text,
+        remarks: of_rows(&source, &rows),
     })
 }
 
@@ -212,8 +220,6 @@ fn subtitle(source: &Source) -> String {
         Ok(speed) => format!("{depth};  speed = {}", formula(&speed)),
         Err(_) => depth.clone(),
     };
-    [both, depth]
-        .into_iter()
-        .find(|text| text.chars().count() <= MOST)
-        .unwrap_or_default()
+    let fits = |text: &String| text.chars().count() <= MOST;
+    [both, depth].into_iter().find(fits).unwrap_or_default()
 }

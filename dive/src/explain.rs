@@ -15,6 +15,8 @@ pub enum Asked {
     Derivative,
     Integral,
     Inverse,
+    /// The formula written anew.
+    Write,
     /// The value at this x.
     Run(f64),
 }
@@ -26,6 +28,7 @@ impl Asked {
             Asked::Derivative => "its derivative".into(),
             Asked::Integral => "its integral".into(),
             Asked::Inverse => "its inverse".into(),
+            Asked::Write => "writing it anew".into(),
             Asked::Run(x) => format!("its run at x = {}", numbers::text(x)),
         }
     }
@@ -99,7 +102,7 @@ fn of_the_run(refusal: Refusal, record: &Record, x: f64) -> Option<String> {
             format!("The runner has no {}: it adds, subtracts, multiplies, divides and raises to whole powers, {PAGE}", words::name(record))
         }
         (Refusal::NotSupported, Record::Modifier { .. }) => {
-            format!("Of the modifiers the runner has On alone, {PAGE} Its derivative's list has no other modifier.")
+            "Of the modifiers the runner has On alone. `dive write` writes the same formula with no other modifier.".into()
         }
         (Refusal::NotSupported, _) => "The runner has no such step.".into(),
         (Refusal::NonReal, _) => {

@@ -18,6 +18,7 @@ dive: formulas of dives as lists of steps
   dive derivative FILE                 the list of its derivative: speed
   dive integral FILE                   the list of its integral
   dive inverse FILE                    the list that undoes it
+  dive write FILE                      the same formula, written anew
   dive run FILE X                      the list's value at x
   dive table FILE FROM TO STEP         minutes, depth and speed
   dive plot FILE FROM TO STEP -o OUT   the same as a picture (SVG)
@@ -32,7 +33,7 @@ Exit codes: 0 done, 1 refused, 2 wrong usage or a file that can't be read or
 written.
 ";
 
-pub const COMMANDS: [Command; 11] = [
+pub const COMMANDS: [Command; 12] = [
     Command {
         name: "show",
         usage: "show FILE",
@@ -91,6 +92,16 @@ it. With -o the list is written to OUT as records, and nothing is printed.
         about: "\
 Prints the list of steps that undoes the list: from a depth to the minute. With
 -o it is written to OUT as records, and nothing is printed.
+",
+    },
+    Command {
+        name: "write",
+        usage: "write FILE [-o OUT]",
+        about: "\
+Prints the list's formula, and a list of steps that is written from it: terms in
+rising order, and On the only modifier, so that the page can run it where all
+powers are whole. With -o the list is written to OUT as records, and nothing is
+printed.
 ",
     },
     Command {

@@ -13,6 +13,7 @@ mod nearest;
 mod notation;
 mod numbers;
 mod plot;
+mod remarks;
 mod source;
 mod svg;
 mod table;
@@ -48,8 +49,8 @@ fn arguments() -> Result<Vec<String>, Failure> {
 
 /// Prints, and doesn't mind if nobody reads to the end.
 fn print(printed: &Printed) -> ExitCode {
-    if let Some(note) = &printed.note {
-        eprintln!("{note}");
+    for remark in &printed.remarks {
+        eprintln!("dive: {remark}");
     }
     match io::stdout()
         .write_all(printed.text.as_bytes())

@@ -202,14 +202,12 @@ pub fn csv(rows: &[Row]) -> String {
 }
 
 /// What to say of minutes at which a value isn't finite, if there are any.
-pub fn note(rows: &[Row]) -> Option<String> {
-    let missing = rows
-        .iter()
-        .filter(|row| row.depth.is_none() || row.speed.is_none())
-        .count();
-    (missing > 0).then(|| {
+pub fn gaps(rows: &[Row]) -> Option<String> {
+    let is_gap = |row: &&Row| row.depth.is_none() || row.speed.is_none();
+    let count = rows.iter().filter(is_gap).count();
+    (count > 0).then(|| {
         format!(
-            "dive: at {missing} of {} minutes a value isn't finite (NotFinite), and is left out",
+            "at {count} of {} minutes a value isn't finite (NotFinite), and is left out",
             rows.len()
         )
     })
@@ -268,7 +266,7 @@ mod tests {
             csv(&rows),
             "minutes,depth_m,speed_m_per_min\n0,-0.001,\n0.5,1234.567,-1000000000000\n"
         );
-        assert!(note(&rows).expect("a note").contains("1 of 2"));
-        assert_eq!(note(&rows[1..]), None);
+        assert!(gaps(&rows).expect("a gap").contains("1 of 2"));
+        assert_eq!(gaps(&rows[1..]), None);
     }
 }

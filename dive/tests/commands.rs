@@ -181,7 +181,14 @@ fn a_modifier_that_is_not_run_is_explained() {
         said.contains("NotSupported (2) at record 0, Fork"),
         "{said}"
     );
-    assert!(said.contains("the runner has On alone"), "{said}");
+    assert!(
+        said.contains("`dive write` writes the same formula"),
+        "{said}"
+    );
+    let anew = path(&folder("anew").join("fork.list"));
+    line(&format!("write samples/fork.txt -o {anew}")).done();
+    let table = line(&format!("table {anew} 0 10 1")).done();
+    assert_eq!(table, line("table samples/parabola.txt 0 10 1").done());
 }
 
 #[test]
@@ -250,7 +257,7 @@ fn bytes_that_are_no_list_are_explained() {
     ];
     for (bytes, sentence) in cases {
         fs::write(&file, bytes).expect("a file");
-        for command in ["show", "text", "read", "derivative", "inverse"] {
+        for command in ["show", "text", "read", "derivative", "inverse", "write"] {
             let said = line(&format!("{command} {file}")).failed(1);
             assert!(
                 said.contains("BadRecord (11)") && said.contains(sentence),
@@ -263,8 +270,8 @@ fn bytes_that_are_no_list_are_explained() {
 #[test]
 fn minutes_without_a_value_are_left_out() {
     let file = path(&folder("gaps").join("a.txt"));
-    fs::write(&file, "Reciprocal").expect("a file");
-    let ended = line(&format!("table {file} 0 1 1"));
+    fs::write(&file, "push 1, Add, Reciprocal").expect("a file");
+    let ended = line(&format!("table {file} -1 0 1"));
     assert!(
         ended
             .remarked
@@ -272,9 +279,14 @@ fn minutes_without_a_value_are_left_out() {
         "{}",
         ended.remarked
     );
+    assert!(
+        ended.remarked.contains("departs from calculus"),
+        "{}",
+        ended.remarked
+    );
     assert!(ended
         .done()
-        .contains("         0             -               -\n"));
+        .contains("        -1             -               -\n"));
 }
 
 #[test]
@@ -285,7 +297,7 @@ fn a_list_that_computes_another_formula_is_remarked() {
     assert!(
         ended
             .remarked
-            .contains("computes another formula: 1 + cos(2 x)"),
+            .contains("computes another formula: 1 + 0 x + cos(2 x)"),
         "{}",
         ended.remarked
     );

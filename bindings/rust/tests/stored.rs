@@ -118,7 +118,10 @@ fn stored_answers_of_sums_hold() {
 
 #[test]
 fn stored_answers_at_the_limits_hold() {
-    assert!(replayed("limits.txt") > 2000);
+    assert_eq!(
+        replayed("limits.txt"),
+        401 + 469 + 403 + 454 + 190 + 93 + 870
+    );
 }
 
 #[test]

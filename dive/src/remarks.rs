@@ -1,0 +1,68 @@
+//! What is said beside a result that departs from calculus. The library follows the Rust that it ports; docs/DIFFERENCES.md lists where that departs.
+
+use uplink::{read, Entry, Record, Term};
+
+use crate::formula::{formula, same_but_for_zeros};
+
+/// Of the derivative of a sum.
+pub fn of_derivative(sum: &[Entry]) -> Option<String> {
+    let has_reciprocal = sum.iter().any(|entry| matches!(entry.term, Term::Div));
+    has_reciprocal.then(|| {
+        "the derivative of 1 over several terms departs from calculus here: its sign and its inner factor are missing \
+         (docs/DIFFERENCES.md, Derivative)"
+            .into()
+    })
+}
+
+/// Of the integral of a sum.
+pub fn of_integral(sum: &[Entry]) -> Option<String> {
+    let x = Entry::power(1.0, 1.0);
+    let is_wave = |term| matches!(term, Term::Sin | Term::Cos | Term::SinH | Term::CosH);
+    let is_departing = sum
+        .windows(2)
+        .any(|pair| is_wave(pair[0].term) && pair[1] != x);
+    is_departing.then(|| {
+        "the integral of a sine or cosine of k x departs from calculus here: it is taken as that of x \
+         (docs/DIFFERENCES.md, Integral)"
+            .into()
+    })
+}
+
+/// Of a list that, read again, isn't the sum that it was written from.
+pub fn of_written(sum: &[Entry], list: &[Record]) -> Option<String> {
+    let back = read(list).ok()?.entries;
+    (!same_but_for_zeros(&back, sum)).then(|| {
+        let found = formula(&back);
+        format!("the list, as it is written, computes another formula: {found} (docs/DIFFERENCES.md, Written lists)")
+    })
+}
+
+#[cfg(test)]
+mod tests {
+    use super::*;
+
+    fn of(term: Term, inside: Entry) -> [Entry; 2] {
+        [
+            Entry {
+                term,
+                inside: 1,
+                re: 1.0,
+                im: 0.0,
+            },
+            inside,
+        ]
+    }
+
+    #[test]
+    fn sums_of_powers_need_no_remark() {
+        let sum = [Entry::power(0.5, 2.0), Entry::power(2.0, 1.0)];
+        assert_eq!((of_derivative(&sum), of_integral(&sum)), (None, None));
+    }
+
+    #[test]
+    fn departures_are_remarked() {
+        assert!(of_derivative(&of(Term::Div, Entry::power(1.0, 1.0))).is_some());
+        assert!(of_integral(&of(Term::Sin, Entry::power(1.0, 2.0))).is_some());
+        assert!(of_integral(&of(Term::Sin, Entry::power(1.0, 1.0))).is_none());
+    }
+}
