@@ -1,12 +1,18 @@
 //! Takes the static archive of the proved crate `uplink`. Nothing else is ever linked: where the archive can't be made, the build stops and says what to do.
 
 use std::{
-    env, fs, io,
+    collections::hash_map::DefaultHasher,
+    env, fs,
+    hash::{Hash, Hasher},
+    io,
     path::{Path, PathBuf},
     process::{self, Command, Output},
 };
 
 const ARCHIVE: &str = "libuplink.a";
+
+/// The proved code, and how it is built.
+const SOURCES: [&str; 3] = ["crates.txt", "crates", "tools/native_archive"];
 
 fn main() {
     if let Err(message) = link() {
@@ -48,51 +54,65 @@ fn repository() -> Result<PathBuf, String> {
 /// Only a change of the proved code, or of how it is built, asks for a new archive.
 fn watch(root: &Path) {
     println!("cargo:rerun-if-changed=build.rs");
-    for part in ["crates.txt", "crates", "tools/native_archive"] {
-        println!("cargo:rerun-if-changed={}", root.join(part).display());
+    for source in SOURCES {
+        println!("cargo:rerun-if-changed={}", root.join(source).display());
     }
 }
 
+/// Takes the archive that was built from these very sources, or builds it and keeps it, so that other builds take no time.
 fn take_archive(root: &Path, to: &Path) -> Result<(), String> {
     let target = variable("TARGET")?;
+    let folder = root.join("target/archive");
+    let number = fingerprint(root, &toolchain()?)?;
+    let kept = folder.join(format!("{target}-{number:016x}.a"));
+    if kept.exists() {
+        return copy(&kept, to);
+    }
+    build_archive(root, to, &target)?;
+    fs::create_dir_all(&folder).map_err(|error| unwritten(&folder, &error))?;
+    keep(to, &kept)
+}
+
+/// A copy under another name first, so that no other build takes half of it.
+fn keep(archive: &Path, kept: &Path) -> Result<(), String> {
+    let half = kept.with_extension(process::id().to_string());
+    copy(archive, &half)?;
+    fs::rename(&half, kept).map_err(|error| unwritten(kept, &error))
+}
+
+fn build_archive(root: &Path, to: &Path, target: &str) -> Result<(), String> {
     if !target.contains("linux") {
         return Err(format!(
             "the proved library is built for Linux, not for {target}."
         ));
     }
     match variable("CARGO_CFG_TARGET_ARCH")?.as_str() {
-        "x86_64" => take_for_x86_64(root, to),
-        "aarch64" => take_for_arm(root, to, &target),
+        "x86_64" => build_for_x86_64(root, to),
+        "aarch64" => build_for_arm(root, to, target),
         _ => Err(format!(
             "the proved library is built for x86-64 and Arm, not for {target}."
         )),
     }
 }
 
-fn take_for_x86_64(root: &Path, to: &Path) -> Result<(), String> {
-    find_toolchain()?;
+fn build_for_x86_64(root: &Path, to: &Path) -> Result<(), String> {
     run(
         Command::new("rt")
             .args(["staticlib", "uplink"])
             .current_dir(root),
         root,
     )?;
-    let from = root.join("target/staticlib").join(ARCHIVE);
-    match fs::copy(&from, to) {
-        Ok(_) => Ok(()),
-        Err(error) => Err(format!("{} can't be copied: {error}", from.display())),
-    }
+    copy(&root.join("target/staticlib").join(ARCHIVE), to)
 }
 
 /// On Arm the archive is made for this computer, from the same proved code.
-fn take_for_arm(root: &Path, to: &Path, target: &str) -> Result<(), String> {
+fn build_for_arm(root: &Path, to: &Path, target: &str) -> Result<(), String> {
     let host = variable("HOST")?;
     if !host.starts_with("aarch64") {
         return Err(format!(
             "the archive for {target} is made on Arm alone, and this computer is {host}."
         ));
     }
-    find_toolchain()?;
     let tool = root.join("tools/native_archive");
     run(
         Command::new("python3")
@@ -104,14 +124,57 @@ fn take_for_arm(root: &Path, to: &Path, target: &str) -> Result<(), String> {
     )
 }
 
-fn find_toolchain() -> Result<(), String> {
+/// Which toolchain there is.
+fn toolchain() -> Result<Vec<u8>, String> {
     match Command::new("rt").arg("version").output() {
-        Ok(_) => Ok(()),
+        Ok(answer) => Ok(answer.stdout),
         Err(error) => Err(format!(
             "the Rattle toolchain's command `rt` can't be started: {error}.\nInstall the toolchain and put `rt` on the PATH, \
              then build again. The library is built from proved code alone, and `rt` proves it."
         )),
     }
+}
+
+/// A number that tells these sources and this toolchain from any others.
+fn fingerprint(root: &Path, toolchain: &[u8]) -> Result<u64, String> {
+    let mut hasher = DefaultHasher::new();
+    toolchain.hash(&mut hasher);
+    for source in SOURCES {
+        let path = root.join(source);
+        add_to_fingerprint(&path, &mut hasher)
+            .map_err(|error| format!("{} can't be read: {error}", path.display()))?;
+    }
+    Ok(hasher.finish())
+}
+
+fn add_to_fingerprint(path: &Path, hasher: &mut DefaultHasher) -> io::Result<()> {
+    path.hash(hasher);
+    if !path.is_dir() {
+        fs::read(path)?.hash(hasher);
+        return Ok(());
+    }
+    let mut inside = fs::read_dir(path)?
+        .map(|entry| Ok(entry?.path()))
+        .collect::<io::Result<Vec<_>>>()?;
+    inside.sort();
+    inside
+        .iter()
+        .try_for_each(|path| add_to_fingerprint(path, hasher))
+}
+
+fn copy(from: &Path, to: &Path) -> Result<(), String> {
+    match fs::copy(from, to) {
+        Ok(_) => Ok(()),
+        Err(error) => Err(format!(
+            "{} can't be copied to {}: {error}",
+            from.display(),
+            to.display()
+        )),
+    }
+}
+
+fn unwritten(path: &Path, error: &io::Error) -> String {
+    format!("{} can't be written: {error}", path.display())
 }
 
 fn run(command: &mut Command, root: &Path) -> Result<(), String> {
