@@ -169,3 +169,42 @@ fn of_the_result(asked: Asked, refusal: Refusal) -> Option<String> {
     };
     Some(text.into())
 }
+
+#[cfg(test)]
+mod tests {
+    use uplink::LIST_BYTES;
+
+    use super::*;
+
+    /// What is asked of a list, and the refusal if it is refused.
+    fn refusals(list: &[u8]) -> Vec<(Asked, Refused)> {
+        let mut room = vec![0; LIST_BYTES];
+        let mut found = Vec::new();
+        let mut add =
+            |asked, refused: Option<Refused>| found.extend(refused.map(|refused| (asked, refused)));
+        add(Asked::Read, bytes::read(list, &mut room).err());
+        add(Asked::Derivative, bytes::derivative(list, &mut room).err());
+        add(Asked::Integral, bytes::integral(list, &mut room).err());
+        add(Asked::Inverse, bytes::inverse(list, &mut room).err());
+        for x in [2.0, f64::NAN] {
+            add(Asked::Run(x), bytes::run(list, x).err());
+        }
+        found
+    }
+
+    #[test]
+    fn every_refusal_of_a_stored_list_is_explained() {
+        let mut met = [false; 18];
+        for list in crate::stored::lists() {
+            let source = Source::of_records("a".into(), &list);
+            for (asked, refused) in refusals(&list) {
+                let text = explained(asked, &source, refused);
+                assert!(text.contains(refused.refusal.name()), "{text}");
+                assert!(text.ends_with('.') && text.lines().count() >= 2, "{text}");
+                met[refused.refusal.number() as usize] = true;
+            }
+        }
+        // OutputRoom alone is never met: there is room for every result.
+        assert!(met[1..17].iter().all(|&met| met) && !met[17], "{met:?}");
+    }
+}

@@ -15,6 +15,8 @@ mod numbers;
 mod plot;
 mod remarks;
 mod source;
+#[cfg(test)]
+mod stored;
 mod svg;
 mod table;
 mod words;

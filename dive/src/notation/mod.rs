@@ -6,8 +6,6 @@
 mod mistake;
 mod parse;
 mod print;
-#[cfg(test)]
-mod stored;
 mod tokens;
 
 pub use mistake::{Mistake, Span};

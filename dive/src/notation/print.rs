@@ -103,6 +103,8 @@ fn body(step: &[Record]) -> Group<'_> {
 
 #[cfg(test)]
 mod tests {
+    use uplink::{decode_list, encode_list, list_fault};
+
     use super::{super::parse, *};
 
     fn round_trip(written: &str) {
@@ -170,5 +172,58 @@ mod tests {
                 number.trim_start_matches('-')
             ));
         }
+    }
+
+    #[test]
+    fn every_stored_list_reads_back_byte_for_byte() {
+        let mut count = 0;
+        for bytes in crate::stored::lists()
+            .iter()
+            .filter(|list| list_fault(list).is_none())
+        {
+            let written = text(&decode_list(bytes).expect("a good list"));
+            let back = parse(&written).expect("a list's text is good").list;
+            assert!(encode_list(&back) == *bytes, "{written}");
+            assert_eq!(text(&back), written);
+            count += 1;
+        }
+        assert!(count > 4600, "{count}");
+    }
+
+    /// Texts of random words, good and bad.
+    fn random_texts() -> impl Iterator<Item = String> {
+        let words = "push 3 -0.5 + 2i - { } {2: On Fork Run Dup Pow # \n Primitive 99 Modifier é bits:7ff8000000000000 {";
+        let words: Vec<&str> = words.split(' ').collect();
+        let mut state = 1_u64;
+        let mut below = move |most: usize| {
+            state = state
+                .wrapping_mul(6_364_136_223_846_793_005)
+                .wrapping_add(1_442_695_040_888_963_407);
+            (state >> 33) as usize % most
+        };
+        (0..5000).map(move |_| {
+            let chosen: Vec<&str> = (0..below(12)).map(|_| words[below(words.len())]).collect();
+            chosen.join(if below(2) == 0 { " " } else { "," })
+        })
+    }
+
+    #[test]
+    fn every_random_text_is_a_list_or_a_mistake_in_it() {
+        let (mut good, mut bad) = (0, 0);
+        for written in random_texts() {
+            match parse(&written) {
+                Ok(parsed) => {
+                    assert_eq!(list_fault(&encode_list(&parsed.list)), None, "{written}");
+                    assert_eq!(parsed.list.len(), parsed.spans.len());
+                    round_trip(&written);
+                    good += 1;
+                }
+                Err(mistake) => {
+                    assert!(mistake.shown("a", &written).contains('^'), "{written}");
+                    bad += 1;
+                }
+            }
+        }
+        assert!(good > 500 && bad > 500, "{good} {bad}");
     }
 }
