@@ -132,6 +132,22 @@ fn sorted(rest: &[String]) -> Result<Words, String> {
 }
 
 fn command(name: &str, words: Words) -> Result<Command, Failure> {
+    check_options(name, &words)?;
+    let Words {
+        plain, out, csv, ..
+    } = words;
+    match name {
+        "run" => run(plain),
+        "table" => {
+            let (file, minutes) = file_and_minutes(plain)?;
+            Ok(Command::Table { file, minutes, csv })
+        }
+        "plot" => plot(plain, out),
+        _ => of_one_file(name, one(plain)?, out),
+    }
+}
+
+fn check_options(name: &str, words: &Words) -> Result<(), Failure> {
     if words.csv && name != "table" {
         return Err(Failure::Usage("--csv is for the table alone".into()));
     }
@@ -140,49 +156,43 @@ fn command(name: &str, words: Words) -> Result<Command, Failure> {
             "what it finds is printed, and it takes no -o".into(),
         ));
     }
-    let made = |asked, file, out| Command::Make { asked, file, out };
-    let Words {
-        plain, out, csv, ..
-    } = words;
-    Ok(match name {
-        "show" => Command::Show { file: one(plain)? },
-        "assemble" => Command::Assemble {
-            file: one(plain)?,
-            out: needed(out)?,
-        },
-        "text" => Command::Text {
-            file: one(plain)?,
-            out,
-        },
-        "read" => Command::Read {
-            file: one(plain)?,
-            out,
-        },
-        "derivative" => made(Asked::Derivative, one(plain)?, out),
-        "integral" => made(Asked::Integral, one(plain)?, out),
-        "inverse" => made(Asked::Inverse, one(plain)?, out),
-        "write" => made(Asked::Write, one(plain)?, out),
-        "run" => {
-            let [file, x] = exactly(plain, "FILE and X")?;
-            let x =
-                numbers::parse(&x).map_err(|message| Failure::Usage(format!("X: {message}")))?;
-            Command::Run { file, x }
-        }
-        "table" => {
-            let (file, minutes) = file_and_minutes(plain)?;
-            Command::Table { file, minutes, csv }
-        }
-        _ => {
-            let (file, minutes) = file_and_minutes(plain)?;
-            if minutes.from == minutes.to {
-                return Err(Failure::Usage("FROM must be below TO for a plot".into()));
-            }
-            Command::Plot {
+    Ok(())
+}
+
+fn of_one_file(name: &str, file: String, out: Option<String>) -> Result<Command, Failure> {
+    let asked = match name {
+        "show" => return Ok(Command::Show { file }),
+        "assemble" => {
+            return Ok(Command::Assemble {
                 file,
-                minutes,
                 out: needed(out)?,
-            }
+            })
         }
+        "text" => return Ok(Command::Text { file, out }),
+        "read" => return Ok(Command::Read { file, out }),
+        "derivative" => Asked::Derivative,
+        "integral" => Asked::Integral,
+        "write" => Asked::Write,
+        _ => Asked::Inverse,
+    };
+    Ok(Command::Make { asked, file, out })
+}
+
+fn run(plain: Vec<String>) -> Result<Command, Failure> {
+    let [file, x] = exactly(plain, "FILE and X")?;
+    let x = numbers::parse(&x).map_err(|message| Failure::Usage(format!("X: {message}")))?;
+    Ok(Command::Run { file, x })
+}
+
+fn plot(plain: Vec<String>, out: Option<String>) -> Result<Command, Failure> {
+    let (file, minutes) = file_and_minutes(plain)?;
+    if minutes.from == minutes.to {
+        return Err(Failure::Usage("FROM must be below TO for a plot".into()));
+    }
+    Ok(Command::Plot {
+        file,
+        minutes,
+        out: needed(out)?,
     })
 }
 

@@ -132,13 +132,13 @@ fn of_reading(refusal: Refusal, record: &Record) -> Option<String> {
              Raise first and multiply by the coefficient after that."
         }
         (Refusal::TooComplex, Record::Primitive(Primitive::Mul | Primitive::Div)) => {
-            "Sines, cosines, exponentials and logarithms can be added up, but not multiplied or divided, not by a number either; \
-             and of sums of several terms only the reciprocal is taken."
+            "Powers of x can be multiplied and divided. Sines, cosines, exponentials, logarithms and reciprocals of sums can be added up, \
+             but hardly ever multiplied or divided, not by a number either; of a sum of several terms only the reciprocal is taken."
         }
         (Refusal::TooComplex, Record::Primitive(Primitive::Pow | Primitive::Sqrt)) => {
             "The power must be a constant. To one that isn't a whole number from 0 up, only a single power of x can be raised."
         }
-        (Refusal::TooComplex, Record::Primitive(Primitive::Exp)) => "The exponential is taken of k x alone, k being a number.",
+        (Refusal::TooComplex, Record::Primitive(Primitive::Exp)) => "The exponential is taken of k x, k being a number, and of constants.",
         (Refusal::NotSupported, Record::Primitive(Primitive::Max | Primitive::SinH | Primitive::CosH | Primitive::Root)) => {
             "This step is written in results, and not read."
         }
