@@ -1,17 +1,14 @@
-//! Takes the static archive of the proved crate `uplink`. Nothing else is ever linked: where the archive can't be made, the build stops and says what to do.
+//! Takes the static archive of the proved crate `uplink`: what `rt staticlib uplink` writes on x86-64, and on Arm the one that
+//! `tools/native_archive` makes of the same proved code for this computer. Nothing else is ever linked: where the archive can't be
+//! made, the build stops and says what to do.
 
 use std::{
-    collections::hash_map::DefaultHasher,
-    env, fs,
-    hash::{Hash, Hasher},
-    io,
+    env, io,
     path::{Path, PathBuf},
     process::{self, Command, Output},
 };
 
-const ARCHIVE: &str = "libuplink.a";
-
-/// The proved code, and how it is built.
+/// What the archive is made of, and by.
 const SOURCES: [&str; 3] = ["crates.txt", "crates", "tools/native_archive"];
 
 fn main() {
@@ -23,9 +20,14 @@ fn main() {
 
 fn link() -> Result<(), String> {
     let root = repository()?;
-    watch(&root);
+    println!("cargo:rerun-if-changed=build.rs");
+    for source in SOURCES {
+        println!("cargo:rerun-if-changed={}", root.join(source).display());
+    }
     let out = PathBuf::from(variable("OUT_DIR")?);
-    take_archive(&root, &out.join(ARCHIVE))?;
+    ask_for_this_computer()?;
+    ask_for_toolchain()?;
+    take_archive(&root, &out.join("libuplink.a"))?;
     println!("cargo:rustc-link-search=native={}", out.display());
     println!("cargo:rustc-link-lib=static=uplink");
     Ok(())
@@ -51,83 +53,26 @@ fn repository() -> Result<PathBuf, String> {
     Ok(root)
 }
 
-/// Only a change of the proved code, or of how it is built, asks for a new archive.
-fn watch(root: &Path) {
-    println!("cargo:rerun-if-changed=build.rs");
-    for source in SOURCES {
-        println!("cargo:rerun-if-changed={}", root.join(source).display());
-    }
-}
-
-/// Takes the archive that was built from these very sources, or builds it and keeps it, so that other builds take no time.
-fn take_archive(root: &Path, to: &Path) -> Result<(), String> {
-    let target = variable("TARGET")?;
-    let folder = root.join("target/archive");
-    let number = fingerprint(root, &toolchain()?)?;
-    let kept = folder.join(format!("{target}-{number:016x}.a"));
-    if kept.exists() {
-        return copy(&kept, to);
-    }
-    build_archive(root, to, &target)?;
-    fs::create_dir_all(&folder).map_err(|error| unwritten(&folder, &error))?;
-    keep(to, &kept)
-}
-
-/// A copy under another name first, so that no other build takes half of it.
-fn keep(archive: &Path, kept: &Path) -> Result<(), String> {
-    let half = kept.with_extension(process::id().to_string());
-    copy(archive, &half)?;
-    fs::rename(&half, kept).map_err(|error| unwritten(kept, &error))
-}
-
-fn build_archive(root: &Path, to: &Path, target: &str) -> Result<(), String> {
-    if !target.contains("linux") {
+/// The archive is made on the computer that it is for.
+fn ask_for_this_computer() -> Result<(), String> {
+    let (host, target) = (variable("HOST")?, variable("TARGET")?);
+    let processor = variable("CARGO_CFG_TARGET_ARCH")?;
+    if !target.contains("linux") || !["x86_64", "aarch64"].contains(&processor.as_str()) {
         return Err(format!(
-            "the proved library is built for Linux, not for {target}."
+            "the proved library is built for Linux on x86-64 and Arm, not for {target}."
         ));
     }
-    match variable("CARGO_CFG_TARGET_ARCH")?.as_str() {
-        "x86_64" => build_for_x86_64(root, to),
-        "aarch64" => build_for_arm(root, to, target),
-        _ => Err(format!(
-            "the proved library is built for x86-64 and Arm, not for {target}."
-        )),
-    }
-}
-
-fn build_for_x86_64(root: &Path, to: &Path) -> Result<(), String> {
-    run(
-        Command::new("rt")
-            .args(["staticlib", "uplink"])
-            .current_dir(root),
-        root,
-    )?;
-    copy(&root.join("target/staticlib").join(ARCHIVE), to)
-}
-
-/// On Arm the archive is made for this computer, from the same proved code.
-fn build_for_arm(root: &Path, to: &Path, target: &str) -> Result<(), String> {
-    let host = variable("HOST")?;
-    if !host.starts_with("aarch64") {
+    if !host.starts_with(&processor) {
         return Err(format!(
-            "the archive for {target} is made on Arm alone, and this computer is {host}."
+            "the archive for {target} is made on such a computer alone, and this one is {host}."
         ));
     }
-    let tool = root.join("tools/native_archive");
-    run(
-        Command::new("python3")
-            .arg(tool)
-            .arg("uplink")
-            .arg(to)
-            .current_dir(root),
-        root,
-    )
+    Ok(())
 }
 
-/// Which toolchain there is.
-fn toolchain() -> Result<Vec<u8>, String> {
+fn ask_for_toolchain() -> Result<(), String> {
     match Command::new("rt").arg("version").output() {
-        Ok(answer) => Ok(answer.stdout),
+        Ok(_) => Ok(()),
         Err(error) => Err(format!(
             "the Rattle toolchain's command `rt` can't be started: {error}.\nInstall the toolchain and put `rt` on the PATH, \
              then build again. The library is built from proved code alone, and `rt` proves it."
@@ -135,67 +80,27 @@ fn toolchain() -> Result<Vec<u8>, String> {
     }
 }
 
-/// A number that tells these sources and this toolchain from any others.
-fn fingerprint(root: &Path, toolchain: &[u8]) -> Result<u64, String> {
-    let mut hasher = DefaultHasher::new();
-    toolchain.hash(&mut hasher);
-    for source in SOURCES {
-        let path = root.join(source);
-        add_to_fingerprint(&path, &mut hasher)
-            .map_err(|error| format!("{} can't be read: {error}", path.display()))?;
-    }
-    Ok(hasher.finish())
-}
-
-fn add_to_fingerprint(path: &Path, hasher: &mut DefaultHasher) -> io::Result<()> {
-    path.hash(hasher);
-    if !path.is_dir() {
-        fs::read(path)?.hash(hasher);
-        return Ok(());
-    }
-    let mut inside = fs::read_dir(path)?
-        .map(|entry| Ok(entry?.path()))
-        .collect::<io::Result<Vec<_>>>()?;
-    inside.sort();
-    inside
-        .iter()
-        .try_for_each(|path| add_to_fingerprint(path, hasher))
-}
-
-fn copy(from: &Path, to: &Path) -> Result<(), String> {
-    match fs::copy(from, to) {
-        Ok(_) => Ok(()),
-        Err(error) => Err(format!(
-            "{} can't be copied to {}: {error}",
-            from.display(),
-            to.display()
-        )),
-    }
-}
-
-fn unwritten(path: &Path, error: &io::Error) -> String {
-    format!("{} can't be written: {error}", path.display())
-}
-
-fn run(command: &mut Command, root: &Path) -> Result<(), String> {
-    let name = command.get_program().to_string_lossy().into_owned();
-    let answer = command
+fn take_archive(root: &Path, to: &Path) -> Result<(), String> {
+    let answer = Command::new("python3")
+        .arg(root.join("tools/native_archive"))
+        .arg("uplink")
+        .arg(to)
+        .current_dir(root)
         .output()
-        .map_err(|error| not_started(&name, &error))?;
+        .map_err(|error| not_started(&error))?;
     if answer.status.success() {
         return Ok(());
     }
     show(&answer);
     Err(format!(
-        "the proved library wasn't built ({}, above, says why).\nRun `rt check uplink` in {} and see that it ends well, then build again.",
-        name,
+        "the proved library wasn't built (what is above says why).\nRun `rt check uplink` in {} and see that it ends well, then build again.",
         root.display()
     ))
 }
 
-fn not_started(name: &str, error: &io::Error) -> String {
+fn not_started(error: &io::Error) -> String {
     format!(
-        "`{name}` can't be started: {error}.\nInstall it and put it on the PATH, then build again."
+        "`python3` can't be started: {error}.\nInstall it and put it on the PATH, then build again."
     )
 }
 
