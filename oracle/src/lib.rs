@@ -14,6 +14,7 @@ pub mod operations;
 pub mod quiet;
 pub mod random;
 pub mod records;
+pub mod runner;
 pub mod stand_ins;
 pub mod stored;
 pub mod text;

@@ -1,0 +1,191 @@
+//! The runner, straight from the paper's text and apart from the proved one:
+//! a list run at a number, with its value, steps and peak. The Rust has none,
+//! so this is no part of the judging by the Rust.
+
+use crate::{
+    answer::{Refusal, number::*},
+    records::{self, Record, kind},
+};
+
+/// How many values the stack and On may hold together.
+pub const MOST_VALUES: usize = 256;
+/// The largest exponent that a value is multiplied out for.
+const MOST_POWER: f64 = 64.0;
+/// The code of the modifier On.
+const ON: u8 = 3;
+
+/// A list's value, the records run, and the most values there were at once.
+#[derive(Debug, Clone, Copy, PartialEq)]
+pub struct Ran {
+    pub value: f64,
+    pub steps: usize,
+    pub peak: usize,
+}
+
+/// The value of a list at `x`.
+pub fn run(list: &[u8], x: f64) -> Result<Ran, Refusal> {
+    let records = records::check(list).map_err(records::Fault::refusal)?;
+    if !x.is_finite() {
+        return Err(Refusal::whole(NOT_FINITE));
+    }
+    let mut runner = Runner {
+        records: &records,
+        stack: vec![x],
+        held: 0,
+        steps: 0,
+        peak: 1,
+    };
+    runner.stretch(0, records.len())?;
+    match runner.stack[..] {
+        [] => Err(Refusal::whole(NO_OUTPUT)),
+        [value] => Ok(Ran {
+            value,
+            steps: runner.steps,
+            peak: runner.peak,
+        }),
+        _ => Err(Refusal::whole(TOO_MANY_OUTPUTS)),
+    }
+}
+
+struct Runner<'a> {
+    records: &'a [Record],
+    stack: Vec<f64>,
+    held: usize,
+    steps: usize,
+    peak: usize,
+}
+
+impl Runner<'_> {
+    /// The records from one place to another, each with its inside.
+    fn stretch(&mut self, mut at: usize, end: usize) -> Result<(), Refusal> {
+        while at < end {
+            let next = self.end_of(at);
+            self.record(at, next)?;
+            at = next;
+        }
+        Ok(())
+    }
+
+    fn end_of(&self, at: usize) -> usize {
+        at + 1 + self.records[at].inside as usize
+    }
+
+    fn record(&mut self, at: usize, end: usize) -> Result<(), Refusal> {
+        self.steps += 1;
+        let record = self.records[at];
+        let refuse = |number| Refusal::new(number, at);
+        match record.kind {
+            kind::REAL => self.leave(f64::from_bits(record.re)).map_err(refuse)?,
+            kind::COMPLEX | kind::OTHER_PUSH => return Err(refuse(NON_REAL)),
+            kind::ARRAY => return Err(refuse(NON_SCALAR)),
+            kind::PRIMITIVE => self.primitive(record.code).map_err(refuse)?,
+            kind::BODY | kind::RUN => self.stretch(at + 1, end)?,
+            kind::MODIFIER if record.code == ON => self.on(at, end)?,
+            _ => return Err(refuse(NOT_SUPPORTED)),
+        }
+        self.count().map_err(refuse)
+    }
+
+    /// The body runs on a copy of the top value, which is held and put back on
+    /// what the body leaves.
+    fn on(&mut self, at: usize, end: usize) -> Result<(), Refusal> {
+        let refuse = |number| Refusal::new(number, at);
+        if at + 1 == end || self.end_of(at + 1) != end {
+            return Err(refuse(INTERPRETER_BUG));
+        }
+        let value = self.pop().map_err(refuse)?;
+        self.held += 1;
+        self.stack.push(value);
+        self.count().map_err(refuse)?;
+        self.record(at + 1, end)?;
+        self.held -= 1;
+        self.stack.push(value);
+        Ok(())
+    }
+
+    fn pop(&mut self) -> Result<f64, u8> {
+        self.stack.pop().ok_or(TOO_MANY_VARIABLES)
+    }
+
+    /// The top value and the one below it.
+    fn pop_two(&mut self) -> Result<(f64, f64), u8> {
+        Ok((self.pop()?, self.pop()?))
+    }
+
+    /// Push a value that is new.
+    fn leave(&mut self, value: f64) -> Result<(), u8> {
+        if !value.is_finite() {
+            return Err(NOT_FINITE);
+        }
+        self.stack.push(value);
+        Ok(())
+    }
+
+    fn count(&mut self) -> Result<(), u8> {
+        let values = self.stack.len() + self.held;
+        if values > MOST_VALUES {
+            return Err(NO_ROOM);
+        }
+        self.peak = self.peak.max(values);
+        Ok(())
+    }
+
+    fn unary(&mut self, form: impl FnOnce(f64) -> f64) -> Result<(), u8> {
+        let a = self.pop()?;
+        self.leave(form(a))
+    }
+
+    /// `form` gets the lower value first.
+    fn binary(&mut self, form: impl FnOnce(f64, f64) -> f64) -> Result<(), u8> {
+        let (a, b) = self.pop_two()?;
+        self.leave(form(b, a))
+    }
+
+    fn primitive(&mut self, code: u8) -> Result<(), u8> {
+        match code {
+            1 => self.unary(|a| a),
+            2 => self.pop().map(drop),
+            3 => {
+                let a = self.pop()?;
+                self.stack.extend([a, a]);
+                Ok(())
+            }
+            4 => {
+                let (a, b) = self.pop_two()?;
+                self.stack.extend([a, b]);
+                Ok(())
+            }
+            5 => self.unary(|a| -a),
+            6 => self.unary(|a| 1.0 - a),
+            8 => self.binary(|b, a| b + a),
+            9 => self.binary(|b, a| b - a),
+            10 => self.binary(|b, a| b * a),
+            11 => self.binary(|b, a| b / a),
+            12 => {
+                let (power, base) = self.pop_two()?;
+                self.leave(whole_power(base, power)?)
+            }
+            16 => self.unary(|a| 1.0 / a),
+            17 => Err(NON_REAL),
+            38 => {
+                let (a, b) = self.pop_two()?;
+                self.stack.extend([b, a, b]);
+                Ok(())
+            }
+            // Listed, and not run: Sqrt, Exp, Sin, Cos, Max, SinH, CosH, Exp2 to Log10, Root.
+            7 | 13..=15 | 18..=20 | 32..=37 | 39 => Err(NEEDS_MATH),
+            _ => Err(NOT_SUPPORTED),
+        }
+    }
+}
+
+/// The base multiplied from the left; power 0 gives 0, as in reading.
+fn whole_power(base: f64, power: f64) -> Result<f64, u8> {
+    if power.fract() != 0.0 || !(0.0..=MOST_POWER).contains(&power) {
+        return Err(NEEDS_MATH);
+    }
+    if power == 0.0 {
+        return Ok(0.0);
+    }
+    Ok((1..power as usize).fold(base, |product, _| product * base))
+}
