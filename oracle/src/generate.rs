@@ -29,6 +29,30 @@ const OVER: u8 = 38;
 const UNARY: [u8; 12] = [5, 6, 7, 13, 14, 15, 16, 32, 33, 35, 36, 37];
 /// Add, Sub, Mul, Div, Pow, Complex, Log.
 const BINARY: [u8; 7] = [8, 9, 10, 11, 12, 17, 34];
+
+/// What lists are grown of.
+struct Vocabulary {
+    unary: &'static [u8],
+    binary: &'static [u8],
+    modifiers: &'static [u8],
+    reals_only: bool,
+}
+
+const READ: Vocabulary = Vocabulary {
+    unary: &UNARY,
+    binary: &BINARY,
+    modifiers: &[1, 2, 3, 4, 5, 6, 7],
+    reals_only: false,
+};
+
+/// Neg, Not, Reciprocal; Add, Sub, Mul, Div, Pow; On.
+const RUN: Vocabulary = Vocabulary {
+    unary: &[5, 6, 16],
+    binary: &[8, 9, 10, 11, 12],
+    modifiers: &[modifier::ON],
+    reals_only: true,
+};
+
 /// What a leftover stack is brought together with.
 const GATHERING: [u8; 6] = [8, 8, 9, 10, 10, POP];
 
@@ -50,6 +74,71 @@ pub fn exhaustive(length: usize) -> impl Iterator<Item = Vec<u8>> {
     })
 }
 
+/// All lists of one modifier with one body, or two (Bracket, Fork), of up to
+/// one record of the alphabet each and 0 to 2 arguments, after up to one
+/// record, and, where there is one body, before up to one.
+pub fn exhaustive_modifiers() -> impl Iterator<Item = Vec<u8>> {
+    let short: Vec<Vec<Record>> = std::iter::once(Vec::new())
+        .chain(alphabet().into_iter().map(|record| vec![record]))
+        .collect();
+    let bodies: Vec<Vec<Record>> = (0..=2)
+        .flat_map(|arguments| short.iter().map(move |inside| body(arguments, inside)))
+        .collect();
+    let one_body = counted([short.len(), 6, bodies.len(), short.len()]).map({
+        let (short, bodies) = (short.clone(), bodies.clone());
+        move |[before, code, inside, after]| {
+            let modified = modified(ONE_BODY[code], &bodies[inside]);
+            bytes_of(&[&short[before][..], &modified, &short[after]].concat())
+        }
+    });
+    let two_bodies =
+        counted([short.len(), 2, bodies.len(), bodies.len()]).map(move |[before, code, a, b]| {
+            let inside = [&bodies[a][..], &bodies[b]].concat();
+            let modified = modified(TWO_BODIES[code], &inside);
+            bytes_of(&[&short[before][..], &modified].concat())
+        });
+    one_body.chain(two_bodies)
+}
+
+const ONE_BODY: [u8; 6] = [
+    modifier::DIP,
+    modifier::GAP,
+    modifier::ON,
+    modifier::BY,
+    modifier::BOTH,
+    modifier::FORK,
+];
+const TWO_BODIES: [u8; 2] = [modifier::BRACKET, modifier::FORK];
+
+/// All ways to choose, below each of four ends.
+fn counted(ends: [usize; 4]) -> impl Iterator<Item = [usize; 4]> {
+    (0..ends.iter().product()).map(move |mut index| {
+        ends.map(|end| {
+            let chosen = index % end;
+            index /= end;
+            chosen
+        })
+    })
+}
+
+fn body(arguments: u8, inside: &[Record]) -> Vec<Record> {
+    let body = Record {
+        arguments,
+        inside: inside.len() as u32,
+        ..Record::of(kind::BODY)
+    };
+    [&[body][..], inside].concat()
+}
+
+fn modified(code: u8, inside: &[Record]) -> Vec<Record> {
+    let modifier = Record {
+        code,
+        inside: inside.len() as u32,
+        ..Record::of(kind::MODIFIER)
+    };
+    [&[modifier][..], inside].concat()
+}
+
 fn alphabet() -> Vec<Record> {
     let primitives = (1..=17).chain(32..=38).map(Record::primitive);
     let numbers = [0.0, 1.0, 2.0, 0.5, -1.0, std::f64::consts::E].map(Record::real);
@@ -61,18 +150,24 @@ fn alphabet() -> Vec<Record> {
 
 /// A random list of up to about `size` records. Many of them are refused.
 pub fn random_list(random: &mut Random, size: usize) -> Vec<u8> {
-    grow(random, size, false)
+    grow(random, size, &READ, false)
+}
+
+/// A random list of up to about `size` records, mostly of what the runner runs.
+pub fn list_to_run(random: &mut Random, size: usize) -> Vec<u8> {
+    grow(random, size, &RUN, false)
 }
 
 /// A random list of up to about `size` records that mostly reads to one sum:
 /// what makes it refuse is mostly taken back at once.
 pub fn good_list(random: &mut Random, size: usize) -> Vec<u8> {
-    grow(random, size, true)
+    grow(random, size, &READ, true)
 }
 
-fn grow(random: &mut Random, size: usize, takes_back: bool) -> Vec<u8> {
+fn grow(random: &mut Random, size: usize, of: &'static Vocabulary, takes_back: bool) -> Vec<u8> {
     let mut grower = Grower {
         random,
+        of,
         records: Vec::new(),
         left: size,
         takes_back,
@@ -87,6 +182,7 @@ fn grow(random: &mut Random, size: usize, takes_back: bool) -> Vec<u8> {
 /// Grows a list while it keeps track of the stack's height.
 struct Grower<'a> {
     random: &'a mut Random,
+    of: &'static Vocabulary,
     records: Vec<Record>,
     left: usize,
     takes_back: bool,
@@ -129,12 +225,12 @@ impl Grower<'_> {
         match self.random.below(100) {
             0..=24 => self.push(height),
             25..=44 if height >= 1 => {
-                let code = *self.random.choose(&UNARY);
+                let code = *self.random.choose(self.of.unary);
                 self.primitive(code);
                 height
             }
             45..=74 if height >= 2 => {
-                let code = *self.random.choose(&BINARY);
+                let code = *self.random.choose(self.of.binary);
                 self.primitive(code);
                 height - 1
             }
@@ -156,7 +252,7 @@ impl Grower<'_> {
         } else {
             number
         };
-        let record = if self.random.once_in(8) {
+        let record = if self.random.once_in(8) && !self.of.reals_only {
             let im = self.random.number();
             let im = if self.random.once_in(3) { 0.0 } else { im };
             Record::complex(Complex::new(number, im))
@@ -220,7 +316,7 @@ impl Grower<'_> {
     }
 
     fn modifier(&mut self, height: usize, depth: usize) -> usize {
-        let code = 1 + self.random.below(7) as u8;
+        let code = *self.random.choose(self.of.modifiers);
         self.records.push(Record {
             code,
             ..Record::of(kind::MODIFIER)
@@ -748,6 +844,40 @@ fn nested(levels: usize) -> [String; 3] {
         "Custom(".repeat(levels + 1) + &")".repeat(levels + 1),
         "Gap(1: 2 ".repeat(pairs) + odd + &")".repeat(pairs),
     ]
+}
+
+/// Lists at, below and above the limits of the run: 256 values, power 64, and
+/// numbers that aren't finite at the same record.
+pub fn near_limits_of_the_run() -> Vec<Vec<u8>> {
+    let mut lists = Vec::new();
+    for count in 252..=257 {
+        let (dups, pops) = ("Dup ".repeat(count), "Pop ".repeat(count));
+        for top in [
+            "",
+            "1 Pop",
+            "inf",
+            "Over Pop",
+            "Flip",
+            "Add Dup",
+            "0 Div",
+            "64 Pow",
+            "65 Pow",
+            "Sin",
+            "On(1:) Pop",
+            "On(1: Pop)",
+            "On(1: Dup Pop) Pop",
+            "On(1: On(1: Pop))",
+            "On(1: On(1:) Pop) Pop",
+            "Run(1) Pop",
+        ] {
+            lists.push(text::list(&format!("{dups} {top} {pops}")));
+        }
+    }
+    for levels in 62..=65 {
+        let held = "On(1: ".repeat(levels) + "Neg" + &")".repeat(levels);
+        lists.push(text::list(&(held + &" Add".repeat(levels))));
+    }
+    lists
 }
 
 /// Lists at each limit and just past it.

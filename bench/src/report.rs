@@ -1,0 +1,96 @@
+//! The measurements as text.
+
+use std::{fs, process::Command, thread};
+
+use crate::{measure::Measured, sides::Line};
+
+const HEAD: &str = "\
+# Measurements
+
+Written by `bench --record` (bench/). One process, release builds, both sides over the same lists by turns. Times are processor time of the thread, in
+nanoseconds a list: the median of all rounds, with the least and the most behind it. A ratio below 1 means that the proved library is the faster one.
+
+What is inside the timed part:
+
+- **Proved**: one call of `uplink_derivative` or `uplink_run` a list, from bytes to bytes (the run: to a value). Records are decoded and checked inside the
+  call, and the library clears its own working arrays there, on the stack, each time; it allocates nothing. The room for the result is allocated once,
+  outside, and never cleared.
+- **Rust module, nodes to nodes** (derivative): `derivative` of docs/src, built unchanged over the stand-ins of oracle/: nodes to sum, derivative, sum to
+  nodes. The nodes lie there ready; decoding is outside. What it allocates, and freeing its result, is inside. It has none of document 01's limits to check.
+- **Rust module, bytes to bytes** (derivative): the same with what makes it comparable: records decoded and checked, nodes built, and the result written as
+  records.
+- **Plain runner** (run): the Rust module has no runner, so this is oracle/src/runner.rs, a plain one in Rust from document 01's text. Records are decoded and
+  checked inside, into a vector that is allocated each time.
+
+The lists: sums of one to eight whole powers as a fitted formula has them; and random lists of all kinds with a derivative. The run is of the derivatives'
+lists at 1.5, of those that run to a value. Before anything is timed, the results of both sides are compared, byte for byte.
+";
+
+fn machine() -> String {
+    let cores = thread::available_parallelism().map_or(1, usize::from);
+    let model = processor().unwrap_or_else(|| "processor unknown".into());
+    format!(
+        "{} {}, {model}, {cores} cores",
+        std::env::consts::OS,
+        std::env::consts::ARCH
+    )
+}
+
+fn processor() -> Option<String> {
+    let output = Command::new("lscpu").output().ok()?;
+    let text = String::from_utf8(output.stdout).ok()?;
+    let line = text.lines().find(|line| line.starts_with("Model name:"))?;
+    Some(line.split_once(':')?.1.trim().to_string())
+}
+
+fn load() -> String {
+    let text = fs::read_to_string("/proc/loadavg").unwrap_or_default();
+    text.split(' ').next().unwrap_or("unknown").to_string()
+}
+
+fn cell(measured: &Measured) -> String {
+    format!(
+        "{:.0} ({:.0} to {:.0})",
+        measured.median, measured.least, measured.most
+    )
+}
+
+/// A table whose other sides have these names.
+fn table(others: &[&str], lines: &[Line]) -> String {
+    let heads: String = others
+        .iter()
+        .map(|name| format!(" {name} | ratio |"))
+        .collect();
+    let marks = "---|".repeat(3 + 2 * others.len());
+    let mut text = format!("| what | lists | proved |{heads}\n|{marks}\n");
+    for line in lines {
+        text += &format!(
+            "| {} | {} | {} |",
+            line.what,
+            line.lists,
+            cell(&line.proved)
+        );
+        for other in &line.others {
+            let ratio = line.proved.median / other.median;
+            text += &format!(" {} | {ratio:.2} |", cell(other));
+        }
+        text += "\n";
+    }
+    text
+}
+
+pub fn report(command: &str, rounds: usize, derivatives: &[Line], runs: &[Line]) -> String {
+    format!(
+        "{HEAD}\n- command: {command}\n- machine: {}\n- load of the machine in the last minute: {}\n- rounds: {rounds}, after one that isn't counted\n\
+         - Rust side: {}, opt-level {}; proved side: the archive of tools/native_archive, -O3\n\n{}\n{}",
+        machine(),
+        load(),
+        env!("COMPILER"),
+        env!("LEVEL"),
+        table(
+            &["Rust module, nodes to nodes", "Rust module, bytes to bytes"],
+            derivatives
+        ),
+        table(&["plain runner"], runs),
+    )
+}

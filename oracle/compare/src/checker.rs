@@ -1,0 +1,367 @@
+//! One list or sum, asked of the proved library and of the judge.
+
+use oracle::{
+    Answer, ReadSum, Refusal, judge,
+    random::Random,
+    records::RECORD,
+    runner::{self, Ran},
+    sums::ENTRY,
+};
+use proved::{Library, Told};
+
+use crate::{
+    difference::{Difference, Input, whole_hex},
+    room::Room,
+    seen::Seen,
+    tally::{Entry, Tally},
+};
+
+pub type Outcome = Result<(), Box<Difference>>;
+
+/// Fewer whole output records lent than needed.
+const OUTPUT_ROOM: u64 = 17;
+
+/// Number, place and count; for `read` the complex flag as well.
+#[derive(Debug, Clone, Copy, PartialEq, Eq)]
+struct Numbers {
+    number: u64,
+    place: u64,
+    count: u64,
+    flag: Option<u64>,
+}
+
+impl Numbers {
+    fn without_flag(told: Told<2>) -> Self {
+        let [place, count] = told.answer;
+        Numbers {
+            number: told.number,
+            place,
+            count,
+            flag: None,
+        }
+    }
+    fn with_flag(told: Told<3>) -> Self {
+        let [place, count, flag] = told.answer;
+        Numbers {
+            number: told.number,
+            place,
+            count,
+            flag: Some(flag),
+        }
+    }
+    fn text(self) -> String {
+        let flag = self
+            .flag
+            .map_or(String::new(), |flag| format!(", flag {flag}"));
+        format!(
+            "number {}, place {}, count {}{flag}",
+            self.number, self.place, self.count
+        )
+    }
+}
+
+/// An entry that writes bytes, and what it is asked about.
+#[derive(Debug, Clone, Copy)]
+struct Call<'a> {
+    entry: Entry,
+    input: &'a [u8],
+    /// For `write`.
+    complex: u8,
+}
+
+impl<'a> Call<'a> {
+    fn new(entry: Entry, input: &'a [u8]) -> Self {
+        Call {
+            entry,
+            input,
+            complex: 0,
+        }
+    }
+    /// The bytes of a record, or of an entry where the result is a sum.
+    fn size(self) -> usize {
+        match self.entry {
+            Entry::Read | Entry::Derive | Entry::Integrate => ENTRY,
+            _ => RECORD,
+        }
+    }
+    fn shown(self) -> Input<'a> {
+        match self.entry {
+            Entry::Derive | Entry::Integrate | Entry::Write => Input::Sum(self.input),
+            _ => Input::List(self.input),
+        }
+    }
+    fn ask(self, library: &Library, out: &mut [u8]) -> Numbers {
+        let plain = |function: fn(&[u8], &mut [u8]) -> Told<2>, out: &mut [u8]| {
+            Numbers::without_flag(function(self.input, out))
+        };
+        match self.entry {
+            Entry::Read => Numbers::with_flag((library.read)(self.input, out)),
+            Entry::Derivative => plain(library.derivative, out),
+            Entry::Integral => plain(library.integral, out),
+            Entry::Inverse => plain(library.inverse, out),
+            Entry::Derive => plain(library.derive, out),
+            Entry::Integrate => plain(library.integrate, out),
+            Entry::Write => Numbers::without_flag((library.write)(self.input, self.complex, out)),
+            Entry::Run => unreachable!("the run writes no bytes"),
+        }
+    }
+    fn refused(self, number: u64, place: u64) -> Numbers {
+        Numbers {
+            number,
+            place,
+            count: 0,
+            flag: self.flag(false),
+        }
+    }
+    fn done(self, bytes: &[u8], complex: bool) -> Numbers {
+        Numbers {
+            number: 0,
+            place: 0,
+            count: (bytes.len() / self.size()) as u64,
+            flag: self.flag(complex),
+        }
+    }
+    fn flag(self, complex: bool) -> Option<u64> {
+        (self.entry == Entry::Read).then_some(u64::from(complex))
+    }
+}
+
+/// What the judge says that an entry owes.
+enum Owed<'a> {
+    Done(&'a [u8], bool),
+    Refused(Refusal),
+    Panic,
+    TooLong,
+}
+
+impl<'a> Owed<'a> {
+    fn new<T>(answer: &'a Answer<T>, done: impl FnOnce(&'a T) -> (&'a [u8], bool)) -> Self {
+        match answer {
+            Answer::Rust(Ok(result)) => {
+                let (bytes, complex) = done(result);
+                Owed::Done(bytes, complex)
+            }
+            Answer::Rust(Err(refusal)) | Answer::Form(refusal) | Answer::Limit(refusal) => {
+                Owed::Refused(*refusal)
+            }
+            Answer::Panic => Owed::Panic,
+            Answer::TooLong => Owed::TooLong,
+        }
+    }
+}
+
+impl<'a> From<&'a Answer<Vec<u8>>> for Owed<'a> {
+    fn from(answer: &'a Answer<Vec<u8>>) -> Self {
+        Owed::new(answer, |bytes| (bytes, false))
+    }
+}
+
+impl<'a> From<&'a Answer<ReadSum>> for Owed<'a> {
+    fn from(answer: &'a Answer<ReadSum>) -> Self {
+        Owed::new(answer, |read| (&read.entries, read.complex))
+    }
+}
+
+/// Compares, and counts what it compared.
+pub struct Checker<'a> {
+    library: Library,
+    seen_sums: &'a Seen,
+    random: Random,
+    room: Room,
+    pub tally: Tally,
+}
+
+impl<'a> Checker<'a> {
+    pub fn new(library: Library, seen_sums: &'a Seen) -> Self {
+        Checker {
+            library,
+            seen_sums,
+            random: Random::new(0),
+            room: Room::default(),
+            tally: Tally::default(),
+        }
+    }
+
+    /// Rooms and numbers x follow from this seed, up to the next one.
+    pub fn reseed(&mut self, seed: u64) {
+        self.random = Random::new(seed);
+    }
+
+    /// Every entry on a list, on the sum it reads to, and the run of the list
+    /// and of its derivative.
+    pub fn list(&mut self, list: &[u8]) -> Outcome {
+        let read = judge::read(list);
+        let derivative = judge::derivative(list);
+        self.compare(Call::new(Entry::Read, list), (&read).into())?;
+        self.compare(Call::new(Entry::Derivative, list), (&derivative).into())?;
+        self.compare(
+            Call::new(Entry::Integral, list),
+            (&judge::integral(list)).into(),
+        )?;
+        self.compare(
+            Call::new(Entry::Inverse, list),
+            (&judge::inverse(list)).into(),
+        )?;
+        let x = self.some_x();
+        self.run(list, x)?;
+        if let Some(derivative) = derivative.done() {
+            self.run(&derivative, x)?;
+        }
+        if let Some(read) = read.done() {
+            self.sum(&read.entries)?;
+        }
+        Ok(())
+    }
+
+    /// Every entry on a sum, if it wasn't met before; at times on its
+    /// derivative and its integral as well.
+    pub fn sum(&mut self, sum: &[u8]) -> Outcome {
+        if !self.seen_sums.is_new(sum) {
+            self.tally.sums_again += 1;
+            return Ok(());
+        }
+        self.tally.sums += 1;
+        let derived = judge::derive(sum);
+        let integrated = judge::integrate(sum);
+        self.compare(Call::new(Entry::Derive, sum), (&derived).into())?;
+        self.compare(Call::new(Entry::Integrate, sum), (&integrated).into())?;
+        for complex in [0, 1 + self.random.below(255) as u8] {
+            let call = Call {
+                complex,
+                ..Call::new(Entry::Write, sum)
+            };
+            self.compare(call, (&judge::write(sum, complex != 0)).into())?;
+        }
+        for formed in [derived, integrated].into_iter().filter_map(Answer::done) {
+            if self.random.once_in(4) {
+                self.sum(&formed)?;
+            }
+        }
+        Ok(())
+    }
+
+    fn some_x(&mut self) -> f64 {
+        match self.random.below(4) {
+            0 => self.random.any_number(),
+            1 => self.random.number(),
+            _ => self.random.below(2000) as f64 / 64.0,
+        }
+    }
+
+    pub fn run(&mut self, list: &[u8], x: f64) -> Outcome {
+        let owed = match runner::run(list, x) {
+            Ok(Ran { value, steps, peak }) => proved::Ran {
+                value: value.to_bits(),
+                told: Told {
+                    number: 0,
+                    answer: [0, steps as u64, peak as u64],
+                },
+            },
+            Err(Refusal { number, place }) => proved::Ran {
+                value: 0,
+                told: Told {
+                    number: number.into(),
+                    answer: [place as u64, 0, 0],
+                },
+            },
+        };
+        let given = (self.library.run)(list, x);
+        if given != owed {
+            let call = format!("run at {x:?} (bits {:016x})", x.to_bits());
+            let input = Input::List(list);
+            return Err(Difference::new(
+                call,
+                input,
+                run_text(owed),
+                run_text(given),
+            ));
+        }
+        self.tally.count(Entry::Run, owed.told.number);
+        Ok(())
+    }
+
+    fn compare(&mut self, call: Call, owed: Owed) -> Outcome {
+        match owed {
+            Owed::Done(bytes, complex) => {
+                let more = if self.random.once_in(2) {
+                    self.tally.exact += 1;
+                    0
+                } else {
+                    self.tally.ample += 1;
+                    1 + self.random.below(5 * call.size())
+                };
+                self.ask(call, bytes.len() + more, call.done(bytes, complex), bytes)?;
+                if !bytes.is_empty() && self.random.once_in(8) {
+                    let short = bytes.len() - 1 - self.random.below(call.size());
+                    self.ask(call, short, call.refused(OUTPUT_ROOM, 0), &[])?;
+                }
+            }
+            Owed::Refused(Refusal { number, place }) => {
+                let room = self.room_for_a_refusal();
+                let owed = call.refused(number.into(), place as u64);
+                self.ask(call, room, owed, &[])?;
+            }
+            Owed::Panic => self.tally.row_mut(call.entry).panics += 1,
+            Owed::TooLong => self.tally.row_mut(call.entry).too_long += 1,
+        }
+        Ok(())
+    }
+
+    /// A refusal is the same whatever the room.
+    fn room_for_a_refusal(&mut self) -> usize {
+        match self.random.below(32) {
+            0 => 2048 * RECORD,
+            1..=9 => 0,
+            _ => self.random.below(8 * ENTRY),
+        }
+    }
+
+    fn ask(&mut self, call: Call, room: usize, owed: Numbers, bytes: &[u8]) -> Outcome {
+        let odd = self.random.below(8);
+        let given = call.ask(&self.library, self.room.lend(room, odd));
+        if given != owed || !self.room.holds_just(bytes) {
+            return Err(self.difference(call, owed, bytes, given));
+        }
+        self.room.clear(bytes.len());
+        self.tally.count(call.entry, owed.number);
+        Ok(())
+    }
+
+    fn difference(
+        &self,
+        call: Call,
+        owed: Numbers,
+        bytes: &[u8],
+        given: Numbers,
+    ) -> Box<Difference> {
+        let size = call.size();
+        let lent = self.room.lent();
+        let flag = match call.entry {
+            Entry::Write => format!(" with flag {}", call.complex),
+            _ => String::new(),
+        };
+        let asked = format!("{}{flag}, room of {} bytes", call.entry.name(), lent.len());
+        let owed = format!("{}: {}", owed.text(), whole_hex(bytes, size));
+        let given = if given.number == 0 {
+            let written = (given.count as usize).saturating_mul(size).min(lent.len());
+            format!("{}: {}", given.text(), whole_hex(&lent[..written], size))
+        } else {
+            given.text()
+        };
+        let changed = if self.room.holds_just(bytes) {
+            ""
+        } else {
+            "; the bytes lent, or bytes around them, aren't as they should be"
+        };
+        Difference::new(asked, call.shown(), owed, given + changed)
+    }
+}
+
+fn run_text(ran: proved::Ran) -> String {
+    let [place, steps, peak] = ran.told.answer;
+    let value = f64::from_bits(ran.value);
+    format!(
+        "number {}, place {place}, value {value:?} (bits {:016x}), steps {steps}, peak {peak}",
+        ran.told.number, ran.value
+    )
+}

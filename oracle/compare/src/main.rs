@@ -1,0 +1,38 @@
+//! The proved library against the judge, from the command line.
+
+use std::{env, fs, process::ExitCode};
+
+use compare::{
+    arguments::{self, Settings, USAGE},
+    report, work,
+};
+
+fn main() -> ExitCode {
+    let words: Vec<String> = env::args().skip(1).collect();
+    match arguments::parse(words.iter().cloned()) {
+        Ok(settings) => compare_all(&settings, &words),
+        Err(message) => {
+            eprintln!("compare: {message}\n\n{USAGE}");
+            ExitCode::from(2)
+        }
+    }
+}
+
+fn compare_all(settings: &Settings, words: &[String]) -> ExitCode {
+    println!("seed {}", settings.seed);
+    let compared = work::compare(settings, proved::LIBRARY);
+    let report = report::report(settings, &compared);
+    println!("\n{report}");
+    for difference in &compared.differences {
+        println!("DIFFERENCE {difference}\n");
+    }
+    if let Some(file) = &settings.record {
+        let command = format!("compare {}", words.join(" "));
+        let text = report::recorded(&command, &report, &compared.differences);
+        if let Err(error) = fs::write(file, text) {
+            eprintln!("compare: {} can't be written: {error}", file.display());
+            return ExitCode::from(2);
+        }
+    }
+    ExitCode::from(u8::from(!compared.differences.is_empty()))
+}

@@ -1,0 +1,145 @@
+//! What was compared, as text.
+
+use std::{env::consts, fmt::Write};
+
+use crate::{
+    arguments::Settings,
+    tally::{ENTRIES, NUMBERS, ORIGINS, Origin, Tally},
+    work::Compared,
+};
+
+fn origin_name(origin: Origin) -> &'static str {
+    match origin {
+        Origin::Short => "all short ones",
+        Origin::Modifiers => "all short ones with one modifier",
+        Origin::Limits => "near each limit",
+        Origin::Random => "random and damaged",
+    }
+}
+
+/// The lines that say how much was compared, and the table by entry and number.
+pub fn report(settings: &Settings, compared: &Compared) -> String {
+    let mut text = String::new();
+    let tally = &compared.tally;
+    let seconds = compared.time.as_secs_f64();
+    let mut line = |name: &str, value: String| {
+        writeln!(text, "- {name}: {value}").expect("a string grows");
+    };
+    line("seed", settings.seed.to_string());
+    line("threads", settings.threads.to_string());
+    line("machine", format!("{} {}", consts::OS, consts::ARCH));
+    line(
+        "time",
+        format!(
+            "{seconds:.0} s, {:.0} lists a second",
+            tally.all_lists() as f64 / seconds
+        ),
+    );
+    line("lists compared, no two the same", lists(tally));
+    line("sums compared, no two the same", thousands(tally.sums));
+    line("answers compared", answers(tally));
+    line(
+        "unexplained differences",
+        compared.differences.len().to_string(),
+    );
+    if compared.cut_short {
+        line(
+            "cut short",
+            "time ran out before all of them were compared".into(),
+        );
+    }
+    text + "\n" + &table(tally)
+}
+
+fn lists(tally: &Tally) -> String {
+    let by_origin: Vec<String> = ORIGINS
+        .into_iter()
+        .filter(|&origin| tally.lists[origin as usize] > 0)
+        .map(|origin| {
+            format!(
+                "{} {}",
+                origin_name(origin),
+                thousands(tally.lists[origin as usize])
+            )
+        })
+        .collect();
+    format!(
+        "{} ({})",
+        thousands(tally.all_lists()),
+        by_origin.join(", ")
+    )
+}
+
+fn answers(tally: &Tally) -> String {
+    format!(
+        "{}; of those that are written {} in exact room, {} in ample room",
+        thousands(tally.compared()),
+        thousands(tally.exact),
+        thousands(tally.ample)
+    )
+}
+
+/// One row an entry, one column a number that comes back.
+fn table(tally: &Tally) -> String {
+    let numbers = (1..NUMBERS).map(|number| number.to_string());
+    let heads = ["entry", "compared", "done"].into_iter().map(String::from);
+    let skipped = ["skipped: the Rust panics", "skipped: over 100,000 steps"];
+    let head: Vec<String> = heads
+        .chain(numbers)
+        .chain(skipped.map(String::from))
+        .collect();
+    let mut text = row(&head) + &row(&vec!["---".to_string(); head.len()]);
+    for entry in ENTRIES {
+        let counted = tally.row(entry);
+        let mut cells = vec![entry.name().to_string(), counted.compared().to_string()];
+        cells.extend(counted.numbers.iter().map(u64::to_string));
+        cells.extend([counted.panics, counted.too_long].map(|count| count.to_string()));
+        text += &row(&cells);
+    }
+    text
+}
+
+fn row(cells: &[String]) -> String {
+    format!("| {} |\n", cells.join(" | "))
+}
+
+/// A number with a comma before each three digits.
+fn thousands(number: u64) -> String {
+    let digits = number.to_string();
+    let mut text = String::new();
+    for (at, digit) in digits.chars().enumerate() {
+        if at > 0 && (digits.len() - at).is_multiple_of(3) {
+            text.push(',');
+        }
+        text.push(digit);
+    }
+    text
+}
+
+/// The report as a file of its own.
+pub fn recorded(command: &str, report: &str, differences: &[String]) -> String {
+    let mut text = format!(
+        "# The proved library and the judge, compared\n\n\
+         Written by the program `compare` itself (`--record`). Every answer that the judge owes was compared: number, place, count, \
+         complex flag and each byte; for the run value bits, steps and peak, with the plain runner of oracle/src/runner.rs. \
+         Columns 1 to 17 are refusals; 17 was asked for by room that is one record short.\n\n    {command}\n\n{report}"
+    );
+    for difference in differences {
+        write!(text, "\n```\n{difference}\n```\n").expect("a string grows");
+    }
+    text
+}
+
+#[cfg(test)]
+mod tests {
+    use super::*;
+
+    #[test]
+    fn numbers_with_commas() {
+        let written = [0, 12, 123, 1234, 123_456, 10_000_000].map(thousands);
+        assert_eq!(
+            written,
+            ["0", "12", "123", "1,234", "123,456", "10,000,000"]
+        );
+    }
+}

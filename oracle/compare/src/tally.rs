@@ -1,0 +1,129 @@
+//! How many answers of each entry were compared, by number.
+
+/// The entries, in the order of the report.
+#[derive(Debug, Clone, Copy, PartialEq, Eq)]
+pub enum Entry {
+    Read,
+    Derivative,
+    Integral,
+    Inverse,
+    Derive,
+    Integrate,
+    Write,
+    Run,
+}
+
+pub const ENTRIES: [Entry; 8] = [
+    Entry::Read,
+    Entry::Derivative,
+    Entry::Integral,
+    Entry::Inverse,
+    Entry::Derive,
+    Entry::Integrate,
+    Entry::Write,
+    Entry::Run,
+];
+
+impl Entry {
+    pub fn name(self) -> &'static str {
+        match self {
+            Entry::Read => "read",
+            Entry::Derivative => "derivative",
+            Entry::Integral => "integral",
+            Entry::Inverse => "inverse",
+            Entry::Derive => "derive",
+            Entry::Integrate => "integrate",
+            Entry::Write => "write",
+            Entry::Run => "run",
+        }
+    }
+}
+
+/// Where lists come from.
+#[derive(Debug, Clone, Copy, PartialEq, Eq)]
+pub enum Origin {
+    Short,
+    Modifiers,
+    Limits,
+    Random,
+}
+
+pub const ORIGINS: [Origin; 4] = [
+    Origin::Short,
+    Origin::Modifiers,
+    Origin::Limits,
+    Origin::Random,
+];
+
+/// Numbers that come back: 0 and seventeen refusals.
+pub const NUMBERS: usize = 18;
+
+/// What was compared for one entry, and what couldn't be.
+#[derive(Debug, Clone, Copy, Default, PartialEq, Eq)]
+pub struct Row {
+    pub numbers: [u64; NUMBERS],
+    /// The Rust panics.
+    pub panics: u64,
+    /// The judge stops after 100,000 steps.
+    pub too_long: u64,
+}
+
+impl Row {
+    pub fn compared(&self) -> u64 {
+        self.numbers.iter().sum()
+    }
+    fn add(&mut self, other: &Row) {
+        for (number, more) in self.numbers.iter_mut().zip(other.numbers) {
+            *number += more;
+        }
+        self.panics += other.panics;
+        self.too_long += other.too_long;
+    }
+}
+
+/// Everything that is counted.
+#[derive(Debug, Clone, Copy, Default, PartialEq, Eq)]
+pub struct Tally {
+    rows: [Row; ENTRIES.len()],
+    /// Lists compared, no two the same, by where they come from.
+    pub lists: [u64; ORIGINS.len()],
+    /// Lists met again, which aren't compared again.
+    pub lists_again: u64,
+    /// Sums compared, no two the same.
+    pub sums: u64,
+    pub sums_again: u64,
+    /// Calls with room for exactly what is written, and with more.
+    pub exact: u64,
+    pub ample: u64,
+}
+
+impl Tally {
+    pub fn row(&self, entry: Entry) -> &Row {
+        &self.rows[entry as usize]
+    }
+    pub fn row_mut(&mut self, entry: Entry) -> &mut Row {
+        &mut self.rows[entry as usize]
+    }
+    pub fn count(&mut self, entry: Entry, number: u64) {
+        self.rows[entry as usize].numbers[number as usize] += 1;
+    }
+    pub fn all_lists(&self) -> u64 {
+        self.lists.iter().sum()
+    }
+    pub fn compared(&self) -> u64 {
+        self.rows.iter().map(Row::compared).sum()
+    }
+    pub fn add(&mut self, other: &Tally) {
+        for (row, more) in self.rows.iter_mut().zip(&other.rows) {
+            row.add(more);
+        }
+        for (lists, more) in self.lists.iter_mut().zip(other.lists) {
+            *lists += more;
+        }
+        self.lists_again += other.lists_again;
+        self.sums += other.sums;
+        self.sums_again += other.sums_again;
+        self.exact += other.exact;
+        self.ample += other.ample;
+    }
+}

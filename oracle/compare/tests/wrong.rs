@@ -1,0 +1,168 @@
+//! The proved library has no difference on some thousand lists, and each wrong
+//! library has one.
+
+use compare::{
+    arguments::{self, Settings},
+    work::{self, Compared},
+};
+use proved::{LIBRARY, Library, Ran, Told};
+
+fn settings() -> Settings {
+    let words = "--exhaustive 2 --lists 2000 --seed 1";
+    arguments::parse(words.split(' ').map(String::from)).expect("good words")
+}
+
+fn compared(library: Library) -> Compared {
+    work::compare(&settings(), library)
+}
+
+#[track_caller]
+fn is_found(entry: &str, library: Library) {
+    let differences = compared(library).differences;
+    let first = differences.first().expect("a difference");
+    assert!(first.contains(&format!(": {entry}")), "{first}");
+}
+
+#[test]
+fn the_proved_library_has_no_difference() {
+    let compared = compared(LIBRARY);
+    assert_eq!(compared.differences, Vec::<String>::new());
+    assert!(compared.tally.all_lists() > 4000 && compared.tally.compared() > 30_000);
+    assert!(!compared.cut_short);
+}
+
+fn flag_never_set(list: &[u8], sum: &mut [u8]) -> Told<3> {
+    let mut told = proved::read(list, sum);
+    told.answer[2] = 0;
+    told
+}
+
+fn places_all_0(list: &[u8], sum: &mut [u8]) -> Told<3> {
+    let mut told = proved::read(list, sum);
+    told.answer[0] = 0;
+    told
+}
+
+fn last_bit_wrong(list: &[u8], out: &mut [u8]) -> Told<2> {
+    let told = proved::derivative(list, out);
+    if told.number == 0 && told.answer[1] == 6 {
+        out[6 * 24 - 16] ^= 1;
+    }
+    told
+}
+
+fn one_more_counted(list: &[u8], out: &mut [u8]) -> Told<2> {
+    let mut told = proved::derivative(list, out);
+    told.answer[1] += u64::from(told.answer[1] > 10);
+    told
+}
+
+fn written_past_the_count(list: &[u8], out: &mut [u8]) -> Told<2> {
+    let told = proved::integral(list, out);
+    if let Some(byte) = out.get_mut(24 * told.answer[1] as usize) {
+        *byte = 0;
+    }
+    told
+}
+
+fn written_though_refused(list: &[u8], out: &mut [u8]) -> Told<2> {
+    let told = proved::inverse(list, out);
+    if let Some(byte) = out.first_mut().filter(|_| told.number == 7) {
+        *byte = 0;
+    }
+    told
+}
+
+fn always_room(sum: &[u8], out: &mut [u8]) -> Told<2> {
+    let told = proved::derive(sum, out);
+    match told.number {
+        17 => Told { number: 0, ..told },
+        _ => told,
+    }
+}
+
+fn all_refused(_sum: &[u8], _out: &mut [u8]) -> Told<2> {
+    Told {
+        number: 7,
+        answer: [0, 0],
+    }
+}
+
+fn flag_not_asked(sum: &[u8], _complex: u8, out: &mut [u8]) -> Told<2> {
+    proved::write(sum, 0, out)
+}
+
+fn only_1_is_complex(sum: &[u8], complex: u8, out: &mut [u8]) -> Told<2> {
+    proved::write(sum, u8::from(complex == 1), out)
+}
+
+fn no_minus_zero(list: &[u8], x: f64) -> Ran {
+    let ran = proved::run(list, x);
+    let value = f64::from_bits(ran.value) + 0.0;
+    Ran {
+        value: value.to_bits(),
+        ..ran
+    }
+}
+
+fn one_step_more(list: &[u8], x: f64) -> Ran {
+    let mut ran = proved::run(list, x);
+    ran.told.answer[1] += u64::from(ran.told.answer[1] > 10);
+    ran
+}
+
+fn peak_at_most_3(list: &[u8], x: f64) -> Ran {
+    let mut ran = proved::run(list, x);
+    ran.told.answer[2] = ran.told.answer[2].min(3);
+    ran
+}
+
+#[test]
+fn wrong_reading_is_found() {
+    for read in [flag_never_set, places_all_0] {
+        is_found("read", Library { read, ..LIBRARY });
+    }
+}
+
+#[test]
+fn wrong_lists_are_found() {
+    for derivative in [last_bit_wrong, one_more_counted] {
+        let library = Library {
+            derivative,
+            ..LIBRARY
+        };
+        is_found("derivative", library);
+    }
+    let integral = written_past_the_count;
+    is_found(
+        "integral",
+        Library {
+            integral,
+            ..LIBRARY
+        },
+    );
+    let inverse = written_though_refused;
+    is_found("inverse", Library { inverse, ..LIBRARY });
+}
+
+#[test]
+fn wrong_sums_are_found() {
+    let derive = always_room;
+    is_found("derive", Library { derive, ..LIBRARY });
+    let integrate = all_refused;
+    let library = Library {
+        integrate,
+        ..LIBRARY
+    };
+    is_found("integrate", library);
+    for write in [flag_not_asked, only_1_is_complex] {
+        is_found("write", Library { write, ..LIBRARY });
+    }
+}
+
+#[test]
+fn wrong_runs_are_found() {
+    for run in [no_minus_zero, one_step_more, peak_at_most_3] {
+        is_found("run", Library { run, ..LIBRARY });
+    }
+}

@@ -1,0 +1,426 @@
+/* Random and damaged bytes through every C function.
+ *
+ *     hostile INPUTS SEED [overrun | changed | forgotten]
+ *
+ * Every buffer is of exact size and comes from malloc, and the answers start undefined, so that valgrind sees
+ * any byte read or written outside of what was lent and any answer that isn't written. The program itself sees
+ * that a refusal changes no byte and has counts of zero, that a success leaves the bytes past its count, that
+ * the input stays, that room doesn't change a result, and that the same call twice gives the same.
+ *
+ * With a third word it does wrong on purpose, to show that it would be noticed: it writes a byte past the room
+ * that was lent, changes a byte after a refusal, or reads an answer that nobody wrote. */
+#include <stdint.h>
+#include <stdio.h>
+#include <stdlib.h>
+#include <string.h>
+
+#include "uplink.h"
+
+enum { NUMBERS = 18, FILL = 0xa5, SHORT = 40, NESTING = 5 };
+
+/* ---- random numbers */
+
+static uint64_t state;
+
+static uint64_t bits(void) {
+    uint64_t z = state += 0x9e3779b97f4a7c15u;
+    z = (z ^ z >> 30) * 0xbf58476d1ce4e5b9u;
+    z = (z ^ z >> 27) * 0x94d049bb133111ebu;
+    return z ^ z >> 31;
+}
+
+static size_t below(size_t end) {
+    return (size_t)(bits() % end);
+}
+
+static double some_number(void) {
+    static const double numbers[] = {0, -0.0, 1, 1, 2, 2, 3, -1, 0.5, -0.5, 10, 2.718281828459045, 64, 65,
+                                     1e308, 5e-324, 9007199254740992.0, 1.1102230246251565e-16};
+    switch (below(40)) {
+    case 0: {
+        uint64_t any = bits();
+        double number;
+        memcpy(&number, &any, sizeof number);
+        return number;
+    }
+    case 1:
+        return 1e308 * 10;
+    default:
+        return numbers[below(sizeof numbers / sizeof *numbers)];
+    }
+}
+
+/* ---- bytes to send */
+
+struct bytes {
+    uint8_t *at;
+    size_t length;
+};
+
+static void out_of_memory(void) {
+    puts("hostile: out of memory");
+    exit(2);
+}
+
+/* Exactly so many bytes, so that valgrind knows where they end. */
+static uint8_t *exact(size_t length) {
+    uint8_t *at = malloc(length);
+    if (at == NULL && length > 0) out_of_memory();
+    return at;
+}
+
+static struct bytes copy_of(const void *from, size_t length) {
+    struct bytes bytes = {exact(length), length};
+    if (length > 0) memcpy(bytes.at, from, length);
+    return bytes;
+}
+
+static struct uplink_record records[UPLINK_MOST_RECORDS + 1];
+static size_t record_count;
+
+static struct uplink_record *put_record(uint8_t kind, uint8_t code) {
+    struct uplink_record *record = &records[record_count++];
+    memset(record, 0, sizeof *record);
+    record->kind = kind;
+    record->code = code;
+    return record;
+}
+
+static void grow_records(size_t most, int nesting);
+
+static void grow_inside(struct uplink_record *outer, size_t most, int nesting) {
+    size_t start = record_count;
+    grow_records(most, nesting);
+    outer->inside = (uint32_t)(record_count - start);
+}
+
+static void grow_modifier(size_t most, int nesting) {
+    uint8_t code = (uint8_t)(below(60) == 0 ? bits() : 1 + below(7));
+    struct uplink_record *modifier = put_record(UPLINK_MODIFIER, code);
+    size_t bodies = code == UPLINK_BRACKET ? 2 : code == UPLINK_FORK ? below(4) : 1;
+    size_t start = record_count;
+    for (size_t i = 0; i < bodies; i++) {
+        struct uplink_record *body = put_record(UPLINK_BODY, 0);
+        body->args = (uint8_t)below(3);
+        grow_inside(body, most, nesting + 1);
+    }
+    modifier->inside = (uint32_t)(record_count - start);
+}
+
+static void grow_record(size_t most, int nesting) {
+    if (record_count + 64 > UPLINK_MOST_RECORDS) return;
+    static const uint8_t often[] = {UPLINK_DUP, UPLINK_MUL, UPLINK_ADD, UPLINK_ADD, UPLINK_SUB, UPLINK_POW,
+                                    UPLINK_NEG, UPLINK_DIV, UPLINK_FLIP, UPLINK_OVER, UPLINK_SIN, UPLINK_POP};
+    switch (below(16)) {
+    case 0: case 1: case 2: case 3:
+        put_record(UPLINK_REAL, 0)->re = some_number();
+        return;
+    case 4: {
+        struct uplink_record *record = put_record(UPLINK_COMPLEX, 0);
+        record->re = some_number();
+        record->im = some_number();
+        return;
+    }
+    case 5: case 6:
+        put_record(UPLINK_PRIMITIVE, (uint8_t)(1 + below(39)));
+        return;
+    case 7:
+        if (nesting < NESTING) grow_modifier(most / 3, nesting);
+        return;
+    case 8:
+        if (nesting < NESTING && below(2) == 0)
+            grow_inside(put_record((uint8_t)(UPLINK_RUN + below(2)), 0), most / 3, nesting + 1);
+        return;
+    case 9:
+        if (below(30) == 0) put_record((uint8_t)(1 + below(13)), 0);
+        return;
+    default:
+        put_record(UPLINK_PRIMITIVE, often[below(sizeof often)]);
+    }
+}
+
+static void grow_records(size_t most, int nesting) {
+    size_t count = below(most + 1);
+    for (size_t i = 0; i < count; i++) grow_record(most, nesting);
+}
+
+/* As many Dup, then as many Add: it mostly reads to one sum and runs. */
+static void grow_even(void) {
+    size_t count = 1 + below(6);
+    for (size_t i = 0; i < count; i++) put_record(UPLINK_PRIMITIVE, UPLINK_DUP);
+    for (size_t i = 0; i < count; i++) {
+        put_record(UPLINK_REAL, 0)->re = (double)below(9);
+        put_record(UPLINK_PRIMITIVE, below(3) == 0 ? UPLINK_POW : UPLINK_MUL);
+        put_record(UPLINK_PRIMITIVE, UPLINK_ADD);
+    }
+}
+
+/* The longest and the deepest lists, and one more. */
+static void grow_large(void) {
+    size_t count = UPLINK_MOST_RECORDS - 1 + below(3);
+    size_t levels = 127 + below(3);
+    switch (below(3)) {
+    case 0:
+        while (record_count < count) put_record(UPLINK_PRIMITIVE, UPLINK_NEG);
+        return;
+    case 1:
+        for (size_t i = 0; i < levels; i++) put_record(UPLINK_RUN, 0)->inside = (uint32_t)(levels - i);
+        put_record(UPLINK_PRIMITIVE, UPLINK_NEG);
+        return;
+    default:
+        put_record(UPLINK_REAL, 0)->re = 1;
+        put_record(UPLINK_PRIMITIVE, UPLINK_ADD);
+        put_record(UPLINK_REAL, 0)->re = (double)(62 + below(4));
+        put_record(UPLINK_PRIMITIVE, UPLINK_POW);
+    }
+}
+
+static struct bytes some_list(void) {
+    record_count = 0;
+    switch (below(24)) {
+    case 0:
+        grow_large();
+        break;
+    case 1: case 2: case 3: case 4: case 5: case 6: case 7: case 8:
+        grow_even();
+        break;
+    default:
+        grow_records(SHORT, 0);
+    }
+    return copy_of(records, record_count * sizeof *records);
+}
+
+static struct uplink_entry entries[UPLINK_MOST_ENTRIES + 8];
+static size_t entry_count;
+
+static struct uplink_entry *put_entry(uint8_t kind, double number) {
+    struct uplink_entry *entry = &entries[entry_count++];
+    memset(entry, 0, sizeof *entry);
+    entry->kind = kind;
+    entry->number = number;
+    entry->re = below(3) == 0 ? 1 : some_number();
+    entry->im = below(6) == 0 ? some_number() : 0;
+    return entry;
+}
+
+/* Kinds rise, and powers rise among X, so that most levels are in order. */
+static void grow_level(int nesting) {
+    double power = (double)below(5) - 2;
+    size_t powers = nesting == 0 && below(30) == 0 ? UPLINK_MOST_ENTRIES - 1 + below(3) : below(4);
+    for (size_t i = 0; i < powers; i++, power += 0.5 + (double)below(2)) put_entry(UPLINK_TERM_X, power);
+    for (uint8_t kind = UPLINK_TERM_DIV; kind <= UPLINK_TERM_COSH; kind++) {
+        if (entry_count + 8 > UPLINK_MOST_ENTRIES || nesting > 3 || below(6) != 0) continue;
+        struct uplink_entry *entry = put_entry(kind, kind == UPLINK_TERM_LOG ? (double)(2 + below(2)) : 0);
+        size_t start = entry_count;
+        if (below(3) == 0) grow_level(nesting + 1);
+        else put_entry(UPLINK_TERM_X, 1);
+        entry->inside = (uint32_t)(entry_count - start);
+    }
+}
+
+static struct bytes some_sum(void) {
+    entry_count = 0;
+    grow_level(0);
+    return copy_of(entries, entry_count * sizeof *entries);
+}
+
+static struct bytes some_junk(size_t size) {
+    size_t length = below(6 * size);
+    struct bytes bytes = {exact(length), length};
+    for (size_t i = 0; i < length; i++) bytes.at[i] = (uint8_t)bits();
+    return bytes;
+}
+
+/* A bit flipped, a field set to something small, or the end cut off. */
+static void damage(struct bytes *bytes, size_t size) {
+    if (bytes->length == 0) return;
+    size_t at = below(bytes->length);
+    switch (below(3)) {
+    case 0:
+        bytes->at[at] ^= (uint8_t)(1u << below(8));
+        return;
+    case 1:
+        at = at / size * size + below(5);
+        if (at < bytes->length) bytes->at[at] = (uint8_t)below(16);
+        return;
+    default: {
+        struct bytes cut = copy_of(bytes->at, at);
+        free(bytes->at);
+        *bytes = cut;
+    }
+    }
+}
+
+static struct bytes some_bytes(int is_list) {
+    size_t size = is_list ? UPLINK_RECORD_BYTES : UPLINK_ENTRY_BYTES;
+    if (below(12) == 0) return some_junk(size);
+    struct bytes bytes = is_list ? some_list() : some_sum();
+    if (below(3) == 0) damage(&bytes, size);
+    return bytes;
+}
+
+/* ---- calls */
+
+enum function { READ, DERIVATIVE, INTEGRAL, INVERSE, DERIVE, INTEGRATE, WRITE, RUN, FUNCTIONS };
+
+static const char *const names[FUNCTIONS] = {"read",   "derivative", "integral", "inverse",
+                                             "derive", "integrate",  "write",    "run"};
+static unsigned long counts[FUNCTIONS][NUMBERS];
+static const char *wrong = "";
+
+static int takes_a_list(enum function function) {
+    return function != DERIVE && function != INTEGRATE && function != WRITE;
+}
+
+static size_t result_size(enum function function) {
+    return function == READ || function == DERIVE || function == INTEGRATE ? UPLINK_ENTRY_BYTES : UPLINK_RECORD_BYTES;
+}
+
+static void fail(enum function function, struct bytes input, size_t room, const char *what) {
+    printf("hostile: %s, room of %zu bytes: %s; input of %zu bytes:", names[function], room, what, input.length);
+    for (size_t i = 0; i < input.length; i++) printf("%s%02x", i % 8 == 0 ? " " : "", input.at[i]);
+    puts("");
+    exit(1);
+}
+
+/* What a call gives: the number, and three that go with it (flag, or steps and peak, last). */
+struct given {
+    uint64_t number, place, second, third;
+    struct bytes out;
+    double value;
+};
+
+static int is_same(const struct given *a, const struct given *b) {
+    return a->number == b->number && a->place == b->place && a->second == b->second && a->third == b->third &&
+           memcmp(&a->value, &b->value, sizeof a->value) == 0;
+}
+
+/* One call, with everything that is lent in memory of its own. */
+static struct given call(enum function function, struct bytes input, uint8_t complex, double x, size_t room) {
+    struct given given = {0, 0, 0, 0, {exact(room), room}, 0};
+    struct uplink_answer *two = (void *)exact(sizeof *two);
+    struct uplink_read_answer *three = (void *)exact(sizeof *three);
+    struct uplink_run_answer *ran = (void *)exact(sizeof *ran);
+    double *value = (void *)exact(sizeof *value);
+    uint8_t *out = given.out.at;
+    if (room > 0) memset(out, FILL, room);
+    switch (function) {
+    case READ: given.number = uplink_read(input.at, input.length, out, room, three); break;
+    case DERIVATIVE: given.number = uplink_derivative(input.at, input.length, out, room, two); break;
+    case INTEGRAL: given.number = uplink_integral(input.at, input.length, out, room, two); break;
+    case INVERSE: given.number = uplink_inverse(input.at, input.length, out, room, two); break;
+    case DERIVE: given.number = uplink_derive(input.at, input.length, out, room, two); break;
+    case INTEGRATE: given.number = uplink_integrate(input.at, input.length, out, room, two); break;
+    case WRITE: given.number = uplink_write(input.at, input.length, complex, out, room, two); break;
+    default: given.number = uplink_run(input.at, input.length, x, value, ran);
+    }
+    if (function == READ || strcmp(wrong, "forgotten") == 0)
+        given.place = three->place, given.second = three->count, given.third = three->complex;
+    else if (function == RUN)
+        given.place = ran->place, given.second = ran->steps, given.third = ran->peak, given.value = *value;
+    else
+        given.place = two->place, given.second = two->count;
+    if (strcmp(wrong, "overrun") == 0) given.out.at[room] = FILL;
+    if (strcmp(wrong, "changed") == 0 && given.number != 0 && room > 0) out[room - 1] = 0;
+    free(two), free(three), free(ran), free(value);
+    return given;
+}
+
+static int all_filled(struct bytes bytes, size_t from) {
+    for (size_t i = from; i < bytes.length; i++)
+        if (bytes.at[i] != FILL) return 0;
+    return 1;
+}
+
+/* What holds of every call, whatever the input. */
+static void check(enum function function, struct bytes input, struct given given) {
+    size_t room = given.out.length, size = result_size(function);
+    if (given.number >= NUMBERS) fail(function, input, room, "no such number");
+    if (given.number != 0) {
+        static const double zero = 0;
+        if (given.second != 0 || given.third != 0) fail(function, input, room, "a refusal with counts");
+        if (memcmp(&given.value, &zero, sizeof zero) != 0) fail(function, input, room, "a refusal with a value");
+        if (!all_filled(given.out, 0)) fail(function, input, room, "a refusal changed a byte");
+        if (given.place != 0 && given.place >= input.length / UPLINK_RECORD_BYTES)
+            fail(function, input, room, "a place that no record has");
+    } else {
+        if (given.place != 0) fail(function, input, room, "a success with a place");
+        if (function == RUN) return;
+        if (given.second > room / size) fail(function, input, room, "more counted than there is room for");
+        if (!all_filled(given.out, given.second * size)) fail(function, input, room, "a byte past the count changed");
+        if (given.third > 1) fail(function, input, room, "a flag that is neither 0 nor 1");
+    }
+}
+
+/* The same call twice; the input stays as it was. Gives what it comes to, with the room that was lent. */
+static struct given call_twice(enum function function, struct bytes input, uint8_t complex, double x, size_t room) {
+    struct bytes before = copy_of(input.at, input.length);
+    struct given first = call(function, input, complex, x, room);
+    check(function, input, first);
+    struct given second = call(function, input, complex, x, room);
+    int is_kept = input.length == 0 || memcmp(before.at, input.at, input.length) == 0;
+    if (!is_kept) fail(function, before, room, "the input changed");
+    int is_equal = is_same(&first, &second) && (room == 0 || memcmp(first.out.at, second.out.at, room) == 0);
+    if (!is_equal) fail(function, input, room, "the second time is another");
+    free(before.at), free(second.out.at);
+    counts[function][first.number]++;
+    return first;
+}
+
+/* Ample room, exactly enough, a byte less, and none. */
+static void send(enum function function, struct bytes input) {
+    uint8_t complex = (uint8_t)(below(2) == 0 ? 0 : bits());
+    double x = some_number();
+    size_t size = result_size(function), most = function == RUN ? 0 : UPLINK_LIST_BYTES;
+    struct given ample = call_twice(function, input, complex, x, most);
+    size_t needed = ample.number == 0 && function != RUN ? ample.second * size : 0;
+    size_t rooms[3] = {needed, needed == 0 ? below(99) : needed - 1, needed == 0 ? 0 : below(needed)};
+    for (int i = 0; i < 3 && function != RUN; i++) {
+        struct given given = call_twice(function, input, complex, x, rooms[i]);
+        int has_room = rooms[i] >= needed;
+        if (has_room && !is_same(&ample, &given)) fail(function, input, rooms[i], "room changes the answer");
+        if (has_room && needed > 0 && memcmp(ample.out.at, given.out.at, needed) != 0)
+            fail(function, input, rooms[i], "room changes the bytes");
+        if (!has_room && (given.number != UPLINK_OUTPUT_ROOM || given.place != 0))
+            fail(function, input, rooms[i], "too little room isn't 17 at 0");
+        free(given.out.at);
+    }
+    free(ample.out.at);
+}
+
+/* Every list function on lists and at times on sums, and the reverse. */
+static void send_to_all(int is_list) {
+    struct bytes input = some_bytes(is_list);
+    int crosses = below(20) == 0;
+    for (enum function function = READ; function < FUNCTIONS; function++)
+        if (takes_a_list(function) == is_list || crosses) send(function, input);
+    free(input.at);
+}
+
+static int report(void) {
+    int missing = 0;
+    for (enum function function = READ; function < FUNCTIONS; function++) {
+        unsigned long refused = 0;
+        printf("%-10s done %lu; refused", names[function], counts[function][0]);
+        for (int number = 1; number < NUMBERS; number++) {
+            refused += counts[function][number];
+            if (counts[function][number] > 0) printf(" %d:%lu", number, counts[function][number]);
+        }
+        puts("");
+        missing |= counts[function][0] == 0 || refused == 0;
+    }
+    if (missing) puts("hostile: a function never succeeded, or was never refused");
+    return missing;
+}
+
+int main(int count, char **words) {
+    if (count < 3 || count > 4) {
+        puts("usage: hostile INPUTS SEED [overrun | changed | forgotten]");
+        return 2;
+    }
+    unsigned long inputs = strtoul(words[1], NULL, 10);
+    state = strtoull(words[2], NULL, 10);
+    if (count == 4) wrong = words[3];
+    for (unsigned long i = 0; i < inputs; i++) send_to_all(i % 2 == 0);
+    return report();
+}
