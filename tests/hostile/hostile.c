@@ -97,7 +97,7 @@ static void grow_inside(struct uplink_record *outer, size_t most, int nesting) {
 static void grow_modifier(size_t most, int nesting) {
     uint8_t code = (uint8_t)(below(60) == 0 ? bits() : 1 + below(7));
     struct uplink_record *modifier = put_record(UPLINK_MODIFIER, code);
-    size_t bodies = code == UPLINK_BRACKET ? 2 : code == UPLINK_FORK ? below(4) : 1;
+    size_t bodies = below(12) == 0 || code == UPLINK_FORK ? below(4) : code == UPLINK_BRACKET ? 2 : 1;
     size_t start = record_count;
     for (size_t i = 0; i < bodies; i++) {
         struct uplink_record *body = put_record(UPLINK_BODY, 0);
@@ -132,7 +132,7 @@ static void grow_record(size_t most, int nesting) {
             grow_inside(put_record((uint8_t)(UPLINK_RUN + below(2)), 0), most / 3, nesting + 1);
         return;
     case 9:
-        if (below(30) == 0) put_record((uint8_t)(1 + below(13)), 0);
+        if (below(12) == 0) put_record((uint8_t)(3 + below(11)), 0);
         return;
     default:
         put_record(UPLINK_PRIMITIVE, often[below(sizeof often)]);
@@ -185,6 +185,8 @@ static struct bytes some_list(void) {
         grow_even();
         break;
     default:
+        /* Something to pop, so that not all of them end there. */
+        for (size_t i = below(8); i > 0; i--) put_record(UPLINK_REAL, 0)->re = some_number();
         grow_records(SHORT, 0);
     }
     return copy_of(records, record_count * sizeof *records);

@@ -38,6 +38,7 @@ pub fn report(settings: &Settings, compared: &Compared) -> String {
     line("lists compared, no two the same", lists(tally));
     line("sums compared, no two the same", thousands(tally.sums));
     line("answers compared", answers(tally));
+    line("met again, and not compared again", again(tally));
     line(
         "unexplained differences",
         compared.differences.len().to_string(),
@@ -68,6 +69,11 @@ fn lists(tally: &Tally) -> String {
         thousands(tally.all_lists()),
         by_origin.join(", ")
     )
+}
+
+fn again(tally: &Tally) -> String {
+    let [lists, sums] = [tally.lists_again, tally.sums_again].map(thousands);
+    format!("{lists} lists, {sums} sums")
 }
 
 fn answers(tally: &Tally) -> String {
