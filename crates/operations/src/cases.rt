@@ -2,32 +2,41 @@
 // entries, 32 bytes each.
 use crate::text;
 use sums::Formed;
-ghost use Prim.Native.Nat.{_+_, _*_, _≤_};
+ghost use Prim.Native.Nat.{_+_, _*_, _≤_, _<_};
 ghost use lib.ListN.{length};
 ghost use Rattle.cells.specs.Book.{lent, Room};
 
-// Lays the n entries that are stored from p on into five arrays, from cell `at` on.
+// The cell of the entry j of two operands: the first, of n entries, lies from 0 on, and the second from 64 on.
+fn cell_of(j: usize, n: usize) -> usize
+    requires { ⌜ (n ≤ 64) × (j < n + 64) ⌝ }
+    ensures { λ r. ⌜ r < 128 ⌝ }
+{
+    if j < n { j } else { 64 + (j - n) }
+}
+
+// Lays two operands out, of n and m entries, which are stored from p on.
 pub fn lay(
     b: &[u8],
     p: usize,
     n: usize,
+    m: usize,
     ak: &mut [u8],
     ai: &mut [u8],
     an: &mut [u64],
     ar: &mut [u64],
     am: &mut [u64],
-    at: usize,
 )
-    requires { ⌜ (p + 32 * n ≤ length (now b)) × Room (lent ak ai an ar am) (at + n) ⌝ }
+    requires { ⌜ (p + 32 * (n + m) ≤ length (now b)) × (n ≤ 64) × (m ≤ 64) × Room (lent ak ai an ar am) 128 ⌝ }
 {
     let mut j = 0usize;
-    while j < n {
+    while j < n + m {
         let q = p + 32 * j;
-        ak[at + j] = b[q];
-        ai[at + j] = b[q + 4];
-        an[at + j] = text::eight(b, q + 8);
-        ar[at + j] = text::eight(b, q + 16);
-        am[at + j] = text::eight(b, q + 24);
+        let k = cell_of(j, n);
+        ak[k] = b[q];
+        ai[k] = b[q + 4];
+        an[k] = text::eight(b, q + 8);
+        ar[k] = text::eight(b, q + 16);
+        am[k] = text::eight(b, q + 24);
         j = j + 1;
     }
 }
@@ -40,7 +49,7 @@ fn same_cell(b: &[u8], q: usize, kind: u8, inside: u8, num: u64, re: u64, im: u6
     head & (text::eight(b, q + 8) == num) & parts
 }
 
-// Whether the n entries that are stored from p on are the cells from `at` on.
+// Whether the n entries that are stored from p on are the first n cells.
 fn same_cells(
     b: &[u8],
     p: usize,
@@ -50,14 +59,12 @@ fn same_cells(
     wn: &[u64],
     wr: &[u64],
     wm: &[u64],
-    at: usize,
 ) -> bool
-    requires { ⌜ (p + 32 * n ≤ length (now b)) × Room (lent wk wi wn wr wm) (at + n) ⌝ }
+    requires { ⌜ (p + 32 * n ≤ length (now b)) × Room (lent wk wi wn wr wm) n ⌝ }
 {
     let mut j = 0usize;
     while j < n {
-        let k = at + j;
-        if !same_cell(b, p + 32 * j, wk[k], wi[k], wn[k], wr[k], wm[k]) {
+        if !same_cell(b, p + 32 * j, wk[j], wi[j], wn[j], wr[j], wm[j]) {
             return false;
         }
         j = j + 1;
@@ -65,7 +72,7 @@ fn same_cells(
     true
 }
 
-// Whether an answer is what is stored: the same number, and the same n cells from `at` on.
+// Whether an answer is what is stored: the same number, and the same n cells.
 pub fn is_stored(
     f: Formed,
     number: u8,
@@ -77,9 +84,8 @@ pub fn is_stored(
     wn: &[u64],
     wr: &[u64],
     wm: &[u64],
-    at: usize,
 ) -> bool
-    requires { ⌜ (p + 32 * n ≤ length (now b)) × Room (lent wk wi wn wr wm) (at + n) ⌝ }
+    requires { ⌜ (p + 32 * n ≤ length (now b)) × Room (lent wk wi wn wr wm) n ⌝ }
 {
     match f {
         Formed::Done(k) => {
@@ -89,7 +95,7 @@ pub fn is_stored(
             if number != 0 {
                 return false;
             }
-            same_cells(b, p, n, wk, wi, wn, wr, wm, at)
+            same_cells(b, p, n, wk, wi, wn, wr, wm)
         }
         Formed::Refused(r) => trees::refusal_no(r) == number as u64,
     }

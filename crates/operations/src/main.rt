@@ -7,7 +7,6 @@ use libc::STDIN_FILENO;
 use libc::STDOUT_FILENO;
 ghost use Prim.Native.Nat.{_+_, _*_, _≤_};
 ghost use lib.ListN.{length};
-ghost use Rattle.cells.specs.Book.{lent, Room};
 
 // The head of a case.
 struct Case {
@@ -37,57 +36,21 @@ fn head(b: &[u8], p: usize) -> Case
     }
 }
 
-// Lays the operands out, the first from cell 0 on and the second from 64 on.
-fn lay_out(
-    b: &[u8],
-    p: usize,
-    c: Case,
-    ak: &mut [u8],
-    ai: &mut [u8],
-    an: &mut [u64],
-    ar: &mut [u64],
-    am: &mut [u64],
-)
-    requires { ⌜ (p + 32 * (c .n + c .m) ≤ length (now b)) × (c .n ≤ 64) × (c .m ≤ 64) × Room (lent ak ai an ar am) 128 ⌝ }
-{
-    cases::lay(b, p, c.n, ak, ai, an, ar, am, 0);
-    cases::lay(b, p + 32 * c.n, c.m, ak, ai, an, ar, am, 64);
-}
-
 // Whether the case whose entries are stored from p on gives what is stored.
 fn laid_agrees(b: &[u8], p: usize, c: Case) -> bool
     requires { ⌜ (p + 32 * (c .n + c .m + c .r) ≤ length (now b)) × (c .n ≤ 64) × (c .m ≤ 64) × (c .r ≤ 64) ⌝ }
 {
-    let mut ak = [0u8; 192];
-    let mut ai = [0u8; 192];
-    let mut an = [0u64; 192];
-    let mut ar = [0u64; 192];
-    let mut am = [0u64; 192];
-    lay_out(b, p, c, &mut ak, &mut ai, &mut an, &mut ar, &mut am);
-    if !arith::ready(&ak, &ai, &an, &ar, &am, c.n, c.m) {
-        return false;
-    }
-    let q = p + 32 * (c.n + c.m);
-    if c.code == arith::MUL {
-        return arith::product_stored(
-            c.number,
-            b,
-            q,
-            c.r,
-            &mut ak,
-            &mut ai,
-            &mut an,
-            &mut ar,
-            &mut am,
-            c.n,
-            c.m,
-        );
-    }
-    arith::other_stored(
+    let mut ak = [0u8; 128];
+    let mut ai = [0u8; 128];
+    let mut an = [0u64; 128];
+    let mut ar = [0u64; 128];
+    let mut am = [0u64; 128];
+    cases::lay(b, p, c.n, c.m, &mut ak, &mut ai, &mut an, &mut ar, &mut am);
+    arith::gives_stored(
         c.code,
         c.number,
         b,
-        q,
+        p + 32 * (c.n + c.m),
         c.r,
         &ak,
         &ai,

@@ -1,5 +1,5 @@
 -- `operations::cases::lay` meets its contract. The loop keeps the slices as long as they were. Assumes nothing.
-use Prim.Native.Nat.{_≤_, _-_}
+use Prim.Native.Nat.{_+_, _≤_, _-_}
 use borrow.Author.Needs.{needs}
 use mathlib.Core.Path.{_≡_}
 use lib.ListN.{length, length-set}
@@ -7,10 +7,11 @@ use Rattle.operations.proofs.cases.lay.Statement.{statement}
 use Rattle.operations.proofs.cases.lay.Tie as tie
 
 abbrev Inv-loop : tie.InvT-loop
-Inv-loop b p n ak₀ ai₀ an₀ ar₀ am₀ at j₀ ak ai an ar am j = (j ≤ n) × (length ak ≡ length ak₀) × (length ai ≡ length ai₀) × (length an ≡ length an₀) × (length ar ≡ length ar₀) × (length am ≡ length am₀)
+Inv-loop b p n m ak₀ ai₀ an₀ ar₀ am₀ j₀ ak ai an ar am j =
+    (j ≤ n + m) × (length ak ≡ length ak₀) × (length ai ≡ length ai₀) × (length an ≡ length an₀) × (length ar ≡ length ar₀) × (length am ≡ length am₀)
 
 abbrev μ-loop : tie.MeasureT-loop
-μ-loop b p n ak₀ ai₀ an₀ ar₀ am₀ at j₀ ak ai an ar am j = n - j
+μ-loop b p n m ak₀ ai₀ an₀ ar₀ am₀ j₀ ak ai an ar am j = n + m - j
 
 pub lay-spec : {M : Type 1} → statement M
 lay-spec =
@@ -22,7 +23,7 @@ lay-spec =
     (λ c. search needs)
     (λ c. search needs)
     (λ c. search needs)
-    (λ c. search needs)
+    (λ c κs. search needs)
     (λ c. search needs)
     (λ c. search needs)
     (λ c. search needs)
@@ -33,24 +34,21 @@ lay-spec =
     (λ c. search needs)
     (λ c. search needs)
     (λ c. search needs)
-    (λ c. search needs)
     (λ c κs. search needs)
     (λ c. search needs)
     (λ c. search needs)
     (λ c. search needs)
-    (λ c. search needs)
     (λ c κs. search needs)
-    (λ c. search needs)
     (λ c. search needs)
     (λ c. search needs)
     (λ c. search needs)
     (λ c. search needs)
     (λ c.
-    let v = c .before .before .before .before .before .before .loop .inv in
+    let v = c .before .before .before .before .before .before .before .loop .inv in
     (search needs, simp length-set (v .1), simp length-set (v .2), simp length-set (v .3), simp length-set (v .4), simp length-set (v .5)))
-    (λ c. search needs)
-    (λ c. search needs)
-    (λ c. search needs)
-    (λ c. search needs)
-    (λ c. search needs)
+    (λ c. c .before .loop .inv .1)
+    (λ c. c .before .loop .inv .2)
+    (λ c. c .before .loop .inv .3)
+    (λ c. c .before .loop .inv .4)
+    (λ c. c .before .loop .inv .5)
     (λ c. search needs))

@@ -1,2 +1,0 @@
--- The root of operations' laws.
-pub mod Operands
