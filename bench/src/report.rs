@@ -17,8 +17,9 @@ What is inside the timed part:
   outside, and never cleared.
 - **Rust module, nodes to nodes** (derivative): `derivative` of docs/src, built unchanged over the stand-ins of oracle/: nodes to sum, derivative, sum to
   nodes. The nodes lie there ready; decoding is outside. What it allocates, and freeing its result, is inside. It has none of document 01's limits to check.
+  This is less work than the proved function does, which reads, checks and writes bytes: it says what the algebra alone takes there, and is no like for like.
 - **Rust module, bytes to bytes** (derivative): the same with what makes it comparable: records decoded and checked, nodes built, and the result written as
-  records.
+  records. This is the same job, and the ratio to go by.
 - **Plain runner** (run): the Rust module has no runner, so this is oracle/src/runner.rs, a plain one in Rust from document 01's text. Records are decoded and
   checked inside, into a vector that is allocated each time.
 

@@ -21,8 +21,8 @@ use Rattle.algebra.specs.declared.ReadAnswer.{ReadAnswer}
 use Rattle.algebra.specs.declared.ReadAnswer.the-variants as answer
 use Rattle.algebra.specs.Reading.{readList}
 use Rattle.algebra.specs.Entries as lists
-use Rattle.demands.specs.Demands
-use Rattle.demands.specs.Demands.{Entry, Reply, refusing, ofRead, ofAnswer, ofRun, Promised}
+use Rattle.algebra.specs.Replies
+use Rattle.algebra.specs.Replies.{Entry, Reply, refusing, ofRead, ofAnswer, ofRun, Promised}
 use Rattle.demands.proofs.Reading as reading
 
 -- ---- demand 1
@@ -71,14 +71,14 @@ by-run (ran.Refused q at) e f = inr (record { refusal = q; place = at; is = e; q
 
 -- whatever the entry, its input and the output lent to it
 pub demand-1 : (e : Entry) (l out out′ : List ℕ) (r : Reply) → Promised e l out out′ r → Answers out out′ r
-demand-1 Demands.read l out out′ r p = by-read (p .0) (p .1) (λ q at i. reading.refusal-quiet (readList l) (p .2) i)
-demand-1 Demands.derive l out out′ r p = by-answer (p .0) (p .1) (λ q at i. bytes-quiet (p .2) i)
-demand-1 Demands.integrate l out out′ r p = by-answer (p .0) (p .1) (λ q at i. bytes-quiet (p .2) i)
-demand-1 (Demands.write c) l out out′ r p = by-answer (p .0) (p .1) (λ q at i. bytes-quiet (p .2) i)
-demand-1 Demands.derivative l out out′ r p = by-answer (p .0) (p .1) (λ q at i. refusal-quiet recordsIn (lists.derivative l) (p .2) i)
-demand-1 Demands.integral l out out′ r p = by-answer (p .0) (p .1) (λ q at i. refusal-quiet recordsIn (lists.integral l) (p .2) i)
-demand-1 Demands.inverse l out out′ r p = by-answer (p .0) (p .1) (λ q at i. refusal-quiet recordsIn (lists.inverse l) (p .2) i)
-demand-1 (Demands.run x) l out out′ r p = by-run (runList l x) (p .0) (p .1)
+demand-1 Replies.read l out out′ r p = by-read (p .0) (p .1) (λ q at i. reading.refusal-quiet (readList l) (p .2) i)
+demand-1 Replies.derive l out out′ r p = by-answer (p .0) (p .1) (λ q at i. bytes-quiet (p .2) i)
+demand-1 Replies.integrate l out out′ r p = by-answer (p .0) (p .1) (λ q at i. bytes-quiet (p .2) i)
+demand-1 (Replies.write c) l out out′ r p = by-answer (p .0) (p .1) (λ q at i. bytes-quiet (p .2) i)
+demand-1 Replies.derivative l out out′ r p = by-answer (p .0) (p .1) (λ q at i. refusal-quiet recordsIn (lists.derivative l) (p .2) i)
+demand-1 Replies.integral l out out′ r p = by-answer (p .0) (p .1) (λ q at i. refusal-quiet recordsIn (lists.integral l) (p .2) i)
+demand-1 Replies.inverse l out out′ r p = by-answer (p .0) (p .1) (λ q at i. refusal-quiet recordsIn (lists.inverse l) (p .2) i)
+demand-1 (Replies.run x) l out out′ r p = by-run (runList l x) (p .0) (p .1)
 
 -- ---- determined
 
@@ -87,11 +87,11 @@ same-reply f e g h = (e ∙ ap f (h .0) ∙ sym g, h .1)
 
 -- any two answers that an entry's promise allows are the same, and so is every byte of the output
 pub determined : (e : Entry) (l out out₁ out₂ : List ℕ) (r₁ r₂ : Reply) → Promised e l out out₁ r₁ → Promised e l out out₂ r₂ → (r₁ ≡ r₂) × (out₁ ≡ out₂)
-determined Demands.read l out out₁ out₂ r₁ r₂ p q = same-reply ofRead (p .1) (q .1) (promises.determined (p .2) (q .2))
-determined Demands.derive l out out₁ out₂ r₁ r₂ p q = same-reply ofAnswer (p .1) (q .1) (bytes-determined (p .2) (q .2))
-determined Demands.integrate l out out₁ out₂ r₁ r₂ p q = same-reply ofAnswer (p .1) (q .1) (bytes-determined (p .2) (q .2))
-determined (Demands.write c) l out out₁ out₂ r₁ r₂ p q = same-reply ofAnswer (p .1) (q .1) (bytes-determined (p .2) (q .2))
-determined Demands.derivative l out out₁ out₂ r₁ r₂ p q = same-reply ofAnswer (p .1) (q .1) (promises.determined (p .2) (q .2))
-determined Demands.integral l out out₁ out₂ r₁ r₂ p q = same-reply ofAnswer (p .1) (q .1) (promises.determined (p .2) (q .2))
-determined Demands.inverse l out out₁ out₂ r₁ r₂ p q = same-reply ofAnswer (p .1) (q .1) (promises.determined (p .2) (q .2))
-determined (Demands.run x) l out out₁ out₂ r₁ r₂ p q = (p .0 ∙ sym (q .0), p .1 ∙ sym (q .1))
+determined Replies.read l out out₁ out₂ r₁ r₂ p q = same-reply ofRead (p .1) (q .1) (promises.determined (p .2) (q .2))
+determined Replies.derive l out out₁ out₂ r₁ r₂ p q = same-reply ofAnswer (p .1) (q .1) (bytes-determined (p .2) (q .2))
+determined Replies.integrate l out out₁ out₂ r₁ r₂ p q = same-reply ofAnswer (p .1) (q .1) (bytes-determined (p .2) (q .2))
+determined (Replies.write c) l out out₁ out₂ r₁ r₂ p q = same-reply ofAnswer (p .1) (q .1) (bytes-determined (p .2) (q .2))
+determined Replies.derivative l out out₁ out₂ r₁ r₂ p q = same-reply ofAnswer (p .1) (q .1) (promises.determined (p .2) (q .2))
+determined Replies.integral l out out₁ out₂ r₁ r₂ p q = same-reply ofAnswer (p .1) (q .1) (promises.determined (p .2) (q .2))
+determined Replies.inverse l out out₁ out₂ r₁ r₂ p q = same-reply ofAnswer (p .1) (q .1) (promises.determined (p .2) (q .2))
+determined (Replies.run x) l out out₁ out₂ r₁ r₂ p q = (p .0 ∙ sym (q .0), p .1 ∙ sym (q .1))

@@ -1,4 +1,3 @@
 -- The root of demands' definitions.
-pub mod Demands
 pub mod Speed
 pub mod Cases

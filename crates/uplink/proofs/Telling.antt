@@ -13,7 +13,7 @@ use Rattle.answers.specs.declared.Numbers.{Numbers}
 use Rattle.answers.specs.Making.{answerNumbers}
 use Rattle.algebra.specs.declared.ReadAnswer.{ReadAnswer}
 use Rattle.algebra.specs.Reading.{readNumbers}
-use Rattle.demands.specs.Demands.{Entry, Promised, ofRead, ofAnswer, ofRun}
+use Rattle.algebra.specs.Replies.{Entry, Promised, ofRead, ofAnswer, ofRun}
 use Rattle.uplink.specs.Told.{Told, Ran, withCount, withFlag}
 
 as-number : (t : Bool) → boolByte t ≡ cond t 1 0

@@ -4,8 +4,8 @@ use mathlib.Core.Path.{_≡_}
 use mathlib.Core.Bool.{cond}
 use mathlib.Core.List.{List, [], _∷_}
 use lib.Ieee.{Float}
-use Rattle.demands.specs.Demands.{Entry, Reply, Promised}
-use Rattle.demands.specs.Demands as entry
+use Rattle.algebra.specs.Replies.{Entry, Reply, Promised}
+use Rattle.algebra.specs.Replies as entry
 
 -- what stands in `answer`
 abbrev pub withCount : Reply → List ℕ

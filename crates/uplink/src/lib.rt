@@ -1,7 +1,7 @@
 // The eight entries as C functions: each returns the number, and writes place and counts into `answer`. A slice is passed as a pointer and a length.
 ghost use mathlib.Core.Bool.{not};
 ghost use lib.Dec.{eqb};
-ghost use Rattle.demands.specs.Demands as entry;
+ghost use Rattle.algebra.specs.Replies as entry;
 ghost use Rattle.uplink.specs.Told.{Told, Ran, withFlag, withCount};
 
 // From a list to the sum that it stands for; `answer` is place, count and complex flag.

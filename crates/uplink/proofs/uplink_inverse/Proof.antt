@@ -1,7 +1,7 @@
 -- The entry's answer, told. Assumes nothing.
 use mathlib.Core.Path.{refl}
 use borrow.Author.Needs.{needs}
-use Rattle.demands.specs.Demands as entry
+use Rattle.algebra.specs.Replies as entry
 use Rattle.uplink.proofs.Telling.{told-count}
 use Rattle.uplink.proofs.uplink_inverse.Statement.{statement}
 use Rattle.uplink.proofs.uplink_inverse.Tie as tie
