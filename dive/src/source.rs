@@ -49,7 +49,7 @@ impl Source {
                 text: None,
             });
         }
-        let written = String::from_utf8(content).map_err(|_| {
+        let written = text_of(content).ok_or_else(|| {
             Failure::Refused(format!("{name} is neither a list of records (there is no zero byte in it) nor text in UTF-8"))
         })?;
         let parsed = notation::parse(&written)
@@ -130,6 +130,13 @@ pub fn fault_sentence(fault: Fault) -> String {
     }
 }
 
+/// The text in UTF-8 that these bytes are: no control characters but those that part lines and words.
+fn text_of(content: Vec<u8>) -> Option<String> {
+    let text = String::from_utf8(content).ok()?;
+    let strange = |c: char| c.is_control() && !c.is_whitespace();
+    (!text.contains(strange)).then_some(text)
+}
+
 fn read_input() -> io::Result<Vec<u8>> {
     let mut content = Vec::new();
     io::stdin().read_to_end(&mut content)?;
@@ -186,10 +193,12 @@ mod tests {
 
     #[test]
     fn what_is_neither_says_so() {
-        let Err(Failure::Refused(message)) = Source::of("a", vec![0xff, 0xfe]) else {
-            panic!("it is neither");
-        };
-        assert!(message.contains("neither"), "{message}");
+        for content in [vec![0xff, 0xfe], vec![1, 2, 3], b"Dup\n\x1b[2J".to_vec()] {
+            let Err(Failure::Refused(message)) = Source::of("a", content) else {
+                panic!("it is neither");
+            };
+            assert!(message.contains("neither"), "{message}");
+        }
     }
 
     #[test]
