@@ -6,13 +6,13 @@ use lib.Dec.{eqb}
 use lib.Ieee.{Float}
 use Rattle.complex.specs.declared.Complex.{Complex}
 use Rattle.cells.specs.Book.{Book, at, decoded, Room, Plain}
-use Rattle.cells.specs.Moves.{Kept, Copied}
+use Rattle.cells.specs.Contract.Moves.{Kept, Copied}
 use Rattle.cells.proofs.Laws.{room-same, room-less}
 use Rattle.trees.specs.Sums.{Sum, size, entry}
 use Rattle.trees.specs.Good.{GoodEntry}
 use Rattle.terms.proofs.Agree.{empty-size}
-use Rattle.sums.specs.Lies.{Lies}
-use Rattle.sums.specs.Heads.{GoodHead}
+use Rattle.sums.specs.Contract.Lies.{Lies}
+use Rattle.sums.specs.Contract.Heads.{GoodHead}
 use Rattle.sums.proofs.Walk.{at-moved, plain-at}
 
 -- the end may be written otherwise

@@ -8,14 +8,14 @@ use Rattle.complex.specs.declared.Complex.{Complex}
 use Rattle.complex.specs.Arith.{negated}
 use Rattle.cells.specs.declared.Entry.{Entry}
 use Rattle.cells.specs.Book.{Book, cell, at, Plain}
-use Rattle.cells.specs.Moves.{SameRoom, Put}
+use Rattle.cells.specs.Contract.Moves.{SameRoom, Put}
 use Rattle.cells.proofs.Laws.{at-fits, put-at, at-kept, room-same}
 use Rattle.trees.specs.Sums.{Sum, none, and, size, entry}
 use Rattle.trees.proofs.Keeps.{Fits}
 use Rattle.terms.specs.Singles.{withCoef}
 use Rattle.terms.specs.Adding.{negSum}
 use Rattle.terms.proofs.Goodness.{fits-negated, neg-good, neg-size}
-use Rattle.sums.specs.Lies.{At, Lies}
+use Rattle.sums.specs.Contract.Lies.{At, Lies}
 use Rattle.sums.proofs.Walk.{next, at-stays, lies-none, lies-stays}
 
 -- s′ is left of s from q on; wherever the cells before q stay and s′ negated follows them, there is s negated

@@ -1,2 +1,2 @@
 -- The root of adds' definitions.
-pub mod Work
+pub mod Contract

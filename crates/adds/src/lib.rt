@@ -9,8 +9,8 @@ ghost use Rattle.cells.specs.Book.{lent, Room};
 ghost use Rattle.trees.specs.Sums.{Sum};
 ghost use Rattle.trees.specs.Map.{formed};
 ghost use Rattle.terms.specs.Adding.{negSum, addEach};
-ghost use Rattle.sums.specs.Lies.{Lies, Held, Agrees};
-ghost use Rattle.adds.specs.Work.{Work};
+ghost use Rattle.sums.specs.Contract.Lies.{Lies, Held, Agrees};
+ghost use Rattle.adds.specs.Contract.Work.{Work};
 
 // Each entry of the sum of m cells from j on, its coefficient changed, is added into the sum of n cells.
 pub fn add_each(

@@ -6,15 +6,15 @@ use mathlib.Core.List.{List}
 use lib.Dec.{leb}
 use borrow.Author.Tests.{le-leb, lt-leb}
 use Rattle.cells.specs.Book.{Book}
-use Rattle.trees.specs.declared.Refusal.{Refusal}
-use Rattle.trees.specs.declared.Refusal.the-variants.{NotHandled}
-use Rattle.trees.specs.Refusals.{refusalNo}
+use Rattle.limits.specs.declared.Refusal.{Refusal}
+use Rattle.limits.specs.declared.Refusal.the-variants.{NotHandled}
+use Rattle.limits.specs.Refusals.{refusalNo}
 use Rattle.trees.specs.Sums.{Sum}
-use Rattle.sums.specs.Lies.{Lies}
-use Rattle.records.specs.Tree.{recordsIn}
+use Rattle.sums.specs.Contract.Lies.{Lies}
+use Rattle.formats.specs.Tree.{recordsIn}
 use Rattle.env.specs.declared.AlgebraData.{AlgebraData}
 use Rattle.env.specs.declared.AlgebraData.the-variants as gave
-use Rattle.env.specs.Data.{DataAs}
+use Rattle.env.specs.Contract.Data.{DataAs}
 use Rattle.bodies.specs.Reading.{Read, done}
 use Rattle.bodies.specs.Reading as reading
 use Rattle.answers.specs.declared.Answer.{Answer}

@@ -5,18 +5,18 @@ use mathlib.Core.Path.{_≡_, refl, ap, subst}
 use mathlib.Core.Bool.{Bool, false}
 use mathlib.Core.List.{List}
 use Rattle.cells.specs.Book.{Book}
-use Rattle.trees.specs.declared.Refusal.{Refusal}
+use Rattle.limits.specs.declared.Refusal.{Refusal}
 use Rattle.trees.specs.Sums.{Sum}
-use Rattle.sums.specs.Lies.{Lies, Held}
+use Rattle.sums.specs.Contract.Lies.{Lies, Held}
 use Rattle.adds.proofs.Lying.{lies-to}
-use Rattle.records.specs.declared.Verdict.the-variants as verdict
-use Rattle.records.specs.Rules as rules
-use Rattle.records.specs.Tree.{parse}
+use Rattle.formats.specs.declared.record.Verdict.the-variants as verdict
+use Rattle.formats.specs.Rules as rules
+use Rattle.formats.specs.Tree.{parse}
 use Rattle.entries.specs.Encoding.{entriesIn}
 use Rattle.bodies.specs.Reading.{Read, done, refusedAt, readNodes}
 use Rattle.env.specs.declared.AlgebraData.{AlgebraData}
 use Rattle.env.specs.declared.AlgebraData.the-variants as gave
-use Rattle.env.specs.Data.{DataAs}
+use Rattle.env.specs.Contract.Data.{DataAs}
 use Rattle.answers.specs.declared.Answer.{Answer}
 use Rattle.answers.specs.Promises.{Promise}
 use Rattle.answers.specs.Making.{Gives}

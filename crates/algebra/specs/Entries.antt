@@ -3,9 +3,9 @@ use mathlib.Core.Bool.{Bool, true, false, cond}
 use mathlib.Core.List.{List}
 use Prim.Native.Nat.{ℕ}
 use lib.Dec.{leb}
-use Rattle.trees.specs.declared.Refusal.{Refusal}
-use Rattle.trees.specs.declared.Refusal.the-variants.{NotHandled}
-use Rattle.trees.specs.Refusals.{refusalNo}
+use Rattle.limits.specs.declared.Refusal.{Refusal}
+use Rattle.limits.specs.declared.Refusal.the-variants.{NotHandled}
+use Rattle.limits.specs.Refusals.{refusalNo}
 use Rattle.trees.specs.Sums.{Sum}
 use Rattle.bodies.specs.Reading as reading
 use Rattle.bodies.specs.Reading.{Read, done}

@@ -2,11 +2,11 @@
 use Prim.Native.Nat.{ℕ}
 use mathlib.Core.Bool.{Bool, false}
 use mathlib.Core.List.{List}
-use Rattle.trees.specs.Refusals.{refusalNo}
-use Rattle.records.specs.declared.Verdict.{Verdict}
-use Rattle.records.specs.declared.Verdict.the-variants as verdict
-use Rattle.records.specs.Rules as rules
-use Rattle.records.specs.Tree.{parse}
+use Rattle.limits.specs.Refusals.{refusalNo}
+use Rattle.formats.specs.declared.record.Verdict.{Verdict}
+use Rattle.formats.specs.declared.record.Verdict.the-variants as verdict
+use Rattle.formats.specs.Rules as rules
+use Rattle.formats.specs.Tree.{parse}
 use Rattle.entries.specs.Encoding.{entriesIn}
 use Rattle.bodies.specs.Reading.{Read, done, refusedAt, readNodes}
 use Rattle.answers.specs.declared.Answer.{Answer}

@@ -5,13 +5,13 @@ use mathlib.Core.Bool.{Bool, false}
 use mathlib.Core.List.{List}
 use lib.Ieee.{Float}
 use Rattle.numbers.specs.Signs.{zero64}
-use Rattle.trees.specs.declared.Refusal.{Refusal}
-use Rattle.trees.specs.Refusals.{refusalNo}
-use Rattle.records.specs.Tree.{recordsIn}
+use Rattle.limits.specs.declared.Refusal.{Refusal}
+use Rattle.limits.specs.Refusals.{refusalNo}
+use Rattle.formats.specs.Tree.{recordsIn}
 use Rattle.entries.specs.Encoding.{entriesIn}
-use Rattle.runner.specs.declared.RunAnswer.{RunAnswer}
-use Rattle.runner.specs.declared.RunNumbers.{RunNumbers}
-use Rattle.runner.specs.Running.{runList, numbersOf}
+use Rattle.running.specs.declared.RunAnswer.{RunAnswer}
+use Rattle.running.specs.declared.RunNumbers.{RunNumbers}
+use Rattle.running.specs.Running.{runList, numbersOf}
 use Rattle.answers.specs.declared.Answer.{Answer}
 use Rattle.answers.specs.declared.Numbers.{Numbers}
 use Rattle.answers.specs.Promises.{Promise}

@@ -3,20 +3,20 @@ use answers::Answer;
 use answers::Numbers;
 use entries::Taken;
 use env::AlgebraData;
-use records::Verdict;
-use runner::RunAnswer;
-use trees::Refusal;
+use formats::record::Verdict;
+use limits::Refusal;
+use running::RunAnswer;
 ghost use mathlib.Core.Path.{_≡_};
 ghost use Prim.Native.Nat.{_+_, _≤_};
 ghost use mathlib.Core.Bool.{Bool};
 ghost use Rattle.cells.specs.Book.{lent, Room};
 ghost use Rattle.trees.specs.Sums.{Sum};
-ghost use Rattle.sums.specs.Lies.{Lies, Held};
-ghost use Rattle.records.specs.Tree.{recordsIn};
+ghost use Rattle.sums.specs.Contract.Lies.{Lies, Held};
+ghost use Rattle.formats.specs.Tree.{recordsIn};
 ghost use Rattle.entries.specs.Encoding.{entriesIn};
 ghost use Rattle.bodies.specs.Reading.{done, refusedAt};
-ghost use Rattle.env.specs.Data.{DataAs};
-ghost use Rattle.runner.specs.Running.{runList};
+ghost use Rattle.env.specs.Contract.Data.{DataAs};
+ghost use Rattle.running.specs.Running.{runList};
 ghost use Rattle.answers.specs.Promises.{Promise};
 ghost use Rattle.answers.specs.Making as making;
 ghost use Rattle.answers.specs.Making.{answered, Gives, OfBytes};
@@ -41,7 +41,7 @@ pub fn read_numbers(r: ReadAnswer) -> Numbers
             flag: complex,
         },
         ReadAnswer::Refused(q, at) => Numbers {
-            number: trees::refusal_no(q),
+            number: limits::refusal_no(q),
             place: at,
             count: 0,
             flag: false,
@@ -63,7 +63,7 @@ fn read_sum(
     requires { ⌜ Room (lent wk wi wn wr wm) 64 ⌝ }
     ensures { λ r. ⌜ DataAs r (lent (wk .exit) (wi .exit) (wn .exit) (wr .exit) (wm .exit)) (readList (now (list .entry))) ⌝ }
 {
-    match verdicts::check(list) {
+    match formats::rules::check(list) {
         Verdict::Refused(q) => AlgebraData::Refused(q, 0, false),
         Verdict::Good => env::nodes_expr(list, wk, wi, wn, wr, wm),
     }
@@ -170,7 +170,7 @@ fn refuse_inverse(q: Refusal, at: usize, handled: bool) -> Answer
     if handled {
         return Answer::Refused(q, at);
     }
-    if trees::refusal_no(q) <= 9 {
+    if limits::refusal_no(q) <= 9 {
         return Answer::Refused(Refusal::NotHandled, 0);
     }
     Answer::Refused(q, at)
@@ -271,5 +271,5 @@ pub fn write(sum: &[u8], complex: bool, out: &mut [u8]) -> Answer
 pub fn run(list: &[u8], x: f64) -> RunAnswer
     ensures { λ r. ⌜ r ≡ runList (now (list .entry)) x ⌝ }
 {
-    runs::run(list, x)
+    running::run::run(list, x)
 }

@@ -8,23 +8,23 @@ use lib.Dec.{leb}
 use lib.Seq.{sets}
 use borrow.Author.Tests.{le-leb, lt-leb}
 use Rattle.cells.specs.Book.{Book}
-use Rattle.trees.specs.declared.Refusal.{Refusal}
-use Rattle.trees.specs.declared.Refusal.the-variants.{OutputRoom}
+use Rattle.limits.specs.declared.Refusal.{Refusal}
+use Rattle.limits.specs.declared.Refusal.the-variants.{OutputRoom}
 use Rattle.trees.specs.Sums.{Sum, size}
 use Rattle.trees.specs.Map.{Outcome}
 use Rattle.sums.specs.declared.Formed.{Formed}
 use Rattle.sums.specs.declared.Formed.the-variants as formed
-use Rattle.sums.specs.Lies.{Lies, Held, Agrees}
+use Rattle.sums.specs.Contract.Lies.{Lies, Held, Agrees}
 use Rattle.factors.proofs.Lying.{agreed-done, agreed-refused}
-use Rattle.records.specs.Tree as tree
-use Rattle.records.specs.Tree.{recordsIn}
+use Rattle.formats.specs.Tree as tree
+use Rattle.formats.specs.Tree.{recordsIn}
 use Rattle.entries.specs.Encoding.{entriesIn, encodeSum}
 use Rattle.drafts.specs.declared.Wrote.{Wrote}
 use Rattle.drafts.specs.declared.Wrote.the-variants as wrote
 use Rattle.drafts.specs.Writing as writing
 use Rattle.drafts.specs.Writing.{Written}
-use Rattle.drafts.specs.Lying as drafts
-use Rattle.drafts.specs.Lying.{Answered}
+use Rattle.drafts.specs.Contract.Lying as drafts
+use Rattle.drafts.specs.Contract.Lying.{Answered}
 use Rattle.answers.specs.declared.Answer.{Answer}
 use Rattle.answers.specs.declared.Answer.the-variants as answer
 use Rattle.answers.specs.Promises.{Promise}

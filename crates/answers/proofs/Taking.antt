@@ -4,10 +4,10 @@ use native.Mathlib.Omega.{arith}
 use mathlib.Core.Path.{_≡_, refl, sym, subst, _∙_}
 use mathlib.Core.List.{List}
 use Rattle.cells.specs.Book.{Book}
-use Rattle.trees.specs.declared.Refusal.{Refusal}
+use Rattle.limits.specs.declared.Refusal.{Refusal}
 use Rattle.trees.specs.Sums.{Sum, size}
 use Rattle.trees.specs.Good.{Good}
-use Rattle.sums.specs.Lies.{Lies, Held}
+use Rattle.sums.specs.Contract.Lies.{Lies, Held}
 use Rattle.entries.specs.declared.Taken.{Taken}
 use Rattle.entries.specs.declared.Taken.the-variants as taken
 use Rattle.entries.specs.Encoding.{encodeSum}

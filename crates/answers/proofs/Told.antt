@@ -8,12 +8,12 @@ use lib.Dec.{leb}
 use lib.ListN.{length, take}
 use lib.Seq.{sets}
 use borrow.Author.Tests.{leb-true}
-use Rattle.trees.specs.declared.Refusal.{Refusal}
-use Rattle.trees.specs.declared.Refusal.the-variants.{OutputRoom}
+use Rattle.limits.specs.declared.Refusal.{Refusal}
+use Rattle.limits.specs.declared.Refusal.the-variants.{OutputRoom}
 use Rattle.trees.specs.Sums.{Sum, size}
 use Rattle.trees.specs.Map.{Outcome, sum, refused}
-use Rattle.records.specs.Tree as tree
-use Rattle.records.proofs.Bytes.{take-sets}
+use Rattle.formats.specs.Tree as tree
+use Rattle.formats.proofs.record.Bytes.{take-sets}
 use Rattle.entries.specs.declared.Taken.{Taken}
 use Rattle.entries.specs.declared.Taken.the-variants as taken
 use Rattle.entries.specs.Encoding.{encodeSum}

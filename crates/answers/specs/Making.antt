@@ -5,13 +5,13 @@ use mathlib.Core.Bool.{Bool, false, cond}
 use mathlib.Core.List.{List}
 use lib.Dec.{leb}
 use lib.Seq.{sets}
-use Rattle.trees.specs.declared.Refusal.{Refusal}
-use Rattle.trees.specs.declared.Refusal.the-variants.{OutputRoom}
-use Rattle.trees.specs.Refusals.{refusalNo}
+use Rattle.limits.specs.declared.Refusal.{Refusal}
+use Rattle.limits.specs.declared.Refusal.the-variants.{OutputRoom}
+use Rattle.limits.specs.Refusals.{refusalNo}
 use Rattle.trees.specs.Sums.{Sum, size}
 use Rattle.trees.specs.Good.{Good}
 use Rattle.trees.specs.Map.{Outcome, sum, refused}
-use Rattle.records.specs.Tree as tree
+use Rattle.formats.specs.Tree as tree
 use Rattle.entries.specs.declared.Taken.{Taken}
 use Rattle.entries.specs.declared.Taken.the-variants as taken
 use Rattle.entries.specs.Encoding.{encodeSum}

@@ -1,13 +1,13 @@
 // What is made of a sum that lies in slices: a sum or a list, written where there is room for the whole of it, or a refusal. A refusal changes no byte.
 use drafts::Wrote;
+use limits::Refusal;
 use sums::Formed;
-use trees::Refusal;
 ghost use mathlib.Core.Path.{_≡_};
 ghost use Prim.Native.Nat.{_+_, _≤_};
 ghost use Rattle.cells.specs.Book.{lent};
 ghost use Rattle.trees.specs.Sums.{Sum};
-ghost use Rattle.sums.specs.Lies.{Lies, Held};
-ghost use Rattle.records.specs.Tree.{recordsIn};
+ghost use Rattle.sums.specs.Contract.Lies.{Lies, Held};
+ghost use Rattle.formats.specs.Tree.{recordsIn};
 ghost use Rattle.entries.specs.Encoding.{entriesIn};
 ghost use Rattle.answers.specs.Making.{ofSum, answerOf, Gives, answerNumbers, derive, integrate, write, invert, deriveAndWrite, integrateAndWrite};
 
@@ -37,7 +37,7 @@ pub fn answer_numbers(r: Answer) -> Numbers
             flag: false,
         },
         Answer::Refused(q, at) => Numbers {
-            number: trees::refusal_no(q),
+            number: limits::refusal_no(q),
             place: at,
             count: 0,
             flag: false,

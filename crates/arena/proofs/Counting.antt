@@ -7,9 +7,10 @@ use mathlib.Core.List.{List, [], _∷_}
 use lib.ListN.{getD}
 use Rattle.trees.specs.Sums.{Sum}
 use Rattle.terms.specs.Singles.{isComplex}
-use Rattle.sums.specs.Lies.{Lies, Held}
-use Rattle.arena.specs.Arena.{Arena}
-use Rattle.arena.specs.Stack.{Stacked, Sized, no-size, one-more, deep, anyComplex}
+use Rattle.sums.specs.Contract.Lies.{Lies, Held}
+use Rattle.arena.specs.Contract.Arena.{Arena}
+use Rattle.arena.specs.Stack.{anyComplex}
+use Rattle.arena.specs.Contract.Stacked.{Stacked, Sized, no-size, one-more, deep}
 use Rattle.arena.specs.declared.Deep.the-variants.{From, Short}
 use Rattle.arena.proofs.Laws.{One, stacked-one, stacked-some, stacked-end, stacked-size}
 

@@ -12,11 +12,12 @@ use Rattle.trees.specs.Sums.{Sum, none, and, size}
 use Rattle.trees.specs.Good.{isEmpty}
 use Rattle.terms.specs.Singles.{GoodSum}
 use Rattle.terms.proofs.Steps.{differ}
-use Rattle.sums.specs.Lies.{Lies}
+use Rattle.sums.specs.Contract.Lies.{Lies}
 use Rattle.sums.proofs.Walk.{at-moved}
-use Rattle.arena.specs.Arena.{Arena, Slot, slot, Space}
-use Rattle.arena.specs.Stack.{Top, Stacked, no-sum, on-top, Sized, no-size, one-more, total, sizesOf, deep}
-use Rattle.arena.specs.Blocks.{SameSpace, Outside, Raised, Sunk}
+use Rattle.arena.specs.Contract.Arena.{Arena, Slot, slot, Space}
+use Rattle.arena.specs.Stack.{total}
+use Rattle.arena.specs.Contract.Stacked.{Top, Stacked, no-sum, on-top, Sized, no-size, one-more, sizesOf, deep}
+use Rattle.arena.specs.Contract.Blocks.{SameSpace, Outside, Raised, Sunk}
 use Rattle.arena.specs.declared.Deep.the-variants.{From, Short}
 
 -- ---- slots and space

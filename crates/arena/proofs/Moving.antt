@@ -7,15 +7,15 @@ use mathlib.Core.List.{List}
 use lib.ListN.{length, getD, set, length-set}
 use lib.Seq.{getD-set-same, getD-set-other}
 use Rattle.cells.specs.Book.{Book}
-use Rattle.cells.specs.Moves.{Slid, Pasted, Gap, Copied}
+use Rattle.cells.specs.Contract.Moves.{Slid, Pasted, Gap, Copied}
 use Rattle.cells.proofs.Lists.{paste-more}
 use Rattle.trees.specs.Sums.{Sum, none, and, size}
 use Rattle.trees.specs.Good.{isEmpty}
-use Rattle.sums.specs.Lies.{Lies}
+use Rattle.sums.specs.Contract.Lies.{Lies}
 use Rattle.adds.proofs.Lying.{lies-to, lies-copied}
-use Rattle.arena.specs.Arena.{Arena, Space}
-use Rattle.arena.specs.Stack.{Top}
-use Rattle.arena.specs.Blocks.{Outside, Raised, Sunk}
+use Rattle.arena.specs.Contract.Arena.{Arena, Space}
+use Rattle.arena.specs.Contract.Stacked.{Top}
+use Rattle.arena.specs.Contract.Blocks.{Outside, Raised, Sunk}
 use Rattle.arena.proofs.Laws.{slot-same}
 
 -- one element more is copied down: what is read there was not written yet

@@ -1,4 +1,3 @@
 -- The root of arena's definitions.
-pub mod Arena
 pub mod Stack
-pub mod Blocks
+pub mod Contract

@@ -4,12 +4,13 @@ ghost use mathlib.Core.List.{List, _∷_};
 ghost use Prim.Native.Nat.{ℕ, _+_, _≤_, _<_};
 ghost use lib.ListN.{length};
 ghost use Rattle.cells.specs.Book.{lent, Room};
-ghost use Rattle.cells.specs.Moves.{Pasted};
+ghost use Rattle.cells.specs.Contract.Moves.{Pasted};
 ghost use Rattle.trees.specs.Sums.{Sum};
-ghost use Rattle.sums.specs.Lies.{Lies};
-ghost use Rattle.arena.specs.Arena.{arena, Space};
-ghost use Rattle.arena.specs.Stack.{Top, Stacked, Sized, deep, anyComplex};
-ghost use Rattle.arena.specs.Blocks.{Outside, Raised, Sunk};
+ghost use Rattle.sums.specs.Contract.Lies.{Lies};
+ghost use Rattle.arena.specs.Contract.Arena.{arena, Space};
+ghost use Rattle.arena.specs.Stack.{anyComplex};
+ghost use Rattle.arena.specs.Contract.Stacked.{Top, Stacked, Sized, deep};
+ghost use Rattle.arena.specs.Contract.Blocks.{Outside, Raised, Sunk};
 
 // Where the top sums begin, if there are as many.
 pub enum Deep {

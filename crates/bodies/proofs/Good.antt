@@ -14,9 +14,9 @@ use Rattle.trees.specs.Map.{sum}
 use Rattle.terms.specs.Singles.{GoodSum, single}
 use Rattle.terms.proofs.Steps.{sum-is}
 use Rattle.terms.proofs.Goodness.{x-head, none-good, fits-bits, good-xTo, good-one, good-alone, good-over, good-neg, good-not, good-sqrt, good-add, good-sub, good-product, good-quotient, good-pow, good-exp, good-reciprocal, good-complex, good-exp2, good-exp10, good-log, good-ln, good-log2, good-log10}
-use Rattle.records.specs.declared.Primitive.{Primitive}
-use Rattle.records.specs.declared.Primitive.the-variants.{Identity, Pop, Dup, Flip, Neg, Not, Sqrt, Add, Sub, Mul, Div, Pow, Exp, Sin, Cos, Reciprocal, Complex, Max, SinH, CosH, Exp2, Exp10, Log, Ln, Log2, Log10, Over, Root, Unlisted}
-use Rattle.records.specs.Tree as tree
+use Rattle.formats.specs.declared.record.Primitive.{Primitive}
+use Rattle.formats.specs.declared.record.Primitive.the-variants.{Identity, Pop, Dup, Flip, Neg, Not, Sqrt, Add, Sub, Mul, Div, Pow, Exp, Sin, Cos, Reciprocal, Complex, Max, SinH, CosH, Exp2, Exp10, Log, Ln, Log2, Log10, Over, Root, Unlisted}
+use Rattle.formats.specs.Tree as tree
 use Rattle.forms.specs.Forms.{ofOne, ofTwo}
 use Rattle.steps.specs.Steps.{constantOf}
 use Rattle.bodies.specs.Reading.{done, readNodes}

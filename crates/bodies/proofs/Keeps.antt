@@ -8,23 +8,23 @@ use lib.ListN.{length, take, drop}
 use native.Mathlib.Omega.{arith}
 use Rattle.numbers.specs.Signs.{one64}
 use Rattle.complex.specs.Arith as complex
-use Rattle.trees.specs.declared.Refusal.{Refusal}
-use Rattle.trees.specs.declared.Refusal.the-variants.{NoRoom}
+use Rattle.limits.specs.declared.Refusal.{Refusal}
+use Rattle.limits.specs.declared.Refusal.the-variants.{NoRoom}
 use Rattle.trees.specs.Kinds as kinds
 use Rattle.trees.specs.Sums.{Sum, none}
 use Rattle.trees.specs.Map.{Outcome, sum, refused}
 use Rattle.terms.specs.Singles.{single}
 use Rattle.terms.proofs.Steps.{differ}
-use Rattle.records.specs.declared.Primitive.{Primitive}
-use Rattle.records.specs.declared.Modifier.{Modifier}
-use Rattle.records.specs.declared.Modifier.the-variants.{Dip, Gap, On, By, Both, Bracket, Fork, Unlisted}
-use Rattle.records.specs.declared.Record.{Record}
-use Rattle.records.specs.declared.KindFound.{KindFound}
-use Rattle.records.specs.declared.KindFound.the-variants.{Known, Unknown}
-use Rattle.records.specs.declared.Kind.the-variants as kind
-use Rattle.records.specs.Names.{kindOf, modifierOf, primitiveOf}
-use Rattle.records.specs.Table.{row}
-use Rattle.records.specs.Tree as tree
+use Rattle.formats.specs.declared.record.Primitive.{Primitive}
+use Rattle.formats.specs.declared.record.Modifier.{Modifier}
+use Rattle.formats.specs.declared.record.Modifier.the-variants.{Dip, Gap, On, By, Both, Bracket, Fork, Unlisted}
+use Rattle.formats.specs.declared.record.Record.{Record}
+use Rattle.formats.specs.declared.record.KindFound.{KindFound}
+use Rattle.formats.specs.declared.record.KindFound.the-variants.{Known, Unknown}
+use Rattle.formats.specs.declared.record.Kind.the-variants as kind
+use Rattle.formats.specs.Names.{kindOf, modifierOf, primitiveOf}
+use Rattle.formats.specs.Table.{row}
+use Rattle.formats.specs.Tree as tree
 use Rattle.arena.specs.Stack.{total}
 use Rattle.forms.specs.Forms.{ofOne, ofTwo}
 use Rattle.steps.specs.State.{State, withStack, Walked, went, stopped, andThen, takingIf, taking, lend, push}

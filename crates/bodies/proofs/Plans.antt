@@ -9,27 +9,27 @@ use lib.Dec.{eqb, leb}
 use borrow.Author.Tests.{eqb-true, eqb-false}
 use lib.ListN.{length}
 use Rattle.trees.specs.Sums.{Sum}
-use Rattle.trees.specs.declared.Refusal.the-variants.{InterpreterBug, NotSupported}
-use Rattle.records.specs.declared.Modifier.{Modifier}
-use Rattle.records.specs.declared.Modifier.the-variants.{Dip, Gap, On, By, Both, Bracket, Fork, Unlisted}
-use Rattle.records.specs.declared.Record.{Record}
-use Rattle.records.specs.Names.{modifierOf}
-use Rattle.records.specs.Tree.{Nodes, end, rec, size, forest, count, recAt, nextOf, height}
-use Rattle.records.specs.Rules.{okNodes}
-use Rattle.records.specs.Walk.{Stretch}
-use Rattle.records.proofs.Forest.{below, forest-none, forest-more}
-use Rattle.records.proofs.Walk.{stretch-next, stretch-count, stretch-after}
+use Rattle.limits.specs.declared.Refusal.the-variants.{InterpreterBug, NotSupported}
+use Rattle.formats.specs.declared.record.Modifier.{Modifier}
+use Rattle.formats.specs.declared.record.Modifier.the-variants.{Dip, Gap, On, By, Both, Bracket, Fork, Unlisted}
+use Rattle.formats.specs.declared.record.Record.{Record}
+use Rattle.formats.specs.Names.{modifierOf}
+use Rattle.formats.specs.Tree.{Nodes, end, rec, size, forest, count, recAt, nextOf, height}
+use Rattle.formats.specs.Rules.{okNodes}
+use Rattle.formats.specs.Contract.Walk.{Stretch}
+use Rattle.formats.proofs.record.Forest.{below, forest-none, forest-more}
+use Rattle.formats.proofs.record.Walk.{stretch-next, stretch-count, stretch-after}
 use Rattle.arena.specs.Stack.{total}
 use Rattle.steps.specs.State.{State, Walked, went, stopped, andThen, stop, lend, taking, takingIf}
 use Rattle.holds.specs.Holding.{deepest, backTo, holding, dropping, copying}
-use Rattle.holds.specs.Begins.{Begins}
+use Rattle.holds.specs.Contract.Begins.{Begins}
 use Rattle.holds.specs.declared.Begun.{Begun}
 use Rattle.steps.specs.declared.AlgebraEnv.{AlgebraEnv}
-use Rattle.arena.specs.Arena.{Arena}
+use Rattle.arena.specs.Contract.Arena.{Arena}
 use Rattle.bodies.specs.Modifiers.{Runner, oneBody, twoBodies, modifier}
 use Rattle.bodies.specs.Reading.{runners}
-use Rattle.bodies.specs.Walks.{walkOf}
-use Rattle.bodies.specs.Plans.{wayOf, mannerOf, heldBy, lentBy, begin, planBy, twice, planned, modified, Follows, UsedAs}
+use Rattle.bodies.specs.Contract.Walks.{walkOf}
+use Rattle.bodies.specs.Contract.Plans.{wayOf, mannerOf, heldBy, lentBy, begin, planBy, twice, planned, modified, Follows, UsedAs}
 use Rattle.bodies.specs.declared.Manner.{Manner}
 use Rattle.bodies.specs.declared.Manner.the-variants as manner
 use Rattle.bodies.specs.declared.Plan.{Plan}

@@ -7,17 +7,17 @@ use Prim.Native.Nat.{ℕ, zero, suc, _+_, _-_, _*_, _≤_, _<_, max}
 use native.Mathlib.Omega.{arith}
 use lib.ListN.{length}
 use borrow.Author.Tests.{eq-eqb}
-use Rattle.records.specs.declared.Record.{Record}
-use Rattle.records.specs.Tree.{Nodes, end, rec, size, height, recAt, nextOf, forest, count}
-use Rattle.records.specs.Rules.{okNodes}
-use Rattle.records.specs.Walk.{Stretch, Walkable}
-use Rattle.records.proofs.Forest.{below, forest-none, size-forest}
-use Rattle.records.proofs.Fit.{Told, forest-split, height-split}
-use Rattle.records.proofs.Walk.{stretch-next, stretch-told, stretch-split, stretch-after, stretch-count, count-none}
+use Rattle.formats.specs.declared.record.Record.{Record}
+use Rattle.formats.specs.Tree.{Nodes, end, rec, size, height, recAt, nextOf, forest, count}
+use Rattle.formats.specs.Rules.{okNodes}
+use Rattle.formats.specs.Contract.Walk.{Stretch, Walkable}
+use Rattle.formats.proofs.record.Forest.{below, forest-none, size-forest}
+use Rattle.formats.proofs.record.Fit.{Told, forest-split, height-split}
+use Rattle.formats.proofs.record.Walk.{stretch-next, stretch-told, stretch-split, stretch-after, stretch-count, count-none}
 use Rattle.steps.specs.State.{State, Walked, went, stopped, andThen}
 use Rattle.bodies.specs.Modifiers.{Runner, runAll, most}
 use Rattle.bodies.specs.Reading.{runners, stepOf}
-use Rattle.bodies.specs.Walks.{walkOf, placeOf}
+use Rattle.bodies.specs.Contract.Walks.{walkOf, placeOf}
 
 -- nothing more to do
 pub then-went : (w : Walked) → andThen w went ≡ w

@@ -1,5 +1,4 @@
 -- The root of bodies' definitions.
 pub mod Modifiers
 pub mod Reading
-pub mod Walks
-pub mod Plans
+pub mod Contract

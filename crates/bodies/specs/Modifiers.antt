@@ -1,10 +1,10 @@
 -- Records run in turn, and modifiers over the bodies inside them, in the Rust's order of pops, pushes and bodies.
 use Prim.Native.Nat.{ℕ, _+_, max}
 use mathlib.Core.List.{List, [], _∷_}
-use Rattle.trees.specs.declared.Refusal.the-variants.{NotSupported, InterpreterBug}
+use Rattle.limits.specs.declared.Refusal.the-variants.{NotSupported, InterpreterBug}
 use Rattle.trees.specs.Sums.{Sum}
-use Rattle.records.specs.declared.Modifier.{Modifier}
-use Rattle.records.specs.declared.Modifier.the-variants.{Dip, Gap, On, By, Both, Bracket, Fork, Unlisted}
+use Rattle.formats.specs.declared.record.Modifier.{Modifier}
+use Rattle.formats.specs.declared.record.Modifier.the-variants.{Dip, Gap, On, By, Both, Bracket, Fork, Unlisted}
 use Rattle.arena.specs.Stack.{total}
 use Rattle.steps.specs.State.{State, Walked, went, andThen, stop, taking, lend}
 use Rattle.holds.specs.Holding.{deepest, backTo, holding, dropping, copying}

@@ -4,17 +4,17 @@ use mathlib.Core.Bool.{Bool, false}
 use mathlib.Core.List.{List, [], _∷_}
 use Rattle.numbers.specs.Signs.{one64}
 use Rattle.complex.specs.Arith as complex
-use Rattle.trees.specs.declared.Refusal.{Refusal}
-use Rattle.trees.specs.declared.Refusal.the-variants.{NoOutput, TooManyOutputs}
+use Rattle.limits.specs.declared.Refusal.{Refusal}
+use Rattle.limits.specs.declared.Refusal.the-variants.{NoOutput, TooManyOutputs}
 use Rattle.trees.specs.Kinds as kinds
 use Rattle.trees.specs.Sums.{Sum, none}
 use Rattle.terms.specs.Singles.{single}
-use Rattle.records.specs.declared.Record.{Record}
-use Rattle.records.specs.declared.KindFound.{KindFound}
-use Rattle.records.specs.declared.KindFound.the-variants.{Known, Unknown}
-use Rattle.records.specs.declared.Kind.the-variants.{RealPush, ComplexPush, ArrayPush, OtherPush, Primitive, Modifier, Body, Run, CustomInverse, Obverse, NoNormal, UnderMarker, AnythingElse}
-use Rattle.records.specs.Names.{kindOf, modifierOf}
-use Rattle.records.specs.Tree as tree
+use Rattle.formats.specs.declared.record.Record.{Record}
+use Rattle.formats.specs.declared.record.KindFound.{KindFound}
+use Rattle.formats.specs.declared.record.KindFound.the-variants.{Known, Unknown}
+use Rattle.formats.specs.declared.record.Kind.the-variants.{RealPush, ComplexPush, ArrayPush, OtherPush, Primitive, Modifier, Body, Run, CustomInverse, Obverse, NoNormal, UnderMarker, AnythingElse}
+use Rattle.formats.specs.Names.{kindOf, modifierOf}
+use Rattle.formats.specs.Tree as tree
 use Rattle.steps.specs.State.{State, Walked, went, stopped, isHandled}
 use Rattle.bodies.specs.declared.Inside.{Inside}
 use Rattle.bodies.specs.declared.Inside.the-variants.{Nothing, Nodes, Bodies}

@@ -1,30 +1,30 @@
 // A modifier before its bodies run: how many there are, what they take, and in which order they run.
+use formats::record::Kind;
+use formats::record::KindFound;
+use formats::record::Modifier;
+use formats::record::Record;
 use holds::Begun;
-use records::Kind;
-use records::KindFound;
-use records::Modifier;
-use records::Record;
+use limits::Refusal;
 use steps::AlgebraEnv;
-use trees::Refusal;
 ghost use mathlib.Core.Path.{_≡_};
 ghost use mathlib.Core.Bool.{true, cond};
 ghost use Prim.Native.Nat.{ℕ, _+_, _-_, _≤_, _<_, max};
-ghost use Rattle.records.specs.Names.{kindOf};
-ghost use Rattle.records.specs.declared.KindFound.the-variants.{Known};
-ghost use Rattle.records.specs.Tree.{forest, count};
-ghost use Rattle.records.specs.Walk.{Stretch, Walkable};
+ghost use Rattle.formats.specs.Names.{kindOf};
+ghost use Rattle.formats.specs.declared.record.KindFound.the-variants.{Known};
+ghost use Rattle.formats.specs.Tree.{forest, count};
+ghost use Rattle.formats.specs.Contract.Walk.{Stretch, Walkable};
 ghost use Rattle.bodies.specs.Modifiers.{most};
 ghost use Rattle.bodies.specs.Reading.{runners, insideOf};
-ghost use Rattle.bodies.specs.Walks.{placeOf};
-ghost use Rattle.bodies.specs.Plans.{wayOf, mannerOf, heldBy, lentBy, begin, once, planBy, Follows, UsedAs};
+ghost use Rattle.bodies.specs.Contract.Walks.{placeOf};
+ghost use Rattle.bodies.specs.Contract.Plans.{wayOf, mannerOf, heldBy, lentBy, begin, once, planBy, Follows, UsedAs};
 ghost use Rattle.bodies.specs.declared.Use.the-variants.{Refused, Bodies};
-ghost use Rattle.trees.specs.declared.Refusal.the-variants.{InterpreterBug};
+ghost use Rattle.limits.specs.declared.Refusal.the-variants.{InterpreterBug};
 ghost use lib.Dec.{eqb};
-ghost use Rattle.records.specs.Names.{modifierOf};
-ghost use Rattle.arena.specs.Arena.{arena};
-ghost use Rattle.steps.specs.Agree.{Ready};
+ghost use Rattle.formats.specs.Names.{modifierOf};
+ghost use Rattle.arena.specs.Contract.Arena.{arena};
+ghost use Rattle.steps.specs.Contract.Agree.{Ready};
 ghost use Rattle.holds.specs.Holding.{holding};
-ghost use Rattle.holds.specs.Begins.{Begins};
+ghost use Rattle.holds.specs.Contract.Begins.{Begins};
 
 // What a record has inside that is run: nothing, nodes that are run in turn, or a modifier's bodies.
 pub enum Inside {
@@ -56,7 +56,7 @@ fn kind_inside(k: Kind) -> Inside
 pub fn inside_of(kind: u8) -> Inside
     ensures { λ r. ⌜ r ≡ insideOf (kindOf kind) ⌝ }
 {
-    match records::kind_of(kind) {
+    match formats::record::kind_of(kind) {
         KindFound::Known(k) => kind_inside(k),
         KindFound::Unknown => Inside::Nothing,
     }
@@ -82,7 +82,7 @@ pub fn most_args(list: &[u8], from: usize, to: usize) -> usize
     let mut at = from;
     let mut n = 0;
     while at < to {
-        let r = records::record_at(list, at);
+        let r = formats::record::record_at(list, at);
         n = larger(wide(r.args), n);
         at = at + 1 + r.inside as usize;
     }
@@ -97,7 +97,7 @@ pub fn place_of(list: &[u8], from: usize, to: usize, i: usize) -> usize
     let mut at = from;
     let mut j = 0usize;
     while j < i {
-        let r = records::record_at(list, at);
+        let r = formats::record::record_at(list, at);
         at = at + 1 + r.inside as usize;
         j = j + 1;
     }
@@ -160,8 +160,8 @@ pub fn use_of(list: &[u8], at: usize, r: Record) -> Use
     requires { ⌜ Walkable (now list) (at + 1) (at + 1 + r .inside) ⌝ }
     ensures { λ u. ⌜ UsedAs u (now (list .entry)) at r ⌝ }
 {
-    let n = records::count_nodes(list, at + 1, at + 1 + r.inside as usize);
-    match way_of(records::modifier_of(r.code)) {
+    let n = formats::record::count_nodes(list, at + 1, at + 1 + r.inside as usize);
+    match way_of(formats::record::modifier_of(r.code)) {
         Way::One => counted(n, 1),
         Way::Two => counted(n, 2),
         Way::Any => Use::Forks,
@@ -217,9 +217,15 @@ pub fn plan_of(list: &[u8], at: usize, r: Record) -> Plan
 {
     let from = at + 1;
     let to = from + r.inside as usize;
-    let f = records::record_at(list, from);
+    let f = formats::record::record_at(list, from);
     let mid = from + 1 + f.inside as usize;
-    plan_by(records::modifier_of(r.code), wide(f.args), from, mid, to)
+    plan_by(
+        formats::record::modifier_of(r.code),
+        wide(f.args),
+        from,
+        mid,
+        to,
+    )
 }
 
 // What a modifier does with what it takes off the stack.
@@ -315,7 +321,7 @@ pub fn begin(
     requires { ⌜ Ready (arena ak ai an ar am az) v env ⌝ }
     ensures { λ r. ⌜ Begins (arena (ak .entry) (ai .entry) (an .entry) (ar .entry) (am .entry) (az .entry)) (arena (ak .exit) (ai .exit) (an .exit) (ar .exit) (am .exit) (az .exit)) v env r (λ st f. begin (modifierOf code) n at (1024 - v) st f) ⌝ }
 {
-    let m = records::modifier_of(code);
+    let m = formats::record::modifier_of(code);
     match begins_by(m) {
         Manner::Drops => holds::drop_top(at, ak, ai, an, ar, am, az, v, env),
         Manner::Copies => holds::copy_under(n, at, ak, ai, an, ar, am, az, v, env),

@@ -4,14 +4,14 @@ use mathlib.Core.Path.{_≡_, refl, sym, ap, _∙_}
 use Rattle.numbers.specs.Signs.{zero64}
 use Rattle.complex.specs.Arith as complex
 use Rattle.cells.specs.Book.{Book}
-use Rattle.trees.specs.declared.Refusal.{Refusal}
+use Rattle.limits.specs.declared.Refusal.{Refusal}
 use Rattle.trees.specs.Kinds.{X}
 use Rattle.trees.specs.Sums.{Sum, none, and, size}
 use Rattle.trees.specs.Map.{sum, andThenSum, eachInto}
 use Rattle.terms.specs.Singles.{alone}
 use Rattle.sums.specs.declared.Formed.{Formed}
 use Rattle.sums.specs.declared.Formed.the-variants.{Done, Refused}
-use Rattle.sums.specs.Lies.{Lies, Agrees}
+use Rattle.sums.specs.Contract.Lies.{Lies, Agrees}
 use Rattle.sums.proofs.Walk.{empty}
 use Rattle.factors.proofs.Lying.{Agreed, agreed-done, agreed-refused, agree-done, agree-refused}
 use Rattle.raising.proofs.Whole.{zero-is}

@@ -5,20 +5,20 @@ use mathlib.Core.Path.{_≡_, sym, ap, subst, _∙_}
 use lib.Dec.{eqb}
 use Rattle.cells.specs.declared.Entry.{Entry}
 use Rattle.cells.specs.Book.{Book, Room, at}
-use Rattle.cells.specs.Moves.{SameRoom}
+use Rattle.cells.specs.Contract.Moves.{SameRoom}
 use Rattle.cells.proofs.Laws.{room-less, room-same, same-room-refl, same-room-trans}
-use Rattle.trees.specs.declared.Refusal.{Refusal}
+use Rattle.limits.specs.declared.Refusal.{Refusal}
 use Rattle.trees.specs.Kinds.{X}
 use Rattle.trees.specs.Sums.{Sum, none}
 use Rattle.trees.specs.Map.{Outcome, eachInto}
 use Rattle.terms.proofs.Agree.{empty-size}
 use Rattle.sums.specs.declared.Formed.{Formed}
 use Rattle.sums.specs.declared.Formed.the-variants.{Done, Refused}
-use Rattle.sums.specs.Lies.{Lies, Held, Agrees}
+use Rattle.sums.specs.Contract.Lies.{Lies, Held, Agrees}
 use Rattle.sums.proofs.Walk.{Next, next, lies-empty}
 use Rattle.sums.proofs.Compare.{inner-more}
 use Rattle.adds.proofs.Each.{Adding, Stepped, start, stepped, onward, stopped, done}
-use Rattle.calculus.specs.Into.{Ready, Into}
+use Rattle.calculus.specs.Contract.Into.{Ready, Into}
 
 module _ (f : Entry → Sum → Sum → Outcome) where
   -- the entries before q were put in, and there are len cells

@@ -15,7 +15,7 @@ use Rattle.complex.specs.declared.Complex.{Complex}
 use Rattle.complex.specs.Arith as complex
 use Rattle.trees.specs.declared.Merge.{Merge}
 use Rattle.trees.specs.declared.Merge.the-variants.{Add, Take, Store}
-use Rattle.trees.specs.declared.Refusal.the-variants.{TooComplex}
+use Rattle.limits.specs.declared.Refusal.the-variants.{TooComplex}
 use Rattle.trees.specs.Kinds as kinds
 use Rattle.trees.specs.Sums.{Sum, none, and, size, entry}
 use Rattle.trees.specs.Same.{sameSum}

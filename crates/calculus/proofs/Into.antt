@@ -14,21 +14,21 @@ use Rattle.complex.specs.Arith as complex
 use Rattle.cells.specs.declared.Entry.{Entry}
 use Rattle.cells.specs.Book.{Book}
 use Rattle.cells.specs.Book as book
-use Rattle.cells.specs.Moves.{Kept}
+use Rattle.cells.specs.Contract.Moves.{Kept}
 use Rattle.cells.proofs.Laws.{same-room-refl}
 use Rattle.trees.specs.declared.Merge.{Merge}
 use Rattle.trees.specs.declared.Merge.the-variants.{Add}
 use Rattle.trees.specs.Kinds as kinds
-use Rattle.trees.specs.declared.Refusal.{Refusal}
-use Rattle.trees.specs.declared.Refusal.the-variants.{TooComplex, NeedsMath}
+use Rattle.limits.specs.declared.Refusal.{Refusal}
+use Rattle.limits.specs.declared.Refusal.the-variants.{TooComplex, NeedsMath}
 use Rattle.trees.specs.Kinds.{X, hasNumber}
 use Rattle.trees.specs.Sums.{Sum, none, and, size, entry}
 use Rattle.trees.specs.Good.{isEmpty}
 use Rattle.trees.specs.Map.{Outcome, sum, andThenSum, unless, formed}
 use Rattle.sums.specs.declared.Formed.{Formed}
 use Rattle.sums.specs.declared.Formed.the-variants.{Done, Refused}
-use Rattle.sums.specs.Lies.{Lies, Agrees}
-use Rattle.sums.specs.Heads.{GoodHead}
+use Rattle.sums.specs.Contract.Lies.{Lies, Agrees}
+use Rattle.sums.specs.Contract.Heads.{GoodHead}
 use Rattle.sums.proofs.Walk.{next, lies-none}
 use Rattle.terms.specs.Singles.{GoodSum, isX}
 use Rattle.terms.specs.Product.{product}
@@ -37,11 +37,11 @@ use Rattle.terms.proofs.Goodness.{good-product}
 use Rattle.factors.proofs.Lying.{Agreed, agreed-done, agreed-refused, agree-refused}
 use Rattle.monomials.specs.declared.Constant.{Constant}
 use Rattle.monomials.specs.declared.Constant.the-variants as constant
-use Rattle.monomials.specs.Reads.{constantOf}
+use Rattle.monomials.specs.Contract.Reads.{constantOf}
 use Rattle.calculus.specs.declared.Ln.{Ln}
 use Rattle.calculus.specs.declared.Ln.the-variants.{Is, Other}
 use Rattle.calculus.specs.Derivative.{slope, vanishes, prime, byPrime, byLn, firstCoef, turnedTo, deriveX, deriveExp, deriveDiv, deriveLog, deriveBy, deriveInto}
-use Rattle.calculus.specs.Into.{Ready, Into, turnedKind, turnedHow}
+use Rattle.calculus.specs.Contract.Into.{Ready, Into, turnedKind, turnedHow}
 use Rattle.calculus.proofs.Primes.{is-absent, is-at}
 
 -- a kind that has an inside and no number

@@ -17,11 +17,11 @@ use Rattle.cells.specs.Book as book
 use Rattle.trees.specs.Kinds as kinds
 use Rattle.trees.specs.Sums.{Sum}
 use Rattle.terms.proofs.Agree.{x-size}
-use Rattle.sums.specs.Lies.{Lies}
+use Rattle.sums.specs.Contract.Lies.{Lies}
 use Rattle.sums.proofs.Walk.{Next, next, lies-none}
 use Rattle.monomials.specs.declared.Constant.{Constant}
 use Rattle.monomials.specs.declared.Constant.the-variants as constant
-use Rattle.monomials.specs.Reads.{constantOf}
+use Rattle.monomials.specs.Contract.Reads.{constantOf}
 use Rattle.trees.specs.Map.{Found, at, absent}
 use Rattle.calculus.specs.declared.Ln.the-variants.{Is, Other}
 use Rattle.calculus.specs.Derivative.{slope, vanishes, primeStep, foundThen, primeFrom, prime, lnOf, two64, ten64}

@@ -11,7 +11,7 @@ use Rattle.complex.specs.Arith as complex
 use Rattle.cells.specs.declared.Entry.{Entry}
 use Rattle.trees.specs.declared.Merge.{Merge}
 use Rattle.trees.specs.declared.Merge.the-variants.{Add, Take}
-use Rattle.trees.specs.declared.Refusal.the-variants.{TooComplex, NeedsMath}
+use Rattle.limits.specs.declared.Refusal.the-variants.{TooComplex, NeedsMath}
 use Rattle.trees.specs.Kinds as kinds
 use Rattle.trees.specs.Sums.{Sum, none, and, size, entry}
 use Rattle.trees.specs.Map.{Outcome, sum, refused, Found, at, absent, andThenSum, unless, formed, eachInto}

@@ -10,7 +10,7 @@ use Rattle.complex.specs.Arith as complex
 use Rattle.cells.specs.declared.Entry.{Entry}
 use Prim.Native.Nat.{ℕ}
 use Rattle.trees.specs.declared.Merge.the-variants.{Store}
-use Rattle.trees.specs.declared.Refusal.the-variants.{TooComplex}
+use Rattle.limits.specs.declared.Refusal.the-variants.{TooComplex}
 use Rattle.trees.specs.Kinds as kinds
 use Rattle.trees.specs.Sums.{Sum, none, entry}
 use Rattle.trees.specs.Same.{sameSum}

@@ -1,5 +1,5 @@
 -- The root of calculus' definitions.
 pub mod Derivative
 pub mod Integral
-pub mod Into
 pub mod Rules
+pub mod Contract

@@ -10,10 +10,10 @@ ghost use Rattle.trees.specs.Kinds.{hasNumber};
 ghost use Prim.Native.Nat.{_+_, _≤_};
 ghost use Rattle.cells.specs.Book.{lent};
 ghost use Rattle.trees.specs.Sums.{Sum};
-ghost use Rattle.sums.specs.Lies.{Lies, Held};
-ghost use Rattle.monomials.specs.Reads.{constantOf};
+ghost use Rattle.sums.specs.Contract.Lies.{Lies, Held};
+ghost use Rattle.monomials.specs.Contract.Reads.{constantOf};
 ghost use Rattle.calculus.specs.Derivative.{slope, vanishes, primeStep, prime, lnOf, turnedTo};
-ghost use Rattle.calculus.specs.Into.{Ready, Into, turnedKind, turnedHow};
+ghost use Rattle.calculus.specs.Contract.Into.{Ready, Into, turnedKind, turnedHow};
 
 // The natural logarithm of a base, where it is known.
 pub enum Ln {

@@ -11,7 +11,7 @@ use lib.Ieee.Bits.{ofBits-toBits, ofBits-fits}
 use lib.ListN.{length, getD, replicate, length-replicate}
 use Rattle.cells.specs.declared.Entry.{Entry}
 use Rattle.cells.specs.Book.{Book, book, Room, cell, decoded, encoded, at}
-use Rattle.cells.specs.Moves.{SameRoom, Kept, Put, Inserted}
+use Rattle.cells.specs.Contract.Moves.{SameRoom, Kept, Put, Inserted}
 
 -- ---- cells
 
@@ -42,12 +42,6 @@ inserted-at {x = x} p f = ap decoded (p .here) ∙ decoded-encoded x f
 -- what is read is one of binary64
 pub at-fits : (b : Book) (i : ℕ) → Fitting (at b i)
 at-fits b i = record { num = ofBits-fits binary64 (cell b i .num); re = ofBits-fits binary64 (cell b i .re); im = ofBits-fits binary64 (cell b i .im) }
-
-pub no-nan : (x : Float) → T (finite x) → T (not (isNan x))
-unfolding isNan
-no-nan nan t = t
-no-nan (inf s) t = tt
-no-nan (fin s m e) t = tt
 
 -- ---- room
 

@@ -11,7 +11,7 @@ use lib.ListN.{length, getD, set, length-set}
 use lib.Seq.{getD-set-same, getD-set-other}
 use Rattle.cells.specs.declared.Entry.{Entry}
 use Rattle.cells.specs.Book.{Book, book, Room}
-use Rattle.cells.specs.Moves.{Slid, Pasted, Put, Gap, Copied, Inserted}
+use Rattle.cells.specs.Contract.Moves.{Slid, Pasted, Put, Gap, Copied, Inserted}
 use Rattle.cells.proofs.Laws.{cell-same, same-room-trans}
 
 -- one element written: what is at x is v where x is the place, and as it was elsewhere

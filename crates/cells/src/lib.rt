@@ -4,7 +4,7 @@ use complex::Complex;
 ghost use mathlib.Core.Path.{_≡_};
 ghost use Prim.Native.Nat.{_+_};
 ghost use Rattle.cells.specs.Book.{lent, at, Room, Plain};
-ghost use Rattle.cells.specs.Moves.{Put};
+ghost use Rattle.cells.specs.Contract.Moves.{Put};
 
 // One entry: a term (its kind, how many entries lie inside it, its power or base) and its coefficient.
 pub struct Entry {

@@ -13,8 +13,8 @@ use borrow.Author.Tests.{leb-true, le-leb, eqb-true, eq-eqb}
 use Rattle.numbers.proofs.Bools.{T-of}
 use Rattle.cells.specs.Book.{Book, Cell, at, cell}
 use Rattle.trees.specs.Kinds.{hasNumber}
-use Rattle.checks.specs.Fine.{headOk, Fine}
-use Rattle.checks.proofs.Bits.{zero-bits, bits-zero}
+use Rattle.checks.specs.Contract.Fine.{headOk, Fine}
+use Rattle.numbers.proofs.Bits.{zero-bits, bits-zero}
 
 -- both of two tests pass
 both : (a b : Bool) → a && b ≡ true → (a ≡ true) × (b ≡ true)

@@ -1,4 +1,3 @@
 -- The root of checks' laws.
-pub mod Bits
 pub mod Cells
 pub mod Rising

@@ -19,9 +19,9 @@ use Rattle.cells.proofs.Laws.{room-less, at-fits}
 use Rattle.trees.specs.Sums.{Sum, none, and, size, entry}
 use Rattle.trees.specs.Order.{cmpTerm}
 use Rattle.trees.specs.Good.{Good, GoodEntry, Before, isEmpty}
-use Rattle.sums.specs.Lies.{At, Lies, Held}
+use Rattle.sums.specs.Contract.Lies.{At, Lies, Held}
 use Rattle.sums.proofs.Walk.{Next, next-at}
-use Rattle.checks.specs.Fine.{Fine, Inside, Term, Follows, isLess}
+use Rattle.checks.specs.Contract.Fine.{Fine, Inside, Term, Follows, isLess}
 
 -- the term at `last` comes before the sum
 pub record Comes (b : Book) (last left : ℕ) (s : Sum) : Type 0 where

@@ -1,2 +1,2 @@
 -- The root of checks' definitions.
-pub mod Fine
+pub mod Contract

@@ -4,18 +4,9 @@ ghost use mathlib.Core.Path.{_≡_};
 ghost use mathlib.Core.Bool.{true};
 ghost use mathlib.Core.Logic.{_↔_};
 ghost use Prim.Native.Nat.{_+_, _<_};
-ghost use lib.Ieee.{binary64, ofBits};
-ghost use lib.Ieee.Scale.{finite};
 ghost use Rattle.cells.specs.Book.{lent, Room};
-ghost use Rattle.sums.specs.Lies.{Held};
-ghost use Rattle.checks.specs.Fine.{headOk, isLess, Fine, Term, Follows};
-
-// No NaN and no infinity: the exponent's bits are not all ones.
-pub fn finite_bits(b: u64) -> bool
-    ensures { λ r. ⌜ r ≡ finite (ofBits binary64 b) ⌝ }
-{
-    b % 9223372036854775808 / 4503599627370496 != 2047
-}
+ghost use Rattle.sums.specs.Contract.Lies.{Held};
+ghost use Rattle.checks.specs.Contract.Fine.{headOk, isLess, Fine, Term, Follows};
 
 // A kind from 1 to 8; a number only with X and Log; an inside unless it is an X.
 fn good_head(kind: u8, inside: u8, num: u64) -> bool
@@ -41,7 +32,9 @@ fn good_cell(
 {
     let num = nums[k];
     let inside = insides[k];
-    let plain = finite_bits(num) & finite_bits(res[k]) & finite_bits(ims[k]);
+    let plain = numbers::finite_bits(num)
+        & numbers::finite_bits(res[k])
+        & numbers::finite_bits(ims[k]);
     plain & good_head(kinds[k], inside, num) & (inside as usize <= end - k - 1)
 }
 

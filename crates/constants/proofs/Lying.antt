@@ -13,7 +13,7 @@ use Rattle.trees.specs.Kinds as kinds
 use Rattle.trees.specs.Sums.{Sum, size, levels}
 use Rattle.trees.specs.Map.{sum, formed, coefIn, putIn}
 use Rattle.terms.specs.Singles.{constant}
-use Rattle.sums.specs.Lies.{At, Lies}
+use Rattle.sums.specs.Contract.Lies.{At, Lies}
 use Rattle.steps.specs.Steps.{constantOf}
 use Rattle.steps.proofs.Forming.{constant-good}
 

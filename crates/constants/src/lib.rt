@@ -1,13 +1,13 @@
 // A number, given by its bits, put on the stack as a constant; a complex one sets the flag.
+use limits::Refusal;
 use steps::AlgebraEnv;
 use steps::Ran;
-use trees::Refusal;
 ghost use mathlib.Core.Bool.{true};
 ghost use Prim.Native.Nat.{_-_};
-ghost use Rattle.arena.specs.Arena.{arena};
+ghost use Rattle.arena.specs.Contract.Arena.{arena};
 ghost use Rattle.steps.specs.State.{went, andThen, push};
 ghost use Rattle.steps.specs.Steps.{constantOf, flagged};
-ghost use Rattle.steps.specs.Agree.{Ready, Does};
+ghost use Rattle.steps.specs.Contract.Agree.{Ready, Does};
 
 // A number, given by its bits, is put on the stack. It is a sum of one cell as it is, so nothing is formed.
 pub fn push_number(
@@ -26,7 +26,7 @@ pub fn push_number(
     requires { ⌜ Ready (arena ak ai an ar am az) v env ⌝ }
     ensures { λ r. ⌜ Does (arena (ak .entry) (ai .entry) (an .entry) (ar .entry) (am .entry) (az .entry)) (arena (ak .exit) (ai .exit) (an .exit) (ar .exit) (am .exit) (az .exit)) v env r (push at (1024 - v) (constantOf re im)) ⌝ }
 {
-    if !(checks::finite_bits(re) & checks::finite_bits(im)) {
+    if !(numbers::finite_bits(re) & numbers::finite_bits(im)) {
         return steps::halt(Refusal::NotFinite, at, ak, ai, an, ar, am, az, env);
     }
     let kinds = [trees::X];

@@ -6,8 +6,8 @@ ghost use Prim.Native.Nat.{_+_, _≤_};
 ghost use Rattle.cells.specs.Book.{lent, Room};
 ghost use Rattle.trees.specs.Sums.{Sum, none};
 ghost use Rattle.trees.specs.Map.{eachInto};
-ghost use Rattle.cells.specs.Moves.{SameRoom};
-ghost use Rattle.sums.specs.Lies.{Lies, Held, Agrees};
+ghost use Rattle.cells.specs.Contract.Moves.{SameRoom};
+ghost use Rattle.sums.specs.Contract.Lies.{Lies, Held, Agrees};
 ghost use Rattle.calculus.specs.Derivative.{deriveInto, derive};
 
 fn wide(x: u8) -> usize

@@ -2,12 +2,12 @@
 use Prim.Native.Nat.{ℕ, _+_}
 use mathlib.Core.Path.{_≡_, refl, subst}
 use Rattle.cells.specs.Book.{Book}
-use Rattle.trees.specs.declared.Refusal.{Refusal}
+use Rattle.limits.specs.declared.Refusal.{Refusal}
 use Rattle.trees.specs.Sums.{Sum}
 use Rattle.trees.specs.Map.{Outcome, sum, refused}
 use Rattle.sums.specs.declared.Formed.{Formed}
 use Rattle.sums.specs.declared.Formed.the-variants.{Done, Refused}
-use Rattle.sums.specs.Lies.{Lies, Agrees}
+use Rattle.sums.specs.Contract.Lies.{Lies, Agrees}
 
 -- a sum of k cells lies there
 pub given : (b : Book) (r : Formed) {k : ℕ} (o : Outcome) → Agrees r b 0 o → r ≡ Done k → (w : Sum) × (o ≡ sum w) × Lies b 0 (0 + k) 4 w

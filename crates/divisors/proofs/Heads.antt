@@ -13,7 +13,7 @@ use Rattle.complex.specs.declared.Complex.{Complex}
 use Rattle.complex.specs.Arith as complex
 use Rattle.cells.specs.declared.Entry.{Entry}
 use Rattle.cells.specs.Book.{Book, Room}
-use Rattle.cells.specs.Moves.{Put, Copied}
+use Rattle.cells.specs.Contract.Moves.{Put, Copied}
 use Rattle.cells.proofs.Laws.{Fitting, put-at, at-kept, room-same, room-less}
 use Rattle.trees.specs.Kinds.{X, Div}
 use Rattle.trees.specs.Sums.{Sum, none, size, entry}
@@ -22,11 +22,11 @@ use Rattle.trees.proofs.Keeps.{good-more}
 use Rattle.terms.specs.Singles.{single}
 use Rattle.terms.proofs.Steps.{differ}
 use Rattle.terms.proofs.Goodness.{good-one, good-single}
-use Rattle.sums.specs.Lies.{At, Lies}
-use Rattle.sums.specs.Heads.{GoodHead}
+use Rattle.sums.specs.Contract.Lies.{At, Lies}
+use Rattle.sums.specs.Contract.Heads.{GoodHead}
 use Rattle.sums.proofs.Walk.{lies-empty}
 use Rattle.adds.proofs.Lying.{lies-copied}
-use Rattle.divisors.specs.Dividing.{Divisor}
+use Rattle.divisors.specs.Contract.Dividing.{Divisor}
 
 -- an X
 pub x-head : (p : Float) (c : Complex) → GoodHead (entry X 0 p c)

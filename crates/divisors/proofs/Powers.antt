@@ -13,9 +13,9 @@ use Rattle.trees.specs.Map.{Outcome, sum, refused, andThenSum}
 use Rattle.terms.specs.Product.{rowable, mulable, mulInto, product}
 use Rattle.terms.specs.Quotient.{xTo}
 use Rattle.terms.proofs.Agree.{product-is}
-use Rattle.sums.specs.Lies.{Lies}
+use Rattle.sums.specs.Contract.Lies.{Lies}
 use Rattle.sums.proofs.Walk.{next-at, lies-none}
-use Rattle.divisors.specs.Dividing.{timesX}
+use Rattle.divisors.specs.Contract.Dividing.{timesX}
 
 -- nothing left
 pub x-none : (p : Float) → mulable (xTo p) none ≡ true

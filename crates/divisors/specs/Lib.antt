@@ -1,2 +1,2 @@
 -- The root of divisors' definitions.
-pub mod Dividing
+pub mod Contract

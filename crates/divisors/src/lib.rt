@@ -2,10 +2,10 @@
 // for 64.
 use cells::Entry;
 use complex::Complex;
+use limits::Refusal;
 use sums::Formed;
 use terms::Change;
 use trees::Merge;
-use trees::Refusal;
 ghost use mathlib.Core.Path.{_≡_};
 ghost use mathlib.Core.Bool.{cond};
 ghost use mathlib.Core.List.{List};
@@ -20,9 +20,9 @@ ghost use Rattle.trees.specs.Map.{formed, andThenSum};
 ghost use Rattle.terms.specs.Singles.{isOne, single};
 ghost use Rattle.terms.specs.Product.{mulable, product};
 ghost use Rattle.terms.specs.Quotient.{xTo, addTimes};
-ghost use Rattle.sums.specs.Lies.{Lies, Held, Agrees};
-ghost use Rattle.adds.specs.Work.{Work};
-ghost use Rattle.divisors.specs.Dividing.{Divisor};
+ghost use Rattle.sums.specs.Contract.Lies.{Lies, Held, Agrees};
+ghost use Rattle.adds.specs.Contract.Work.{Work};
+ghost use Rattle.divisors.specs.Contract.Dividing.{Divisor};
 
 // Whether every outermost term of the sum of m cells from j on is a power of x: then a power of x times it is a sum.
 pub fn all_x(kinds: &[u8], insides: &[u8], j: usize, m: usize) -> bool

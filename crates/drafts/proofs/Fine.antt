@@ -9,15 +9,15 @@ use lib.Ieee.{Float, binary64, fits}
 use lib.Ieee.Bits.{toBits-lt}
 use borrow.Author.Tests.{eq-eqb, le-leb}
 use Rattle.complex.specs.declared.Complex.{Complex}
-use Rattle.records.specs.declared.Record.{Record}
-use Rattle.records.specs.declared.Kind.the-variants as kind
-use Rattle.records.specs.declared.Primitive.{Primitive}
-use Rattle.records.specs.declared.Primitive.the-variants as prim
-use Rattle.records.specs.declared.Verdict.the-variants.{Good}
-use Rattle.records.specs.Names.{primitiveNo, kindOf}
-use Rattle.records.specs.Tree.{Nodes, end, rec, size, height, encode}
-use Rattle.records.specs.Rules.{fieldsOk, isA, Fields, okNodes, AllFields, verdict}
-use Rattle.records.proofs.Theorem.{verdict-encode}
+use Rattle.formats.specs.declared.record.Record.{Record}
+use Rattle.formats.specs.declared.record.Kind.the-variants as kind
+use Rattle.formats.specs.declared.record.Primitive.{Primitive}
+use Rattle.formats.specs.declared.record.Primitive.the-variants as prim
+use Rattle.formats.specs.declared.record.Verdict.the-variants.{Good}
+use Rattle.formats.specs.Names.{primitiveNo, kindOf}
+use Rattle.formats.specs.Tree.{Nodes, end, rec, size, height, encode}
+use Rattle.formats.specs.Rules.{fieldsOk, isA, Fields, okNodes, AllFields, verdict}
+use Rattle.formats.proofs.record.Theorem.{verdict-encode}
 use Rattle.drafts.specs.Writing.{push, pushPair, does, body, append, one, two, wrapped, numberRecord}
 use Rattle.drafts.proofs.Laws.{size-append}
 

@@ -6,18 +6,18 @@ use Prim.Native.Nat.{ℕ, _+_, _*_, _≤_}
 use native.Mathlib.Omega.{arith}
 use lib.ListN.{length}
 use Rattle.complex.specs.declared.Complex.{Complex}
-use Rattle.records.specs.declared.Record.{Record}
-use Rattle.records.specs.Tree.{Nodes, end}
-use Rattle.records.specs.Tree as tree
-use Rattle.records.proofs.Codes.{written-long}
-use Rattle.trees.specs.declared.Refusal.{Refusal}
-use Rattle.trees.specs.declared.Refusal.the-variants.{NotFinite}
+use Rattle.formats.specs.declared.record.Record.{Record}
+use Rattle.formats.specs.Tree.{Nodes, end}
+use Rattle.formats.specs.Tree as tree
+use Rattle.formats.proofs.record.Codes.{written-long}
+use Rattle.limits.specs.declared.Refusal.{Refusal}
+use Rattle.limits.specs.declared.Refusal.the-variants.{NotFinite}
 use Rattle.drafts.specs.declared.Draft.{Draft}
 use Rattle.drafts.specs.declared.Said.{Said}
 use Rattle.drafts.specs.declared.Said.the-variants as said
 use Rattle.drafts.specs.Writing.{on, body, append, one, wrapped, Written, wrote, refused, andThen, numberRecord, canWrite, ifCan, number}
-use Rattle.drafts.specs.Lying.{Lying, SaidAs}
-use Rattle.drafts.specs.Growing.{Ready, Grown, Drawn, GrownTo, Spoken}
+use Rattle.drafts.specs.Contract.Lying.{Lying, SaidAs}
+use Rattle.drafts.specs.Contract.Growing.{Ready, Grown, Drawn, GrownTo, Spoken}
 use Rattle.drafts.proofs.Lying.{fresh, said-lies, wrapped-lies}
 
 -- ---- what the next step asks

@@ -3,8 +3,8 @@ use mathlib.Core.Path.{_≡_, refl, ap, _∙_, sym}
 use mathlib.Core.List.{List, [], _++_, append-assoc, append-nil}
 use Prim.Native.Nat.{ℕ, _+_}
 use native.Mathlib.Omega.{arith}
-use Rattle.records.specs.declared.Record.{Record}
-use Rattle.records.specs.Tree.{Nodes, end, rec, size, encodeRec, encode}
+use Rattle.formats.specs.declared.record.Record.{Record}
+use Rattle.formats.specs.Tree.{Nodes, end, rec, size, encodeRec, encode}
 use Rattle.drafts.specs.Writing.{on, body, append, one, two, wrapped}
 
 pub append-end : (ns : Nodes) → append ns end ≡ ns

@@ -8,11 +8,11 @@ use native.Mathlib.Numerals.{add-one}
 use borrow.Author.Tests.{le-leb, lt-leb}
 use lib.ListN.{length, take, drop, getD, set, length-append, length-drop}
 use lib.Seq.{take-add, drop-at, drop-append-le, take-append-add, take-suc, getD-drop, length-take-le, sets}
-use Rattle.records.specs.declared.Record.{Record}
-use Rattle.records.specs.Bytes.{part}
-use Rattle.records.specs.Tree.{Nodes, end, size, encodeRec, encode, recordsIn, Written}
-use Rattle.records.proofs.Bytes.{length-part, sets-append, part-sets}
-use Rattle.records.proofs.Codes.{length-rec, written-take, written-long}
+use Rattle.formats.specs.declared.record.Record.{Record}
+use Rattle.formats.specs.Bytes.{part}
+use Rattle.formats.specs.Tree.{Nodes, end, size, encodeRec, encode, recordsIn, Written}
+use Rattle.formats.proofs.record.Bytes.{length-part, sets-append, part-sets}
+use Rattle.formats.proofs.record.Codes.{length-rec, written-take, written-long}
 use Rattle.drafts.specs.declared.Draft.{Draft}
 use Rattle.drafts.specs.declared.Said.{Said}
 use Rattle.drafts.specs.declared.Said.the-variants as said
@@ -20,9 +20,9 @@ use Rattle.drafts.specs.declared.Wrote.{Wrote}
 use Rattle.drafts.specs.declared.Wrote.the-variants as answer
 use Rattle.drafts.specs.Writing.{on, body, append, one, wrapped, wrote, refused}
 use Rattle.drafts.specs.Writing as writing
-use Rattle.drafts.specs.Lying.{Lying, SaidAs, roomFor, Answered}
-use Rattle.trees.specs.declared.Refusal.{Refusal}
-use Rattle.trees.specs.declared.Refusal.the-variants.{OutputRoom}
+use Rattle.drafts.specs.Contract.Lying.{Lying, SaidAs, roomFor, Answered}
+use Rattle.limits.specs.declared.Refusal.{Refusal}
+use Rattle.limits.specs.declared.Refusal.the-variants.{OutputRoom}
 use Rattle.drafts.proofs.Laws.{size-said, size-wrapped, encode-said, encode-wrapped}
 
 -- nothing lies at any place

@@ -1,4 +1,3 @@
 -- The root of drafts' definitions.
 pub mod Writing
-pub mod Lying
-pub mod Growing
+pub mod Contract

@@ -5,15 +5,15 @@ use lib.Ieee.{Float, binary64, toBits}
 use lib.Ieee.Scale.{finite}
 use Rattle.complex.specs.declared.Complex.{Complex}
 use Rattle.complex.specs.Arith as complex
-use Rattle.trees.specs.declared.Refusal.{Refusal}
-use Rattle.trees.specs.declared.Refusal.the-variants.{NotFinite}
-use Rattle.records.specs.declared.Record.{Record}
-use Rattle.records.specs.declared.Kind.{Kind}
-use Rattle.records.specs.declared.Kind.the-variants as kind
-use Rattle.records.specs.declared.Primitive.{Primitive}
-use Rattle.records.specs.declared.Modifier.the-variants as modifier
-use Rattle.records.specs.Names.{kindNo, primitiveNo, modifierNo}
-use Rattle.records.specs.Tree.{Nodes, end, rec, size}
+use Rattle.limits.specs.declared.Refusal.{Refusal}
+use Rattle.limits.specs.declared.Refusal.the-variants.{NotFinite}
+use Rattle.formats.specs.declared.record.Record.{Record}
+use Rattle.formats.specs.declared.record.Kind.{Kind}
+use Rattle.formats.specs.declared.record.Kind.the-variants as kind
+use Rattle.formats.specs.declared.record.Primitive.{Primitive}
+use Rattle.formats.specs.declared.record.Modifier.the-variants as modifier
+use Rattle.formats.specs.Names.{kindNo, primitiveNo, modifierNo}
+use Rattle.formats.specs.Tree.{Nodes, end, rec, size}
 
 -- ---- records; what a kind does not use is zero
 

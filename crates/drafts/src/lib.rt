@@ -1,11 +1,11 @@
 // A list of records that is being written. It lies in a buffer, from one place up to another, and grows at both ends: a record is said after the last, and
 // an On goes round everything so far. When it is whole it is handed over.
 use complex::Complex;
-use records::Kind;
-use records::Modifier;
-use records::Primitive;
-use records::Record;
-use trees::Refusal;
+use formats::record::Kind;
+use formats::record::Modifier;
+use formats::record::Primitive;
+use formats::record::Record;
+use limits::Refusal;
 ghost use mathlib.Core.Path.{_≡_};
 ghost use Prim.Native.Nat.{_+_, _*_, _≤_, _<_};
 ghost use lib.Dec.{T};
@@ -13,11 +13,11 @@ ghost use lib.ListN.{length};
 ghost use lib.Seq.{sets};
 ghost use lib.Ieee.Scale.{finite};
 ghost use Rattle.complex.specs.Arith.{allFinite};
-ghost use Rattle.records.specs.Bytes.{part};
-ghost use Rattle.records.specs.Tree.{Nodes};
+ghost use Rattle.formats.specs.Bytes.{part};
+ghost use Rattle.formats.specs.Tree.{Nodes};
 ghost use Rattle.drafts.specs.Writing.{push, pushPair, does, on, body, append, one, wrapped, Written, wrote, numberRecord, canWrite, number};
-ghost use Rattle.drafts.specs.Lying.{Lying, SaidAs, Answered};
-ghost use Rattle.drafts.specs.Growing.{Ready, Drawn, Spoken};
+ghost use Rattle.drafts.specs.Contract.Lying.{Lying, SaidAs, Answered};
+ghost use Rattle.drafts.specs.Contract.Growing.{Ready, Drawn, Spoken};
 
 // The places of the buffer that the list so far takes: from the first up to the end.
 pub struct Draft {
@@ -44,7 +44,7 @@ fn push(x: f64) -> Record
     ensures { λ r. ⌜ r ≡ push x ⌝ }
 {
     Record {
-        kind: records::kind_no(Kind::RealPush),
+        kind: formats::record::kind_no(Kind::RealPush),
         code: 0,
         args: 0,
         blank: 0,
@@ -59,7 +59,7 @@ fn push_pair(c: Complex) -> Record
     ensures { λ r. ⌜ r ≡ pushPair c ⌝ }
 {
     Record {
-        kind: records::kind_no(Kind::ComplexPush),
+        kind: formats::record::kind_no(Kind::ComplexPush),
         code: 0,
         args: 0,
         blank: 0,
@@ -73,8 +73,8 @@ fn does(p: Primitive) -> Record
     ensures { λ r. ⌜ r ≡ does p ⌝ }
 {
     Record {
-        kind: records::kind_no(Kind::Primitive),
-        code: records::primitive_no(p),
+        kind: formats::record::kind_no(Kind::Primitive),
+        code: formats::record::primitive_no(p),
         args: 0,
         blank: 0,
         inside: 0,
@@ -87,8 +87,8 @@ fn on(n: u32) -> Record
     ensures { λ r. ⌜ r ≡ on n ⌝ }
 {
     Record {
-        kind: records::kind_no(Kind::Modifier),
-        code: records::modifier_no(Modifier::On),
+        kind: formats::record::kind_no(Kind::Modifier),
+        code: formats::record::modifier_no(Modifier::On),
         args: 0,
         blank: 0,
         inside: n,
@@ -101,7 +101,7 @@ fn body(n: u32) -> Record
     ensures { λ r. ⌜ r ≡ body n ⌝ }
 {
     Record {
-        kind: records::kind_no(Kind::Body),
+        kind: formats::record::kind_no(Kind::Body),
         code: 0,
         args: 1,
         blank: 0,
@@ -119,7 +119,7 @@ pub fn say(b: &mut [u8], d: Draft, r: Record) -> Draft
     ensures { λ q. ⌜ Drawn (now (b .entry)) (now (b .exit)) d q 0 1 (λ ns. append ns (one r)) ⌝ }
 {
     let end = d.end;
-    records::put_record(b, end, r);
+    formats::record::put_record(b, end, r);
     Draft {
         from: d.from,
         end: end + 1,
@@ -175,8 +175,8 @@ pub fn wrap(b: &mut [u8], d: Draft) -> Draft
 {
     let first = d.from - 2;
     let n = (d.end - d.from) as u32;
-    records::put_record(b, first, on(n + 1));
-    records::put_record(b, first + 1, body(n));
+    formats::record::put_record(b, first, on(n + 1));
+    formats::record::put_record(b, first + 1, body(n));
     Draft {
         from: first,
         end: d.end,
@@ -203,7 +203,7 @@ pub fn hand_over(b: &[u8], d: Draft, out: &mut [u8]) -> Wrote
     ensures { λ r. ⌜ ((ns : Nodes) → Lying (now (b .entry)) d ns → Answered (now (out .entry)) (now (out .exit)) r (wrote ns)) ⌝ }
 {
     let n = d.end - d.from;
-    if records::count_records(out) < n {
+    if formats::record::count_records(out) < n {
         return Wrote::Refused(Refusal::OutputRoom);
     }
     copy_out(b, 24 * d.from, 24 * n, out);

@@ -15,14 +15,15 @@ use lib.Seq.{drop-drop, getD-drop, sets}
 use borrow.Author.Tests.{ltb-true, lt-ltb}
 use Rattle.complex.specs.declared.Complex.{Complex}
 use Rattle.cells.specs.Book.{Cell, decoded, encoded, Plain}
-use Rattle.cells.proofs.Laws.{Fitting, no-nan}
+use Rattle.cells.proofs.Laws.{Fitting}
+use Rattle.numbers.proofs.Bits.{no-nan}
 use Rattle.trees.specs.Sums.{Sum, size, entry}
 use Rattle.trees.specs.Good.{GoodEntry}
-use Rattle.records.specs.Bytes.{value, bytes, part, number, Bytes}
-use Rattle.records.proofs.Bytes.{length-bytes, value-bytes, part-join, part-four, number-four, bytes-number, number-below, sets-append}
-use Rattle.records.proofs.Shapes.{and-left, and-right}
+use Rattle.formats.specs.Bytes.{value, bytes, part, number, Bytes}
+use Rattle.formats.proofs.record.Bytes.{length-bytes, value-bytes, part-join, part-four, number-four, bytes-number, number-below, sets-append}
+use Rattle.formats.proofs.record.Shapes.{and-left, and-right}
 use Rattle.entries.specs.Encoding.{encodeCell}
-use Rattle.entries.specs.Steps.{cleanAt, cellAt}
+use Rattle.entries.specs.Contract.Steps.{cleanAt, cellAt}
 
 pub length-cell : (c : Cell) → length (encodeCell c) ≡ 32
 unfolding encodeCell bytes

@@ -8,7 +8,7 @@ use Rattle.trees.specs.Kinds.{Sin}
 use Rattle.trees.specs.Sums.{size}
 use Rattle.trees.proofs.Keeps.{good-more}
 use Rattle.trees.proofs.Same.{2x, of, good-example}
-use Rattle.records.specs.Bytes.{bytes}
+use Rattle.formats.specs.Bytes.{bytes}
 use Rattle.entries.specs.Encoding.{encodeCell, encodeSum}
 use Rattle.entries.specs.Taking.{Weighed}
 use Rattle.entries.specs.declared.Taken.{Taken}

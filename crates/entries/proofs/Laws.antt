@@ -17,12 +17,12 @@ use Rattle.cells.specs.Book.{Book, Cell, cell, decoded, encoded, Plain}
 use Rattle.cells.proofs.Laws.{decoded-encoded}
 use Rattle.trees.specs.Sums.{Sum, none, and, size, entry}
 use Rattle.trees.specs.Good.{Good}
-use Rattle.sums.specs.Lies.{At, Lies}
+use Rattle.sums.specs.Contract.Lies.{At, Lies}
 use Rattle.sums.proofs.Walk.{plain-of}
-use Rattle.records.specs.Bytes.{bytes, part, Bytes}
-use Rattle.records.proofs.Bytes.{sets-append}
+use Rattle.formats.specs.Bytes.{bytes, part, Bytes}
+use Rattle.formats.proofs.record.Bytes.{sets-append}
 use Rattle.entries.specs.Encoding.{encodeCell, encodeEntry, encodeSum}
-use Rattle.entries.specs.Steps.{cleanAt, cellAt}
+use Rattle.entries.specs.Contract.Steps.{cleanAt, cellAt}
 use Rattle.entries.proofs.Codes.{length-cell, Bits, cell-read, clean-read, cell-part, part-join′, encoded-decoded, good-fitting, good-small}
 
 encode-and : (k : ℕ) (p : Float) (t : Sum) (c : Complex) (r : Sum) → encodeSum (and k p t c r) ≡ encodeEntry (entry k (size t) p c) ++ (encodeSum t ++ encodeSum r)

@@ -8,9 +8,9 @@ use native.Mathlib.Decide.{ℕ-discrete}
 use lib.ListN.{length, set, length-set}
 use lib.Seq.{getD-set-same, getD-set-other}
 use Rattle.cells.specs.Book.{Book, Cell, book, cell, Room}
-use Rattle.cells.specs.Moves.{SameRoom}
+use Rattle.cells.specs.Contract.Moves.{SameRoom}
 use Rattle.cells.proofs.Laws.{same-room-refl, same-room-trans, room-same}
-use Rattle.entries.specs.Steps.{cleanAt, cellAt, Loaded}
+use Rattle.entries.specs.Contract.Steps.{cleanAt, cellAt, Loaded}
 
 -- the first j entries are clean and in the cells
 pub record Passed (l : List ℕ) (b₀ b : Book) (j : ℕ) : Type 0 where

@@ -11,15 +11,15 @@ use Rattle.cells.specs.Book.{Book, cell, at, decoded, Room}
 use Rattle.trees.specs.Sums.{Sum, none, and, size, levels}
 use Rattle.trees.specs.Good.{Good}
 use Rattle.trees.proofs.Keeps.{good-levels, good-within}
-use Rattle.trees.specs.Refusals.{refusalNo}
-use Rattle.trees.specs.declared.Refusal.{Refusal}
-use Rattle.trees.specs.declared.Refusal.the-variants.{TooManyVariables, NotSupported, NoOutput, TooManyOutputs, NonScalar, NonReal, TooComplex, InterpreterBug, NoInverse, NotHandled, BadRecord, NoRoom, TooDeep, NeedsMath, NotFinite, BigPower, OutputRoom}
-use Rattle.sums.specs.Lies.{Lies, Held}
+use Rattle.limits.specs.Refusals.{refusalNo}
+use Rattle.limits.specs.declared.Refusal.{Refusal}
+use Rattle.limits.specs.declared.Refusal.the-variants.{TooManyVariables, NotSupported, NoOutput, TooManyOutputs, NonScalar, NonReal, TooComplex, InterpreterBug, NoInverse, NotHandled, BadRecord, NoRoom, TooDeep, NeedsMath, NotFinite, BigPower, OutputRoom}
+use Rattle.sums.specs.Contract.Lies.{Lies, Held}
 use Rattle.sums.proofs.Walk.{at-stays}
-use Rattle.records.specs.Bytes.{Bytes}
+use Rattle.formats.specs.Bytes.{Bytes}
 use Rattle.entries.specs.Encoding.{encodeSum}
 use Rattle.entries.specs.Taking.{Handed, Weighed, Laid}
-use Rattle.entries.specs.Steps.{cleanAt, cellAt, Answered, good, deep, bad}
+use Rattle.entries.specs.Contract.Steps.{cleanAt, cellAt, Answered, good, deep, bad}
 use Rattle.entries.specs.declared.Taken.{Taken}
 use Rattle.entries.specs.declared.Taken.the-variants as taken
 use Rattle.entries.proofs.Codes.{Bits, bits-at}

@@ -6,7 +6,7 @@ use lib.ListN.{length}
 use Rattle.cells.specs.declared.Entry.{Entry}
 use Rattle.cells.specs.Book.{Cell, encoded}
 use Rattle.trees.specs.Sums.{Sum, none, and, size, entry}
-use Rattle.records.specs.Bytes.{bytes}
+use Rattle.formats.specs.Bytes.{bytes}
 
 -- the five numbers of a cell
 unfoldable pub encodeCell : Cell → List ℕ

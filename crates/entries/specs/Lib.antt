@@ -1,4 +1,4 @@
 -- The root of entries' definitions.
 pub mod Encoding
 pub mod Taking
-pub mod Steps
+pub mod Contract

@@ -7,8 +7,8 @@ use Prim.Native.Nat.{ℕ, _≤_}
 use Rattle.cells.specs.Book.{Book}
 use Rattle.trees.specs.Sums.{Sum, size}
 use Rattle.trees.specs.Good.{Good}
-use Rattle.trees.specs.declared.Refusal.the-variants.{BadRecord, TooDeep}
-use Rattle.sums.specs.Lies.{Lies}
+use Rattle.limits.specs.declared.Refusal.the-variants.{BadRecord, TooDeep}
+use Rattle.sums.specs.Contract.Lies.{Lies}
 use Rattle.entries.specs.Encoding.{encodeSum}
 use Rattle.entries.specs.declared.Taken.{Taken}
 use Rattle.entries.specs.declared.Taken.the-variants as taken

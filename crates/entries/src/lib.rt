@@ -1,15 +1,15 @@
 // Sums as bytes, 32 to an entry, numbers with the lowest byte first: taking a sum in, with the rules that it keeps, and writing one.
-use trees::Refusal;
+use limits::Refusal;
 ghost use mathlib.Core.Path.{_≡_};
 ghost use Prim.Native.Nat.{ℕ, _+_, _*_, _≤_};
 ghost use lib.ListN.{length};
 ghost use lib.Seq.{sets};
 ghost use Rattle.cells.specs.Book.{lent, Room};
 ghost use Rattle.trees.specs.Sums.{Sum};
-ghost use Rattle.sums.specs.Lies.{Lies, Held};
+ghost use Rattle.sums.specs.Contract.Lies.{Lies, Held};
 ghost use Rattle.entries.specs.Encoding.{encodeCell, entriesIn, encodeSum};
 ghost use Rattle.entries.specs.Taking.{Weighed, Laid};
-ghost use Rattle.entries.specs.Steps.{cleanAt, Loaded, Answered};
+ghost use Rattle.entries.specs.Contract.Steps.{cleanAt, Loaded, Answered};
 
 // What handing over bytes gives: a sum of so many entries, or a refusal.
 pub enum Taken {
@@ -23,7 +23,7 @@ fn clean(list: &[u8], i: usize) -> bool
     ensures { λ r. ⌜ r ≡ cleanAt (now (list .entry)) i ⌝ }
 {
     let at = 32 * i;
-    (records::four(list, at) < 256) & (records::four(list, at + 4) < 64)
+    (formats::record::four(list, at) < 256) & (formats::record::four(list, at + 4) < 64)
 }
 
 // Reads the first `n` entries into the first `n` cells, as long as they are clean.
@@ -47,9 +47,9 @@ fn read_cells(
         let at = 32 * j;
         ks[j] = list[at];
         is[j] = list[at + 4];
-        ns[j] = records::eight(list, at + 8);
-        rs[j] = records::eight(list, at + 16);
-        ms[j] = records::eight(list, at + 24);
+        ns[j] = formats::record::eight(list, at + 8);
+        rs[j] = formats::record::eight(list, at + 16);
+        ms[j] = formats::record::eight(list, at + 24);
         j = j + 1;
     }
     true
@@ -104,11 +104,11 @@ fn put_cell(out: &mut [u8], j: usize, kind: u8, inside: u8, num: u64, re: u64, i
     ensures { λ _. ⌜ now (out .exit) ≡ sets (now (out .entry)) (32 * j) (encodeCell record { kind = kind; inside = inside; num = num; re = re; im = im }) ⌝ }
 {
     let at = 32 * j;
-    records::put_four(out, at, kind as u64);
-    records::put_four(out, at + 4, inside as u64);
-    records::put_eight(out, at + 8, num);
-    records::put_eight(out, at + 16, re);
-    records::put_eight(out, at + 24, im);
+    formats::record::put_four(out, at, kind as u64);
+    formats::record::put_four(out, at + 4, inside as u64);
+    formats::record::put_eight(out, at + 8, num);
+    formats::record::put_eight(out, at + 16, re);
+    formats::record::put_eight(out, at + 24, im);
 }
 
 // How many whole entries there is room for.

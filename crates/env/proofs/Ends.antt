@@ -15,34 +15,35 @@ use Rattle.numbers.specs.Signs.{zero64, one64}
 use Rattle.complex.specs.Arith as complex
 use Rattle.cells.specs.declared.Entry.{Entry}
 use Rattle.cells.specs.Book.{Book, Room, at, Plain}
-use Rattle.cells.specs.Moves.{Put, Copied}
+use Rattle.cells.specs.Contract.Moves.{Put, Copied}
 use Rattle.cells.proofs.Laws.{Fitting, put-at, room-less, room-same}
-use Rattle.trees.specs.declared.Refusal.{Refusal}
-use Rattle.trees.specs.declared.Refusal.the-variants.{NoOutput, TooManyOutputs}
-use Rattle.records.specs.Tree.{parse, recordsIn}
-use Rattle.records.specs.Rules.{verdict}
-use Rattle.records.specs.declared.Verdict.the-variants.{Good}
-use Rattle.records.specs.Walk.{Stretch}
-use Rattle.records.proofs.Walk.{whole-stretch}
+use Rattle.limits.specs.declared.Refusal.{Refusal}
+use Rattle.limits.specs.declared.Refusal.the-variants.{NoOutput, TooManyOutputs}
+use Rattle.formats.specs.Tree.{parse, recordsIn}
+use Rattle.formats.specs.Rules.{verdict}
+use Rattle.formats.specs.declared.record.Verdict.the-variants.{Good}
+use Rattle.formats.specs.Contract.Walk.{Stretch}
+use Rattle.formats.proofs.record.Walk.{whole-stretch}
 use Rattle.trees.specs.Kinds as kinds
 use Rattle.trees.specs.Sums.{Sum, none, size, entry}
 use Rattle.terms.specs.Singles.{GoodSum, single}
 use Rattle.terms.proofs.Goodness.{good-xTo}
-use Rattle.sums.specs.Lies.{At, Lies}
+use Rattle.sums.specs.Contract.Lies.{At, Lies}
 use Rattle.adds.proofs.Lying.{lies-copied, lies-to}
-use Rattle.arena.specs.Arena.{Arena, Space}
-use Rattle.arena.specs.Stack.{Stacked, no-sum, on-top, Sized, total, sizesOf, anyComplex}
+use Rattle.arena.specs.Contract.Arena.{Arena, Space}
+use Rattle.arena.specs.Stack.{total, anyComplex}
+use Rattle.arena.specs.Contract.Stacked.{Stacked, no-sum, on-top, Sized, sizesOf}
 use Rattle.arena.proofs.Moving.{of}
 use Rattle.arena.proofs.Laws.{space-same, stacked-one, stacked-two, stacked-some, stacked-end, stacked-size, stacked-total}
 use Rattle.steps.specs.State.{State, Walked, isHandled, went, stopped}
-use Rattle.steps.specs.Agree.{Stands, Ready, Agree, Does}
+use Rattle.steps.specs.Contract.Agree.{Stands, Ready, Agree, Does}
 use Rattle.steps.specs.declared.AlgebraEnv.{AlgebraEnv}
 use Rattle.steps.specs.declared.Ran.the-variants.{Went, Stopped}
 use Rattle.bodies.specs.Reading.{start, ended, lastOf, readNodes}
-use Rattle.bodies.specs.Walks.{walkOf}
+use Rattle.bodies.specs.Contract.Walks.{walkOf}
 use Rattle.env.specs.declared.AlgebraData.{AlgebraData}
 use Rattle.env.specs.declared.AlgebraData.the-variants as answer
-use Rattle.env.specs.Data.{DataAs}
+use Rattle.env.specs.Contract.Data.{DataAs}
 
 -- ---- the start
 

@@ -1,2 +1,2 @@
 -- The root of env's definitions.
-pub mod Data
+pub mod Contract

@@ -1,19 +1,19 @@
 // The Rust's AlgebraEnv: a list read on a stack of sums that starts with x, to the one sum that is left.
 use cells::Entry;
 use complex::Complex;
+use limits::Refusal;
 use steps::AlgebraEnv;
 use steps::Ran;
-use trees::Refusal;
 ghost use mathlib.Core.Path.{_≡_};
-ghost use Rattle.records.specs.Tree.{parse};
-ghost use Rattle.records.specs.Rules.{verdict};
-ghost use Rattle.records.specs.declared.Verdict.the-variants.{Good};
+ghost use Rattle.formats.specs.Tree.{parse};
+ghost use Rattle.formats.specs.Rules.{verdict};
+ghost use Rattle.formats.specs.declared.record.Verdict.the-variants.{Good};
 ghost use Rattle.cells.specs.Book.{lent, Room};
-ghost use Rattle.arena.specs.Arena.{arena, Space};
+ghost use Rattle.arena.specs.Contract.Arena.{arena, Space};
 ghost use Rattle.steps.specs.State.{State, went};
-ghost use Rattle.steps.specs.Agree.{Stands, Ready};
+ghost use Rattle.steps.specs.Contract.Agree.{Stands, Ready};
 ghost use Rattle.bodies.specs.Reading.{start, ended, readNodes};
-ghost use Rattle.env.specs.Data.{DataAs};
+ghost use Rattle.env.specs.Contract.Data.{DataAs};
 
 // What reading gives: a sum of so many entries, with the complex flag, or a refusal with its place; and whether what was read counts as handled.
 pub enum AlgebraData {
@@ -98,7 +98,7 @@ pub fn nodes_expr(
     let mut am = [0u64; 1024];
     let mut az = [0u8; 1024];
     let env = begin_with_x(&mut ak, &mut ai, &mut an, &mut ar, &mut am, &mut az);
-    let n = records::count_records(list);
+    let n = formats::record::count_records(list);
     let ran = walks::walk(
         list,
         0,

@@ -5,7 +5,7 @@ ghost use Prim.Native.Nat.{_+_, _≤_, _<_};
 ghost use Rattle.cells.specs.Book.{lent, Room};
 ghost use Rattle.trees.specs.Sums.{Sum};
 ghost use Rattle.terms.specs.Power.{sqrt, exp, exp2, exp10, ln, log2, log10};
-ghost use Rattle.sums.specs.Lies.{Lies, Held, Agrees};
+ghost use Rattle.sums.specs.Contract.Lies.{Lies, Held, Agrees};
 
 // The square root.
 pub fn sqrt(

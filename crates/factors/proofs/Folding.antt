@@ -7,16 +7,16 @@ use lib.Ieee.{Float}
 use Rattle.complex.specs.declared.Complex.{Complex}
 use Rattle.cells.specs.declared.Entry.{Entry}
 use Rattle.cells.specs.Book.{Book, at}
-use Rattle.cells.specs.Moves.{Kept}
-use Rattle.trees.specs.declared.Refusal.{Refusal}
+use Rattle.cells.specs.Contract.Moves.{Kept}
+use Rattle.limits.specs.declared.Refusal.{Refusal}
 use Rattle.trees.specs.Sums.{Sum, and, size, entry}
 use Rattle.trees.specs.Map.{Outcome, sum, eachInto}
 use Rattle.trees.proofs.Keeps.{each-none, each-sum, each-refused}
 use Rattle.sums.specs.declared.Formed.{Formed}
 use Rattle.sums.specs.declared.Formed.the-variants.{Done, Refused}
-use Rattle.sums.specs.Lies.{Lies, Agrees}
+use Rattle.sums.specs.Contract.Lies.{Lies, Agrees}
 use Rattle.sums.proofs.Walk.{Next, next, lies-none}
-use Rattle.factors.specs.Apart.{Apart}
+use Rattle.factors.specs.Contract.Apart.{Apart}
 use Rattle.factors.proofs.Lying.{lies-apart, apart-rest, agreed-done, agreed-refused, agree-done, agree-refused}
 
 -- both of two tests passed

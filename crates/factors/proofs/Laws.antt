@@ -15,12 +15,12 @@ use Rattle.complex.specs.declared.Complex.{Complex}
 use Rattle.complex.specs.Arith as complex
 use Rattle.cells.specs.declared.Entry.{Entry}
 use Rattle.cells.specs.Book.{Book, at, Room}
-use Rattle.cells.specs.Moves.{Kept, Copied}
+use Rattle.cells.specs.Contract.Moves.{Kept, Copied}
 use Rattle.cells.proofs.Laws.{room-less, room-same}
 use Rattle.trees.specs.declared.Merge.{Merge}
 use Rattle.trees.specs.declared.Merge.the-variants.{Add}
-use Rattle.trees.specs.declared.Refusal.{Refusal}
-use Rattle.trees.specs.declared.Refusal.the-variants.{TooComplex}
+use Rattle.limits.specs.declared.Refusal.{Refusal}
+use Rattle.limits.specs.declared.Refusal.the-variants.{TooComplex}
 use Rattle.trees.specs.Kinds.{X, Div}
 use Rattle.trees.specs.Sums.{Sum, none, and, size, entry}
 use Rattle.trees.specs.Order.{cmpTerm}
@@ -30,10 +30,10 @@ use Rattle.trees.proofs.Keeps.{putBy, formed-sum}
 use Rattle.terms.specs.Product.{pairable, rowable, mulable, mulTerm, mulInto, product}
 use Rattle.sums.specs.declared.Formed.{Formed}
 use Rattle.sums.specs.declared.Formed.the-variants.{Done, Refused}
-use Rattle.sums.specs.Heads.{GoodHead}
-use Rattle.sums.specs.Lies.{Lies, Agrees}
-use Rattle.factors.specs.Apart.{Operands}
-use Rattle.factors.specs.Factors.{Term, Pair, Row, Sums, Beside}
+use Rattle.sums.specs.Contract.Heads.{GoodHead}
+use Rattle.sums.specs.Contract.Lies.{Lies, Agrees}
+use Rattle.factors.specs.Contract.Apart.{Operands}
+use Rattle.factors.specs.Contract.Factors.{Term, Pair, Row, Sums, Beside}
 use Rattle.factors.proofs.Shapes.{row-and, sum-and}
 use Rattle.factors.proofs.Lying.{Agreed, lies-copied, apart-part, operand-kept, agreed-done, agreed-refused}
 use Rattle.factors.proofs.Folding.{Folding, here, tests}

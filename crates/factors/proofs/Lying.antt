@@ -4,16 +4,16 @@ use native.Mathlib.Omega.{arith}
 use mathlib.Core.Path.{_≡_, refl, sym, ap, _∙_}
 use mathlib.Core.Logic.{⊎-elim}
 use Rattle.cells.specs.Book.{Book, cell, decoded, at, Room}
-use Rattle.cells.specs.Moves.{Kept}
-use Rattle.trees.specs.declared.Refusal.{Refusal}
+use Rattle.cells.specs.Contract.Moves.{Kept}
+use Rattle.limits.specs.declared.Refusal.{Refusal}
 use Rattle.trees.specs.Sums.{Sum, size}
 use Rattle.trees.specs.Map.{Outcome, sum, refused}
 use Rattle.sums.specs.declared.Formed.{Formed}
 use Rattle.sums.specs.declared.Formed.the-variants.{Done, Refused}
-use Rattle.sums.specs.Lies.{Lies, Agrees}
+use Rattle.sums.specs.Contract.Lies.{Lies, Agrees}
 use Rattle.sums.proofs.Walk.{at-moved, lies-stays}
-use Rattle.factors.specs.Apart.{Apart}
-use Rattle.factors.specs.Factors.{Operand}
+use Rattle.factors.specs.Contract.Apart.{Apart}
+use Rattle.factors.specs.Contract.Factors.{Operand}
 
 -- a stretch that was copied lies where it was copied to
 pub lies-copied : (g b : Book) (i n k left : ℕ) (s : Sum) → ((j : ℕ) → j < n → cell b (k + j) ≡ cell g (i + j)) → Room b (k + n) → Lies g i (i + n) left s → Lies b k (k + n) left s

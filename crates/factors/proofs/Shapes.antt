@@ -11,9 +11,9 @@ use Rattle.cells.specs.Book.{Book, at}
 use Rattle.trees.specs.Sums.{Sum, none, and}
 use Rattle.trees.specs.Good.{Good}
 use Rattle.terms.specs.Product.{pairable, rowable, mulable}
-use Rattle.sums.specs.Lies.{At, Lies}
+use Rattle.sums.specs.Contract.Lies.{At, Lies}
 use Rattle.sums.proofs.Walk.{opened, good-and, empty}
-use Rattle.factors.specs.Apart.{Shape}
+use Rattle.factors.specs.Contract.Apart.{Shape}
 
 -- a sum that lies in a book has the shape that the book's kinds and inside counts tell
 pub shape-of : {b : Book} {i e left : ℕ} {s : Sum} → Lies b i e left s → Shape (b .kinds) (b .insides) i e left s

@@ -1,3 +1,2 @@
 -- The root of factors' definitions.
-pub mod Apart
-pub mod Factors
+pub mod Contract

@@ -7,15 +7,15 @@ ghost use mathlib.Core.Path.{_≡_};
 ghost use Prim.Native.Nat.{_+_, _-_, _≤_, _<_};
 ghost use Rattle.numbers.specs.Signs.{zero64};
 ghost use Rattle.cells.specs.Book.{lent, Room};
-ghost use Rattle.cells.specs.Moves.{Kept};
+ghost use Rattle.cells.specs.Contract.Moves.{Kept};
 ghost use Rattle.trees.specs.declared.Merge.the-variants.{Add};
 ghost use Rattle.trees.specs.Kinds.{Div};
 ghost use Rattle.trees.specs.Sums.{Sum, none, size, entry};
 ghost use Rattle.trees.specs.Map.{andThenSum, formed, eachInto};
 ghost use Rattle.terms.specs.Product.{pairable, rowable, mulable, mulTerm, mulInto, product};
-ghost use Rattle.sums.specs.Lies.{Lies, Agrees};
-ghost use Rattle.factors.specs.Apart.{Shape, Shaped};
-ghost use Rattle.factors.specs.Factors.{Pair, Row, Sums, Result, Beside};
+ghost use Rattle.sums.specs.Contract.Lies.{Lies, Agrees};
+ghost use Rattle.factors.specs.Contract.Apart.{Shape, Shaped};
+ghost use Rattle.factors.specs.Contract.Factors.{Pair, Row, Sums, Result, Beside};
 
 // Whether two terms of kinds k and l, whose insides lie from i and from j on, have a product.
 fn can_pair(

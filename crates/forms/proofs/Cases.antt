@@ -11,10 +11,10 @@ use Rattle.numbers.proofs.Values.{bits-0}
 use Rattle.complex.specs.declared.Complex as declared
 use Rattle.trees.specs.Sums.{Sum, entry}
 use Rattle.trees.specs.Map.{sum}
-use Rattle.sums.specs.Heads.{GoodHead}
-use Rattle.records.specs.declared.Primitive.{Primitive}
-use Rattle.records.specs.declared.Primitive.the-variants.{Identity, Pop, Dup, Flip, Neg, Not, Sqrt, Add, Sub, Mul, Div, Pow, Exp, Sin, Cos, Reciprocal, Complex, Max, SinH, CosH, Exp2, Exp10, Log, Ln, Log2, Log10, Over, Root, Unlisted}
-use Rattle.records.proofs.Primitive.{the-type}
+use Rattle.sums.specs.Contract.Heads.{GoodHead}
+use Rattle.formats.specs.declared.record.Primitive.{Primitive}
+use Rattle.formats.specs.declared.record.Primitive.the-variants.{Identity, Pop, Dup, Flip, Neg, Not, Sqrt, Add, Sub, Mul, Div, Pow, Exp, Sin, Cos, Reciprocal, Complex, Max, SinH, CosH, Exp2, Exp10, Log, Ln, Log2, Log10, Over, Root, Unlisted}
+use Rattle.formats.proofs.record.Primitive.{the-type}
 use Rattle.forms.specs.Forms.{ofOne, ofTwo}
 
 -- the head of a term that has an inside and no number

@@ -3,13 +3,13 @@ use Prim.Native.Nat.{ℕ, _+_, _≤_}
 use native.Mathlib.Omega.{arith}
 use mathlib.Core.Path.{_≡_}
 use Rattle.cells.specs.Book.{Book, Room}
-use Rattle.cells.specs.Moves.{Copied}
+use Rattle.cells.specs.Contract.Moves.{Copied}
 use Rattle.cells.proofs.Laws.{room-less, room-same}
 use Rattle.trees.specs.Sums.{Sum}
 use Rattle.trees.specs.Map.{Outcome}
 use Rattle.sums.specs.declared.Formed.{Formed}
 use Rattle.sums.specs.declared.Formed.the-variants.{Done}
-use Rattle.sums.specs.Lies.{Lies, Agrees}
+use Rattle.sums.specs.Contract.Lies.{Lies, Agrees}
 use Rattle.sums.proofs.Walk.{lies-below}
 use Rattle.factors.proofs.Lying.{agreed-done, agree-done}
 use Rattle.adds.proofs.Lying.{lies-copied, copied-kept}

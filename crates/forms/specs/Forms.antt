@@ -9,8 +9,8 @@ use Rattle.terms.specs.Adding.{negSum, addSums, subSums}
 use Rattle.terms.specs.Product.{product}
 use Rattle.terms.specs.Quotient.{quotient}
 use Rattle.terms.specs.Power.{pow, log, sqrt, exp, exp2, exp10, ln, log2, log10, reciprocal, notSum, complexSum}
-use Rattle.records.specs.declared.Primitive.{Primitive}
-use Rattle.records.specs.declared.Primitive.the-variants.{Identity, Pop, Dup, Flip, Neg, Not, Sqrt, Add, Sub, Mul, Div, Pow, Exp, Sin, Cos, Reciprocal, Complex, Max, SinH, CosH, Exp2, Exp10, Log, Ln, Log2, Log10, Over, Root, Unlisted}
+use Rattle.formats.specs.declared.record.Primitive.{Primitive}
+use Rattle.formats.specs.declared.record.Primitive.the-variants.{Identity, Pop, Dup, Flip, Neg, Not, Sqrt, Add, Sub, Mul, Div, Pow, Exp, Sin, Cos, Reciprocal, Complex, Max, SinH, CosH, Exp2, Exp10, Log, Ln, Log2, Log10, Over, Root, Unlisted}
 
 -- of the one sum that it takes, where it takes one and leaves one; Identity leaves it as it is, and so here does any that is no such primitive
 abbrev pub ofOne : Primitive → Sum → Outcome

@@ -12,7 +12,7 @@ ghost use Rattle.trees.specs.Map.{sum};
 ghost use Rattle.terms.specs.Singles.{alone};
 ghost use Rattle.terms.specs.Adding.{negSum};
 ghost use Rattle.terms.specs.Product.{product};
-ghost use Rattle.sums.specs.Lies.{Lies, Held, Agrees};
+ghost use Rattle.sums.specs.Contract.Lies.{Lies, Held, Agrees};
 
 // The sum as it is.
 pub fn copied(

@@ -1,15 +1,15 @@
 // The derivative of a logarithm and of 1 over a sum: each is put into a sum in another book as 1 over a sum.
 use calculus::Ln;
 use cells::Entry;
+use formats::record::Primitive;
+use limits::Refusal;
 use monomials::Constant;
-use records::Primitive;
 use sums::Formed;
 use trees::Merge;
-use trees::Refusal;
 ghost use Prim.Native.Nat.{_≤_};
 ghost use Rattle.cells.specs.Book.{lent};
 ghost use Rattle.calculus.specs.Derivative.{deriveLog, deriveDiv};
-ghost use Rattle.calculus.specs.Into.{Ready, Into};
+ghost use Rattle.calculus.specs.Contract.Into.{Ready, Into};
 
 // A logarithm.
 pub fn derive_log(

@@ -1,7 +1,7 @@
 // Cells of five parallel slices moved as they are: a gap opened, a stretch of cells copied.
 ghost use Prim.Native.Nat.{_+_, _≤_};
 ghost use Rattle.cells.specs.Book.{lent, Room};
-ghost use Rattle.cells.specs.Moves.{Gap, Copied};
+ghost use Rattle.cells.specs.Contract.Moves.{Gap, Copied};
 
 pub fn open_gap(
     mk: &mut [u8],

@@ -9,16 +9,17 @@ use lib.Dec.{leb}
 use lib.ListN.{length, take, drop}
 use lib.Seq.{length-take-le}
 use borrow.Author.Tests.{le-leb, lt-leb}
-use Rattle.trees.specs.declared.Refusal.the-variants.{TooManyVariables, NoRoom}
+use Rattle.limits.specs.declared.Refusal.the-variants.{TooManyVariables, NoRoom}
 use Rattle.trees.specs.Sums.{Sum}
-use Rattle.arena.specs.Arena.{Arena}
-use Rattle.arena.specs.Stack.{Stacked, total, anyComplex}
-use Rattle.arena.specs.Blocks.{Outside}
+use Rattle.arena.specs.Contract.Arena.{Arena}
+use Rattle.arena.specs.Stack.{total, anyComplex}
+use Rattle.arena.specs.Contract.Stacked.{Stacked}
+use Rattle.arena.specs.Contract.Blocks.{Outside}
 use Rattle.arena.proofs.Laws.{space-same}
 use Rattle.steps.specs.State.{State, Walked, went, stopped, withStack, takingIf, taking, lend}
-use Rattle.steps.specs.Agree.{Ready}
+use Rattle.steps.specs.Contract.Agree.{Ready}
 use Rattle.steps.specs.declared.AlgebraEnv.{AlgebraEnv}
-use Rattle.holds.specs.Begins.{Holds}
+use Rattle.holds.specs.Contract.Begins.{Holds}
 
 -- ---- sums
 

@@ -7,22 +7,23 @@ use mathlib.Core.List.{List, [], _++_}
 use lib.Dec.{leb}
 use lib.ListN.{length, take, drop}
 use lib.Seq.{length-take-le}
-use Rattle.trees.specs.declared.Refusal.{Refusal}
-use Rattle.trees.specs.declared.Refusal.the-variants.{TooManyVariables, NoRoom}
+use Rattle.limits.specs.declared.Refusal.{Refusal}
+use Rattle.limits.specs.declared.Refusal.the-variants.{TooManyVariables, NoRoom}
 use Rattle.trees.specs.Sums.{Sum}
-use Rattle.arena.specs.Arena.{Arena, slot, Space}
-use Rattle.arena.specs.Stack.{Stacked, Sized, total, sizesOf, deep}
-use Rattle.arena.specs.Blocks.{Raised, Sunk}
+use Rattle.arena.specs.Contract.Arena.{Arena, slot, Space}
+use Rattle.arena.specs.Stack.{total}
+use Rattle.arena.specs.Contract.Stacked.{Stacked, Sized, sizesOf, deep}
+use Rattle.arena.specs.Contract.Blocks.{Raised, Sunk}
 use Rattle.arena.specs.declared.Deep.{Deep}
 use Rattle.arena.specs.declared.Deep.the-variants.{From, Short}
 use Rattle.arena.proofs.Laws.{space-less, space-same, outside-refl, outside-trans, outside-wider, stacked-none, stacked-total, stacked-le, stacked-sized, stacked-moved, stacked-join, stacked-above, stacked-raised, stacked-sunk, deep-from, deep-few}
 use Rattle.steps.specs.State.{State, Walked, went, stopped, andThen, withStack, taking, lend}
-use Rattle.steps.specs.Agree.{Stands, Ready, Agree, Does}
+use Rattle.steps.specs.Contract.Agree.{Stands, Ready, Agree, Does}
 use Rattle.steps.specs.declared.AlgebraEnv.{AlgebraEnv}
 use Rattle.steps.specs.declared.Ran.{Ran}
 use Rattle.steps.specs.declared.Ran.the-variants.{Went, Stopped}
 use Rattle.holds.specs.Holding.{deepest, holding, dropping, copying}
-use Rattle.holds.specs.Begins.{Holds, BegunAs, Begins, upTo, CopiesBelow, PutsBack}
+use Rattle.holds.specs.Contract.Begins.{Holds, BegunAs, Begins, upTo, CopiesBelow, PutsBack}
 use Rattle.holds.specs.declared.Begun.{Begun}
 use Rattle.holds.specs.declared.Begun.the-variants.{Held, Halted}
 use Rattle.holds.proofs.Laws.{total-append, stacked-at, taking-enough, taking-short, lend-fits, lend-full, holds-count, ready-held}

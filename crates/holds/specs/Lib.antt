@@ -1,3 +1,3 @@
 -- The root of holds' definitions.
 pub mod Holding
-pub mod Begins
+pub mod Contract

@@ -1,16 +1,16 @@
 // What modifiers take off the stack and hold, with the laws of that. The stack lies in the arena from 0 on; from v on lies what is held.
 use arena::Deep;
+use limits::Refusal;
 use steps::AlgebraEnv;
-use trees::Refusal;
 ghost use mathlib.Core.Path.{_≡_};
 ghost use Prim.Native.Nat.{_+_, _-_, _≤_};
 ghost use lib.Dec.{leb};
-ghost use Rattle.trees.specs.declared.Refusal.the-variants.{TooManyVariables};
-ghost use Rattle.arena.specs.Arena.{arena};
+ghost use Rattle.limits.specs.declared.Refusal.the-variants.{TooManyVariables};
+ghost use Rattle.arena.specs.Contract.Arena.{arena};
 ghost use Rattle.steps.specs.State.{taking};
-ghost use Rattle.steps.specs.Agree.{Ready};
+ghost use Rattle.steps.specs.Contract.Agree.{Ready};
 ghost use Rattle.holds.specs.Holding.{dropping, copying};
-ghost use Rattle.holds.specs.Begins.{Begins, CopiesBelow};
+ghost use Rattle.holds.specs.Contract.Begins.{Begins, CopiesBelow};
 ghost use Rattle.holds.specs.declared.Begun.the-variants.{Halted};
 
 // The state in which a body begins, with how many cells are held for its modifier; or a refusal.

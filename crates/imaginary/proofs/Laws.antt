@@ -7,21 +7,21 @@ use lib.Ieee.{ofBits}
 use Rattle.complex.specs.declared.Complex.{Complex}
 use Rattle.complex.specs.Arith.{allFinite, imaginary}
 use Rattle.cells.specs.Book.{Book}
-use Rattle.cells.specs.Moves.{Copied}
-use Rattle.trees.specs.declared.Refusal.{Refusal}
+use Rattle.cells.specs.Contract.Moves.{Copied}
+use Rattle.limits.specs.declared.Refusal.{Refusal}
 use Rattle.trees.specs.Sums.{Sum}
 use Rattle.trees.specs.Map.{Outcome, sum, refused, andThenSum, Found, at as there, absent}
 use Rattle.terms.specs.Singles.{constant}
 use Rattle.terms.specs.Product.{product}
 use Rattle.sums.specs.declared.Formed.{Formed}
 use Rattle.sums.specs.declared.Formed.the-variants.{Done}
-use Rattle.sums.specs.Lies.{Lies, Agrees}
+use Rattle.sums.specs.Contract.Lies.{Lies, Agrees}
 use Rattle.sums.proofs.Walk.{lies-above}
 use Rattle.factors.proofs.Lying.{agreed-done}
 use Rattle.monomials.specs.declared.Constant.the-variants.{Is, Other}
-use Rattle.monomials.specs.Reads.{constantOf}
+use Rattle.monomials.specs.Contract.Reads.{constantOf}
 use Rattle.adds.proofs.Lying.{copied-kept}
-use Rattle.primitives.specs.Beside.{Beside}
+use Rattle.primitives.specs.Contract.Beside.{Beside}
 
 -- i is finite
 pub imaginary-finite : T (allFinite imaginary)

@@ -13,7 +13,7 @@ ghost use Rattle.terms.specs.Singles.{constant};
 ghost use Rattle.terms.specs.Adding.{addSums};
 ghost use Rattle.terms.specs.Product.{product};
 ghost use Rattle.terms.specs.Power.{complexSum};
-ghost use Rattle.sums.specs.Lies.{Lies, Held, Agrees};
+ghost use Rattle.sums.specs.Contract.Lies.{Lies, Held, Agrees};
 
 // The sum of n cells from i on, plus that of m cells from j on times i, by a product and a sum.
 fn add_times_i(

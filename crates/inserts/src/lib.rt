@@ -2,7 +2,7 @@
 use cells::Entry;
 ghost use Prim.Native.Nat.{_+_, _≤_};
 ghost use Rattle.cells.specs.Book.{lent, Room, Plain};
-ghost use Rattle.cells.specs.Moves.{Inserted};
+ghost use Rattle.cells.specs.Contract.Moves.{Inserted};
 
 // Puts x and its inside in at k, before the entries up to e.
 pub fn insert(

@@ -13,25 +13,25 @@ use Rattle.complex.specs.declared.Complex.{Complex}
 use Rattle.complex.specs.Arith as complex
 use Rattle.cells.specs.declared.Entry.{Entry}
 use Rattle.cells.specs.Book.{Book, book}
-use Rattle.cells.specs.Moves.{SameRoom, Kept}
+use Rattle.cells.specs.Contract.Moves.{SameRoom, Kept}
 use Rattle.cells.proofs.Laws.{same-room-refl}
 use Rattle.trees.specs.declared.Merge.the-variants.{Store}
-use Rattle.trees.specs.declared.Refusal.the-variants.{TooComplex}
+use Rattle.limits.specs.declared.Refusal.the-variants.{TooComplex}
 use Rattle.trees.specs.Kinds as kinds
 use Rattle.trees.specs.Sums.{Sum, none, size, entry}
 use Rattle.trees.specs.Same.{sameSum}
 use Rattle.trees.specs.Map.{unless, formed}
 use Rattle.sums.specs.declared.Formed.{Formed}
 use Rattle.sums.specs.declared.Formed.the-variants.{Refused}
-use Rattle.sums.specs.Lies.{At, Lies, Agrees}
-use Rattle.sums.specs.Heads.{GoodHead}
+use Rattle.sums.specs.Contract.Lies.{At, Lies, Agrees}
+use Rattle.sums.specs.Contract.Heads.{GoodHead}
 use Rattle.sums.proofs.Walk.{lies-none}
 use Rattle.terms.proofs.Steps.{differ}
-use Rattle.calculus.specs.Into.{Into, turnedKind}
+use Rattle.calculus.specs.Contract.Into.{Into, turnedKind}
 use Rattle.calculus.specs.Integral.{x, stored, integrateX, integrateBy, integrateInto}
 use Rattle.calculus.proofs.Good.{x-is-good}
 use Rattle.calculus.proofs.Into.{into-as}
-use Rattle.integrals.specs.Turned.{turnedCoef}
+use Rattle.integrals.specs.Contract.Turned.{turnedCoef}
 
 -- ---- x, as it lies in a book of one cell
 

@@ -1,2 +1,2 @@
 -- The root of integrals' definitions.
-pub mod Turned
+pub mod Contract

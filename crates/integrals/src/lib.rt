@@ -1,23 +1,23 @@
 // The integral of a sum, one outermost entry a step. The sum lies in one book, what comes of it is formed in another.
 use cells::Entry;
 use complex::Complex;
+use limits::Refusal;
 use sums::Formed;
 use trees::Merge;
-use trees::Refusal;
 ghost use Prim.Native.Nat.{_+_, _≤_};
 ghost use mathlib.Core.Path.{_≡_};
 ghost use mathlib.Core.Bool.{false};
 ghost use lib.Dec.{eqb};
 ghost use Rattle.cells.specs.Book.{lent, Room};
-ghost use Rattle.cells.specs.Moves.{SameRoom};
+ghost use Rattle.cells.specs.Contract.Moves.{SameRoom};
 ghost use Rattle.trees.specs.Kinds.{X, hasNumber};
 ghost use Rattle.trees.specs.Sums.{Sum, entry};
 ghost use Rattle.trees.specs.Same.{sameSum};
-ghost use Rattle.sums.specs.Lies.{Lies, Held, Agrees};
-ghost use Rattle.sums.specs.Heads.{GoodHead};
-ghost use Rattle.calculus.specs.Into.{Ready, Into};
+ghost use Rattle.sums.specs.Contract.Lies.{Lies, Held, Agrees};
+ghost use Rattle.sums.specs.Contract.Heads.{GoodHead};
+ghost use Rattle.calculus.specs.Contract.Into.{Ready, Into};
 ghost use Rattle.calculus.specs.Integral.{x, stored, integrateX, integrateBy, integrateInto, integrate};
-ghost use Rattle.integrals.specs.Turned.{turnedCoef};
+ghost use Rattle.integrals.specs.Contract.Turned.{turnedCoef};
 
 fn wide(x: u8) -> usize
     ensures { λ r. ⌜ r ≡ x ⌝ }

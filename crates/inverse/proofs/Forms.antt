@@ -6,12 +6,12 @@ use Rattle.complex.specs.declared.Complex.{Complex}
 use Rattle.complex.specs.Arith as complex
 use Rattle.numbers.specs.Signs.{one64}
 use lib.Ieee.{Float, binary64, eq, neg, ofBits}
-use Rattle.trees.specs.declared.Refusal.the-variants.{TooComplex, NeedsMath}
-use Rattle.records.specs.declared.Primitive.the-variants as prim
-use Rattle.records.specs.Tree.{end}
+use Rattle.limits.specs.declared.Refusal.the-variants.{TooComplex, NeedsMath}
+use Rattle.formats.specs.declared.record.Primitive.the-variants as prim
+use Rattle.formats.specs.Tree.{end}
 use Rattle.drafts.specs.Writing.{refused}
 use Rattle.inverse.specs.Inverse.{Word, num, act, spell, half64, two64, minusFour64, minusOne64, lessConstant, overFactor, unpower, isInt, ofPower, simpleQuadratic, root, larger, fullQuadratic, linear, ofConstant, ofQuadratic}
-use Rattle.inverse.specs.Steps.{byOthers}
+use Rattle.inverse.specs.Contract.Steps.{byOthers}
 use Rattle.inverse.specs.declared.Others.{Others}
 use Rattle.inverse.specs.declared.Others.the-variants.{Nothing, Power, TooMuch}
 

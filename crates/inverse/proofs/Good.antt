@@ -12,18 +12,18 @@ use Rattle.numbers.specs.Signs.{zero64, one64}
 use Rattle.numbers.specs.Ops.{_⊗_}
 use Rattle.complex.specs.declared.Complex.{Complex}
 use Rattle.complex.specs.Arith as complex
-use Rattle.trees.specs.declared.Refusal.{Refusal}
-use Rattle.trees.specs.declared.Refusal.the-variants.{TooComplex, NeedsMath}
+use Rattle.limits.specs.declared.Refusal.{Refusal}
+use Rattle.limits.specs.declared.Refusal.the-variants.{TooComplex, NeedsMath}
 use Rattle.trees.specs.Kinds as kinds
 use Rattle.trees.specs.Sums.{Sum, none, and}
 use Rattle.trees.specs.Good as good
 use Rattle.trees.proofs.Keeps.{Fits}
 use Rattle.terms.proofs.Goodness.{fits-times, fits-bits}
-use Rattle.records.specs.declared.Primitive.{Primitive}
-use Rattle.records.specs.declared.Verdict.the-variants.{Good}
-use Rattle.records.specs.declared.Primitive.the-variants as prim
-use Rattle.records.specs.Tree.{Nodes, end, encode}
-use Rattle.records.specs.Rules.{verdict}
+use Rattle.formats.specs.declared.record.Primitive.{Primitive}
+use Rattle.formats.specs.declared.record.Verdict.the-variants.{Good}
+use Rattle.formats.specs.declared.record.Primitive.the-variants as prim
+use Rattle.formats.specs.Tree.{Nodes, end, encode}
+use Rattle.formats.specs.Rules.{verdict}
 use Rattle.drafts.specs.Writing.{does, append, one, Written, wrote, refused, andThen, numberRecord, canWrite, ifCan}
 use Rattle.drafts.proofs.Fine.{Fine, fine-more, fine-end, fine-say, fine-good, plain-does, plain-number}
 use Rattle.inverse.specs.Inverse.{Word, num, act, spell, half64, two64, minusFour64, minusOne64, coefOf, low, others, lessConstant, overFactor, unpower, isInt, simpleQuadratic, fullQuadratic, linear, ofQuadratic, ofOthers, inverse}

@@ -12,14 +12,14 @@ use Rattle.complex.specs.Arith as complex
 use Rattle.cells.specs.declared.Entry.{Entry}
 use Rattle.cells.specs.Book.{Book}
 use Rattle.cells.specs.Book as book
-use Rattle.trees.specs.declared.Refusal.the-variants.{TooComplex}
+use Rattle.limits.specs.declared.Refusal.the-variants.{TooComplex}
 use Rattle.trees.specs.Kinds as kinds
 use Rattle.trees.specs.Sums.{Sum, none, and}
-use Rattle.sums.specs.Lies.{Lies, Held}
+use Rattle.sums.specs.Contract.Lies.{Lies, Held}
 use Rattle.sums.proofs.Walk.{Next, next, lies-none}
 use Rattle.drafts.specs.Writing.{refused}
 use Rattle.inverse.specs.Inverse.{coefOf, low, others, ofPower, ofOthers, inverse, two64}
-use Rattle.inverse.specs.Steps.{oneMore, nextOther, othersOf, byOthers}
+use Rattle.inverse.specs.Contract.Steps.{oneMore, nextOther, othersOf, byOthers}
 use Rattle.inverse.specs.declared.Others.{Others}
 use Rattle.inverse.specs.declared.Others.the-variants.{Nothing, Power, TooMuch}
 

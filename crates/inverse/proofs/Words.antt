@@ -6,19 +6,19 @@ use Prim.Native.Nat.{ℕ, _+_, _≤_}
 use native.Mathlib.Omega.{arith}
 use lib.ListN.{length}
 use Rattle.complex.specs.declared.Complex.{Complex}
-use Rattle.trees.specs.declared.Refusal.{Refusal}
-use Rattle.records.specs.declared.Primitive.{Primitive}
-use Rattle.records.specs.Tree.{Nodes, end}
+use Rattle.limits.specs.declared.Refusal.{Refusal}
+use Rattle.formats.specs.declared.record.Primitive.{Primitive}
+use Rattle.formats.specs.Tree.{Nodes, end}
 use Rattle.drafts.specs.declared.Draft.{Draft}
 use Rattle.drafts.specs.declared.Said.{Said}
 use Rattle.drafts.specs.declared.Said.the-variants as said
 use Rattle.drafts.specs.Writing.{does, append, one, Written, wrote, refused, andThen, number}
-use Rattle.drafts.specs.Lying.{SaidAs}
-use Rattle.drafts.specs.Growing.{Ready, Drawn, Spoken}
+use Rattle.drafts.specs.Contract.Lying.{SaidAs}
+use Rattle.drafts.specs.Contract.Growing.{Ready, Drawn, Spoken}
 use Rattle.drafts.proofs.Lying.{fresh}
 use Rattle.drafts.proofs.Growing.{ready-fresh, ready-less, ready-drawn, ready-spoken}
 use Rattle.inverse.specs.Inverse.{Word, num, act, spell}
-use Rattle.inverse.specs.Steps.{ReadyTo, Spelt, Told}
+use Rattle.inverse.specs.Contract.Steps.{ReadyTo, Spelt, Told}
 
 -- ---- what comes of writing, and what follows
 

@@ -8,12 +8,12 @@ use Rattle.numbers.specs.Numbers.{isWhole}
 use Rattle.numbers.specs.Signs.{zero64, one64}
 use Rattle.complex.specs.declared.Complex.{Complex}
 use Rattle.complex.specs.Arith as complex
-use Rattle.trees.specs.declared.Refusal.the-variants.{TooComplex, NeedsMath}
+use Rattle.limits.specs.declared.Refusal.the-variants.{TooComplex, NeedsMath}
 use Rattle.trees.specs.Kinds as kinds
 use Rattle.trees.specs.Sums.{Sum, none, and}
-use Rattle.records.specs.declared.Primitive.{Primitive}
-use Rattle.records.specs.declared.Primitive.the-variants as prim
-use Rattle.records.specs.Tree.{Nodes, end}
+use Rattle.formats.specs.declared.record.Primitive.{Primitive}
+use Rattle.formats.specs.declared.record.Primitive.the-variants as prim
+use Rattle.formats.specs.Tree.{Nodes, end}
 use Rattle.drafts.specs.Writing.{does, append, one, Written, wrote, refused, andThen, number}
 
 -- ---- lists of numbers and primitives

@@ -1,3 +1,3 @@
 -- The root of inverse's definitions.
 pub mod Inverse
-pub mod Steps
+pub mod Contract

@@ -4,8 +4,8 @@ use complex::Complex;
 use drafts::Draft;
 use drafts::Said;
 use drafts::Wrote;
-use records::Primitive;
-use trees::Refusal;
+use formats::record::Primitive;
+use limits::Refusal;
 ghost use mathlib.Core.Path.{_≡_};
 ghost use mathlib.Core.Bool.{Bool};
 ghost use mathlib.Core.List.{[], _∷_};
@@ -15,11 +15,11 @@ ghost use Rattle.numbers.specs.Signs.{one64};
 ghost use Rattle.complex.specs.Arith.{realOver};
 ghost use Rattle.cells.specs.Book.{lent};
 ghost use Rattle.trees.specs.Sums.{Sum};
-ghost use Rattle.sums.specs.Lies.{Lies, Held};
-ghost use Rattle.records.specs.Tree.{end};
-ghost use Rattle.drafts.specs.Lying.{Answered};
+ghost use Rattle.sums.specs.Contract.Lies.{Lies, Held};
+ghost use Rattle.formats.specs.Tree.{end};
+ghost use Rattle.drafts.specs.Contract.Lying.{Answered};
 ghost use Rattle.inverse.specs.Inverse.{num, act, spell, coefOf, low, others, lessConstant, overFactor, unpower, isInt, ofPower, simpleQuadratic, root, larger, fullQuadratic, linear, ofConstant, ofQuadratic, inverse};
-ghost use Rattle.inverse.specs.Steps.{nextOther, othersOf, byOthers, ReadyTo, Spelt, Told};
+ghost use Rattle.inverse.specs.Contract.Steps.{nextOther, othersOf, byOthers, ReadyTo, Spelt, Told};
 
 // What a sum has besides x to the 0, 1 and 2: nothing, one power of x with its coefficient, or too much to be undone.
 pub enum Others {

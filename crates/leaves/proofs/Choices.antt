@@ -7,25 +7,25 @@ use mathlib.Core.List.{List, [], _∷_}
 use lib.Dec.{eqb}
 use types.Run.{OneOf, miss}
 use denote.Enum.Declared.{tagOf}
-use Rattle.trees.specs.declared.Refusal.{Refusal}
-use Rattle.trees.specs.declared.Refusal.the-variants.{NotSupported}
-use Rattle.records.specs.declared.Primitive.{Primitive}
-use Rattle.records.specs.declared.Record.{Record}
-use Rattle.records.specs.declared.Kind.{Kind}
-use Rattle.records.specs.declared.Kind.the-variants as kind
-use Rattle.records.specs.declared.KindFound.{KindFound}
-use Rattle.records.specs.declared.KindFound.the-variants.{Known, Unknown}
-use Rattle.records.specs.Names.{primitiveNo, primitiveOf}
-use Rattle.records.specs.Table.{row}
-use Rattle.records.proofs.Kind.{the-type}
-use Rattle.arena.specs.Arena.{Arena}
+use Rattle.limits.specs.declared.Refusal.{Refusal}
+use Rattle.limits.specs.declared.Refusal.the-variants.{NotSupported}
+use Rattle.formats.specs.declared.record.Primitive.{Primitive}
+use Rattle.formats.specs.declared.record.Record.{Record}
+use Rattle.formats.specs.declared.record.Kind.{Kind}
+use Rattle.formats.specs.declared.record.Kind.the-variants as kind
+use Rattle.formats.specs.declared.record.KindFound.{KindFound}
+use Rattle.formats.specs.declared.record.KindFound.the-variants.{Known, Unknown}
+use Rattle.formats.specs.Names.{primitiveNo, primitiveOf}
+use Rattle.formats.specs.Table.{row}
+use Rattle.formats.proofs.record.Kind.{the-type}
+use Rattle.arena.specs.Contract.Arena.{Arena}
 use Rattle.steps.specs.declared.AlgebraEnv.{AlgebraEnv}
 use Rattle.steps.specs.declared.Ran.{Ran}
 use Rattle.steps.specs.State.{went, andThen, stop, taking, push}
 use Rattle.steps.specs.Steps.{constantOf, flagged, counted, leaves, isComplexPrimitive, primitive, leafStep}
-use Rattle.steps.specs.Agree.{Does}
-use Rattle.steps.specs.Parts.{finished}
-use Rattle.leaves.specs.Parts.{whyNot}
+use Rattle.steps.specs.Contract.Agree.{Does}
+use Rattle.steps.specs.Contract.Parts.{finished}
+use Rattle.leaves.specs.Contract.Parts.{whyNot}
 use Rattle.steps.proofs.Laws.{does-as, does-finished, taking-some}
 use Rattle.tops.proofs.Table.{rows}
 

@@ -1,2 +1,2 @@
 -- The root of leaves' definitions.
-pub mod Parts
+pub mod Contract

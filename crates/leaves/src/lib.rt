@@ -1,21 +1,21 @@
 // Primitives, and every record that has no inside, as steps of reading. The stack of sums lies in the arena from its first slot on; from v on
 // lies what is held.
-use records::Kind;
-use records::KindFound;
-use records::Primitive;
-use records::Record;
+use formats::record::Kind;
+use formats::record::KindFound;
+use formats::record::Primitive;
+use formats::record::Record;
+use limits::Refusal;
 use steps::AlgebraEnv;
 use steps::Ran;
-use trees::Refusal;
 ghost use mathlib.Core.Path.{_≡_};
 ghost use Prim.Native.Nat.{_-_};
-ghost use Rattle.records.specs.Names.{kindOf, primitiveOf};
-ghost use Rattle.records.specs.Table.{row};
-ghost use Rattle.arena.specs.Arena.{arena};
+ghost use Rattle.formats.specs.Names.{kindOf, primitiveOf};
+ghost use Rattle.formats.specs.Table.{row};
+ghost use Rattle.arena.specs.Contract.Arena.{arena};
 ghost use Rattle.steps.specs.State.{taking};
 ghost use Rattle.steps.specs.Steps.{leaves, primitive, leafStep};
-ghost use Rattle.steps.specs.Agree.{Ready, Does};
-ghost use Rattle.leaves.specs.Parts.{whyNot};
+ghost use Rattle.steps.specs.Contract.Agree.{Ready, Does};
+ghost use Rattle.leaves.specs.Contract.Parts.{whyNot};
 
 // A primitive, but for what is counted of it. One that is not read takes nothing.
 fn apply(
@@ -33,7 +33,7 @@ fn apply(
     requires { ⌜ Ready (arena ak ai an ar am az) v env ⌝ }
     ensures { λ r. ⌜ Does (arena (ak .entry) (ai .entry) (an .entry) (ar .entry) (am .entry) (az .entry)) (arena (ak .exit) (ai .exit) (an .exit) (ar .exit) (am .exit) (az .exit)) v env r (λ st. taking at (row (primitiveOf code) .taken) st (leaves at (1024 - v) (primitiveOf code))) ⌝ }
 {
-    let taken = tables::taken(code);
+    let taken = formats::table::taken(code);
     if taken == 0 {
         return steps::halt(Refusal::NotSupported, at, ak, ai, an, ar, am, az, env);
     }
@@ -59,9 +59,10 @@ pub fn primitive(
     requires { ⌜ Ready (arena ak ai an ar am az) v env ⌝ }
     ensures { λ r. ⌜ Does (arena (ak .entry) (ai .entry) (an .entry) (ar .entry) (am .entry) (az .entry)) (arena (ak .exit) (ai .exit) (an .exit) (ar .exit) (am .exit) (az .exit)) v env r (λ st. primitive at (primitiveOf code) (1024 - v) st) ⌝ }
 {
-    let p = records::primitive_of(code);
-    let complex = records::primitive_no(p) == records::primitive_no(Primitive::Complex);
-    let handled = tables::handled(code);
+    let p = formats::record::primitive_of(code);
+    let complex = formats::record::primitive_no(p)
+        == formats::record::primitive_no(Primitive::Complex);
+    let handled = formats::table::handled(code);
     let r = apply(code, at, ak, ai, an, ar, am, az, v, env);
     steps::finish(r, handled, complex)
 }
@@ -132,7 +133,7 @@ pub fn leaf(
     requires { ⌜ Ready (arena ak ai an ar am az) v env ⌝ }
     ensures { λ e. ⌜ Does (arena (ak .entry) (ai .entry) (an .entry) (ar .entry) (am .entry) (az .entry)) (arena (ak .exit) (ai .exit) (an .exit) (ar .exit) (am .exit) (az .exit)) v env e (λ st. leafStep at r (kindOf (r .kind)) (1024 - v) st) ⌝ }
 {
-    match records::kind_of(r.kind) {
+    match formats::record::kind_of(r.kind) {
         KindFound::Known(k) => leaf_of(k, r, at, ak, ai, an, ar, am, az, v, env),
         KindFound::Unknown => steps::halt(Refusal::NotSupported, at, ak, ai, an, ar, am, az, env),
     }

@@ -1,20 +1,20 @@
 // What is held is lent, as copies on the stack, and put back. The stack lies in the arena from 0 on; from v on lies what is held.
 use arena::Deep;
 use holds::Begun;
+use limits::Refusal;
 use steps::AlgebraEnv;
 use steps::Ran;
-use trees::Refusal;
 ghost use mathlib.Core.Path.{_≡_};
 ghost use mathlib.Core.List.{List};
 ghost use Prim.Native.Nat.{_+_, _-_, _≤_};
 ghost use lib.ListN.{length};
 ghost use Rattle.trees.specs.Sums.{Sum};
-ghost use Rattle.arena.specs.Arena.{arena};
-ghost use Rattle.arena.specs.Stack.{Stacked};
+ghost use Rattle.arena.specs.Contract.Arena.{arena};
+ghost use Rattle.arena.specs.Contract.Stacked.{Stacked};
 ghost use Rattle.steps.specs.State.{lend};
-ghost use Rattle.steps.specs.Agree.{Ready, Does};
+ghost use Rattle.steps.specs.Contract.Agree.{Ready, Does};
 ghost use Rattle.holds.specs.Holding.{deepest, holding};
-ghost use Rattle.holds.specs.Begins.{Begins, PutsBack};
+ghost use Rattle.holds.specs.Contract.Begins.{Begins, PutsBack};
 
 // Sums of m cells, k of them, are held from v on: copies of the deepest c are put on the stack.
 pub fn lend_deepest(

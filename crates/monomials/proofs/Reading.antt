@@ -16,7 +16,7 @@ use Rattle.trees.specs.Good.{Good, GoodEntry}
 use Rattle.trees.specs.Map as map
 use Rattle.terms.specs.Singles.{isOne, asConstant, isX, isComplex}
 use Rattle.terms.proofs.Agree.{x-size, complexEntry, anyComplex, complex-flat}
-use Rattle.sums.specs.Lies.{At, Lies}
+use Rattle.sums.specs.Contract.Lies.{At, Lies}
 use Rattle.sums.proofs.Walk.{next, empty}
 
 -- ---- a sum of one cell, and any other

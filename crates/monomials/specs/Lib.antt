@@ -1,2 +1,2 @@
 -- The root of monomials' definitions.
-pub mod Reads
+pub mod Contract

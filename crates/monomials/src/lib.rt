@@ -12,9 +12,9 @@ ghost use Rattle.trees.specs.Kinds.{X};
 ghost use Rattle.trees.specs.Sums.{Sum, none};
 ghost use Rattle.trees.specs.Map.{formed};
 ghost use Rattle.terms.specs.Singles.{alone, isOne, asConstant, isX, isComplex};
-ghost use Rattle.sums.specs.Lies.{Lies, Held, Agrees};
-ghost use Rattle.sums.specs.Heads.{GoodHead};
-ghost use Rattle.monomials.specs.Reads.{constantOf};
+ghost use Rattle.sums.specs.Contract.Lies.{Lies, Held, Agrees};
+ghost use Rattle.sums.specs.Contract.Heads.{GoodHead};
+ghost use Rattle.monomials.specs.Contract.Reads.{constantOf};
 
 // The coefficient of a sum that is a constant.
 pub enum Constant {

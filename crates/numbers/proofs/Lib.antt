@@ -1,6 +1,7 @@
 -- The root of numbers' laws.
 pub mod Bools
 pub mod Values
+pub mod Bits
 pub mod Zeros
 pub mod Units
 pub mod Finite

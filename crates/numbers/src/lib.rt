@@ -1,5 +1,6 @@
 // What the algebra asks of binary64 numbers, and the constants that it uses.
 ghost use mathlib.Core.Path.{_≡_};
+ghost use lib.Ieee.{binary64, ofBits};
 ghost use lib.Ieee.Scale.{finite};
 ghost use Rattle.numbers.specs.Numbers.{isWhole, smallWhole, belowEpsilon};
 ghost use Rattle.numbers.specs.Order.{cmpNum, andThen};
@@ -51,6 +52,13 @@ pub fn is_finite(x: f64) -> bool
     ensures { λ r. ⌜ r ≡ finite x ⌝ }
 {
     x - x == 0.0
+}
+
+// No NaN and no infinity: the exponent's bits are not all ones.
+pub fn finite_bits(b: u64) -> bool
+    ensures { λ r. ⌜ r ≡ finite (ofBits binary64 b) ⌝ }
+{
+    b % 9223372036854775808 / 4503599627370496 != 2047
 }
 
 // A whole number by value. From 2^52 up every finite number is one. Below that, adding 2^52 rounds to a whole number, and

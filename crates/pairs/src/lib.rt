@@ -1,12 +1,12 @@
 // What a primitive forms of the two sums that it takes. They lie in one book, the result is formed from the first cell of another on, which
 // has room for 64.
-use records::Primitive;
+use formats::record::Primitive;
 use sums::Formed;
 use terms::Change;
 ghost use Prim.Native.Nat.{_+_, _≤_};
 ghost use Rattle.cells.specs.Book.{lent, Room};
 ghost use Rattle.trees.specs.Sums.{Sum};
-ghost use Rattle.sums.specs.Lies.{Lies, Held, Agrees};
+ghost use Rattle.sums.specs.Contract.Lies.{Lies, Held, Agrees};
 ghost use Rattle.forms.specs.Forms.{ofTwo};
 
 // What the primitive forms of the sum of n cells from i on, and of that of m cells from j on, which was on top of it.

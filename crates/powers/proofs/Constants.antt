@@ -14,7 +14,7 @@ use Rattle.numbers.proofs.Bools.{T-of}
 use Rattle.complex.specs.declared.Complex.{Complex}
 use Rattle.complex.specs.Arith as complex
 use Rattle.cells.specs.Book.{Book, Room, Plain}
-use Rattle.cells.specs.Moves.{Put}
+use Rattle.cells.specs.Contract.Moves.{Put}
 use Rattle.cells.proofs.Laws.{fresh, room-fresh, room-same, put-at}
 use Rattle.trees.specs.Kinds.{X, Log}
 use Rattle.trees.specs.Sums.{Sum, none, and, size, entry}
@@ -22,11 +22,11 @@ use Rattle.trees.specs.Map.{at}
 use Rattle.terms.specs.Singles.{alone, constant, asConstant, isX}
 use Rattle.terms.specs.Power.{power, isEuler, pow, log}
 use Rattle.terms.proofs.Goodness.{good-constant}
-use Rattle.sums.specs.Lies.{At, Lies}
-use Rattle.monomials.specs.Reads.{constantOf}
+use Rattle.sums.specs.Contract.Lies.{At, Lies}
+use Rattle.monomials.specs.Contract.Reads.{constantOf}
 use Rattle.roots.proofs.Roots.{zero-is-finite}
 use Rattle.powers.specs.declared.Real.the-variants.{Is}
-use Rattle.powers.specs.Reals.{realOf}
+use Rattle.powers.specs.Contract.Reals.{realOf}
 use Rattle.powers.proofs.Reals.{pow-real, log-real}
 
 -- ---- what is read off a constant

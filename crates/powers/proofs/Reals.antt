@@ -14,7 +14,7 @@ use Rattle.numbers.specs.Signs.{zero64}
 use Rattle.numbers.proofs.Values.{bits-0}
 use Rattle.complex.specs.declared.Complex.{Complex}
 use Rattle.complex.specs.Arith as complex
-use Rattle.trees.specs.declared.Refusal.the-variants.{TooComplex, NeedsMath}
+use Rattle.limits.specs.declared.Refusal.the-variants.{TooComplex, NeedsMath}
 use Rattle.trees.specs.Kinds.{Log, Exp}
 use Rattle.trees.specs.Sums.{Sum, none, and, size, entry}
 use Rattle.trees.specs.Good.{Good}
@@ -22,12 +22,12 @@ use Rattle.trees.specs.Map.{Outcome, refused, Found, at, absent, unless}
 use Rattle.terms.specs.Singles.{isOne, alone, asConstant, isX}
 use Rattle.terms.specs.Power.{wholePower, rootable, unitCoefs, rooted, power, byReal, isEuler, pow, log}
 use Rattle.terms.proofs.Steps.{differ}
-use Rattle.sums.specs.Heads.{GoodHead}
+use Rattle.sums.specs.Contract.Heads.{GoodHead}
 use Rattle.monomials.specs.declared.Constant.{Constant}
 use Rattle.monomials.specs.declared.Constant.the-variants as constant
-use Rattle.monomials.specs.Reads.{constantOf}
+use Rattle.monomials.specs.Contract.Reads.{constantOf}
 use Rattle.powers.specs.declared.Real.the-variants.{Is, Other}
-use Rattle.powers.specs.Reals.{realOf, eulerIs}
+use Rattle.powers.specs.Contract.Reals.{realOf, eulerIs}
 
 -- ---- what is asked of a constant
 

@@ -1,2 +1,2 @@
 -- The root of powers' definitions.
-pub mod Reals
+pub mod Contract

@@ -2,9 +2,9 @@
 // for 64.
 use cells::Entry;
 use complex::Complex;
+use limits::Refusal;
 use monomials::Constant;
 use sums::Formed;
-use trees::Refusal;
 ghost use mathlib.Core.Path.{_≡_};
 ghost use mathlib.Core.Bool.{true};
 ghost use Prim.Native.Nat.{_+_, _≤_, _<_};
@@ -14,9 +14,9 @@ ghost use Rattle.cells.specs.Book.{lent, Room};
 ghost use Rattle.trees.specs.Sums.{Sum, entry};
 ghost use Rattle.terms.specs.Singles.{constant, alone};
 ghost use Rattle.terms.specs.Power.{power, pow, log};
-ghost use Rattle.sums.specs.Heads.{GoodHead};
-ghost use Rattle.sums.specs.Lies.{Lies, Held, Agrees};
-ghost use Rattle.powers.specs.Reals.{realOf, eulerIs};
+ghost use Rattle.sums.specs.Contract.Heads.{GoodHead};
+ghost use Rattle.sums.specs.Contract.Lies.{Lies, Held, Agrees};
+ghost use Rattle.powers.specs.Contract.Reals.{realOf, eulerIs};
 
 // The real number that a constant is, if it is one.
 pub enum Real {

@@ -11,15 +11,15 @@ use Rattle.complex.specs.declared.Complex.{Complex}
 use Rattle.complex.specs.Arith.{allFinite, one}
 use Rattle.cells.specs.declared.Entry.{Entry}
 use Rattle.cells.specs.Book.{Book, at, Room, Plain}
-use Rattle.cells.specs.Moves.{Put, Copied}
+use Rattle.cells.specs.Contract.Moves.{Put, Copied}
 use Rattle.cells.proofs.Laws.{Fitting, put-at, at-kept, room-less, room-same}
 use Rattle.trees.specs.Kinds.{X}
 use Rattle.trees.specs.Sums.{size, entry}
 use Rattle.terms.specs.Singles.{constant}
 use Rattle.terms.proofs.Goodness.{good-constant}
-use Rattle.sums.specs.Lies.{At, Lies}
+use Rattle.sums.specs.Contract.Lies.{At, Lies}
 use Rattle.adds.proofs.Lying.{lies-copied}
-use Rattle.primitives.specs.Beside.{Beside}
+use Rattle.primitives.specs.Contract.Beside.{Beside}
 
 -- the entry of a constant
 abbrev pub constant-entry : Complex → Entry

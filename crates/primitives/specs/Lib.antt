@@ -1,2 +1,2 @@
 -- The root of primitives' definitions.
-pub mod Beside
+pub mod Contract

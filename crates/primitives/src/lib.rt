@@ -10,8 +10,8 @@ ghost use Rattle.complex.specs.Arith.{allFinite};
 ghost use Rattle.cells.specs.Book.{lent, Room};
 ghost use Rattle.trees.specs.Sums.{Sum};
 ghost use Rattle.terms.specs.Power.{reciprocal, notSum};
-ghost use Rattle.sums.specs.Lies.{Lies, Held, Agrees};
-ghost use Rattle.primitives.specs.Beside.{Beside};
+ghost use Rattle.sums.specs.Contract.Lies.{Lies, Held, Agrees};
+ghost use Rattle.primitives.specs.Contract.Beside.{Beside};
 
 // The constant c in the first cell, and a copy of the sum of n cells from i on in those from the 64th on.
 pub fn beside(

@@ -1,13 +1,13 @@
 // The product of two sums: TooComplex where two of their terms have none, else each product of two terms put in.
+use limits::Refusal;
 use sums::Formed;
-use trees::Refusal;
 ghost use Prim.Native.Nat.{_+_};
 ghost use Rattle.cells.specs.Book.{lent};
-ghost use Rattle.cells.specs.Moves.{Kept};
+ghost use Rattle.cells.specs.Contract.Moves.{Kept};
 ghost use Rattle.trees.specs.Sums.{Sum};
 ghost use Rattle.terms.specs.Product.{product};
-ghost use Rattle.sums.specs.Lies.{Lies, Agrees};
-ghost use Rattle.factors.specs.Apart.{Operands};
+ghost use Rattle.sums.specs.Contract.Lies.{Lies, Agrees};
+ghost use Rattle.factors.specs.Contract.Apart.{Operands};
 
 // The product of the sums of n cells from i on and of m from j on, formed from p on, where there is room for 64.
 pub fn mul(

@@ -1,20 +1,20 @@
 // A term put into a sum: at a key that stands there its coefficient is merged, a new key goes in where it belongs; 15, 13 and 12.
 use cells::Entry;
 use complex::Complex;
+use limits::Refusal;
 use sums::Formed;
 use sums::Found;
 use trees::Merge;
-use trees::Refusal;
 ghost use mathlib.Core.Path.{_≡_};
 ghost use Prim.Native.Nat.{ℕ, _+_, _≤_};
 ghost use Rattle.cells.specs.Book.{Book, lent, Room};
-ghost use Rattle.cells.specs.Moves.{Kept};
+ghost use Rattle.cells.specs.Contract.Moves.{Kept};
 ghost use Rattle.trees.specs.Sums.{Sum};
 ghost use Rattle.trees.specs.Map.{merged, formed};
 ghost use Rattle.sums.specs.declared.Found.the-variants as Found;
-ghost use Rattle.sums.specs.Lies.{Lies, Held, Agrees};
-ghost use Rattle.sums.specs.Heads.{GoodHead};
-ghost use Rattle.sums.specs.Putting.{Putting};
+ghost use Rattle.sums.specs.Contract.Lies.{Lies, Held, Agrees};
+ghost use Rattle.sums.specs.Contract.Heads.{GoodHead};
+ghost use Rattle.sums.specs.Contract.Putting.{Putting};
 
 // What a key's coefficient becomes.
 pub fn merge(how: Merge, old: Complex, c: Complex) -> Complex

@@ -7,7 +7,7 @@ use Rattle.cells.specs.Book.{Book, at}
 use Rattle.trees.specs.Sums.{Sum}
 use Rattle.terms.specs.Quotient.{divable, allDivable}
 use Rattle.terms.proofs.Agree.{all-none, all-more, all-stop}
-use Rattle.sums.specs.Lies.{Lies}
+use Rattle.sums.specs.Contract.Lies.{Lies}
 use Rattle.sums.proofs.Walk.{next, lies-none}
 use Rattle.sums.proofs.Compare.{inner-more}
 

@@ -6,18 +6,18 @@ use borrow.Author.Tests.{ne-eqb}
 use Rattle.complex.specs.declared.Complex.{Complex}
 use Rattle.cells.specs.declared.Entry.{Entry}
 use Rattle.cells.specs.Book.{Book, at}
-use Rattle.trees.specs.declared.Refusal.the-variants.{TooComplex}
+use Rattle.limits.specs.declared.Refusal.the-variants.{TooComplex}
 use Rattle.trees.specs.Sums.{Sum, none, and, size, entry}
 use Rattle.trees.specs.Map as map
 use Rattle.trees.specs.Map.{unless, eachInto}
 use Rattle.terms.specs.Singles.{asConstant, single}
 use Rattle.terms.specs.Quotient.{allDivable, divTerm, divBySeveral, quotient}
 use Rattle.terms.proofs.Agree.{empty-size, quotient-one, quotient-several}
-use Rattle.sums.specs.Lies.{Lies}
+use Rattle.sums.specs.Contract.Lies.{Lies}
 use Rattle.sums.proofs.Walk.{next, lies-none}
 use Rattle.monomials.specs.declared.Constant.the-variants.{Is, Other}
-use Rattle.monomials.specs.Reads.{constantOf}
-use Rattle.divisors.specs.Dividing.{Divisor}
+use Rattle.monomials.specs.Contract.Reads.{constantOf}
+use Rattle.divisors.specs.Contract.Dividing.{Divisor}
 
 -- ---- what the code reads off a constant
 

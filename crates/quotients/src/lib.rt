@@ -1,9 +1,9 @@
 // The quotient of two sums. Operands lie in one book, the result is formed from the first cell of another on, which has room for 64.
 use cells::Entry;
 use complex::Complex;
+use limits::Refusal;
 use monomials::Constant;
 use sums::Formed;
-use trees::Refusal;
 ghost use mathlib.Core.Path.{_≡_};
 ghost use mathlib.Core.Bool.{cond};
 ghost use Prim.Native.Nat.{_+_, _≤_};
@@ -17,9 +17,9 @@ ghost use Rattle.trees.specs.Map.{at, eachInto};
 ghost use Rattle.terms.specs.Outcomes.{xByX};
 ghost use Rattle.terms.specs.Singles.{isOne, asConstant};
 ghost use Rattle.terms.specs.Quotient.{divable, allDivable, divTerm, divBySeveral, quotient};
-ghost use Rattle.sums.specs.Lies.{Lies, Held, Agrees};
-ghost use Rattle.adds.specs.Work.{Work};
-ghost use Rattle.divisors.specs.Dividing.{Divisor};
+ghost use Rattle.sums.specs.Contract.Lies.{Lies, Held, Agrees};
+ghost use Rattle.adds.specs.Contract.Work.{Work};
+ghost use Rattle.divisors.specs.Contract.Dividing.{Divisor};
 
 // Whether the term x, whose inside lies from i on, has a quotient by the term y, whose inside lies from j on.
 fn can_div_term(

@@ -4,9 +4,9 @@ use native.Mathlib.Omega.{arith}
 use mathlib.Core.Path.{_≡_, refl, sym, ap, _∙_}
 use mathlib.Core.Logic.{_⊎_, inl, inr}
 use Rattle.cells.specs.Book.{Book, Room}
-use Rattle.cells.specs.Moves.{Kept, Copied}
+use Rattle.cells.specs.Contract.Moves.{Kept, Copied}
 use Rattle.cells.proofs.Laws.{room-less, room-same, fresh, room-fresh}
-use Rattle.trees.specs.declared.Refusal.{Refusal}
+use Rattle.limits.specs.declared.Refusal.{Refusal}
 use Rattle.trees.specs.Sums.{Sum}
 use Rattle.trees.specs.Map.{sum, refused}
 use Rattle.terms.specs.Product.{product}
@@ -14,10 +14,10 @@ use Rattle.terms.specs.Power.{raised}
 use Rattle.terms.proofs.Agree.{raised-none, raised-sum, raised-refused}
 use Rattle.sums.specs.declared.Formed.{Formed}
 use Rattle.sums.specs.declared.Formed.the-variants.{Done, Refused}
-use Rattle.sums.specs.Lies.{Lies, Held, Agrees}
-use Rattle.factors.specs.Apart.{Apart, Operands}
+use Rattle.sums.specs.Contract.Lies.{Lies, Held, Agrees}
+use Rattle.factors.specs.Contract.Apart.{Apart, Operands}
 use Rattle.factors.proofs.Lying.{lies-copied, lies-apart, agreed-done, agreed-refused, agree-done, agree-refused}
-use Rattle.raising.specs.Turns.{nextPlace}
+use Rattle.raising.specs.Contract.Turns.{nextPlace}
 
 -- the places
 pub data Turn : ℕ → Type 0 where

@@ -7,7 +7,7 @@ use Rattle.numbers.specs.Signs.{zero64}
 use Rattle.numbers.specs.declared.SmallWhole.the-variants as small
 use Rattle.numbers.proofs.Values.{bits-0}
 use Rattle.complex.specs.Arith as complex
-use Rattle.trees.specs.declared.Refusal.the-variants.{TooComplex, BigPower}
+use Rattle.limits.specs.declared.Refusal.the-variants.{TooComplex, BigPower}
 use Rattle.trees.specs.Kinds.{X}
 use Rattle.trees.specs.Sums.{Sum, none, size, levels}
 use Rattle.trees.specs.Map.{putIn, coefIn, formed, sum, refused}

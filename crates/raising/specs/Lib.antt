@@ -1,2 +1,2 @@
 -- The root of raising's definitions.
-pub mod Turns
+pub mod Contract

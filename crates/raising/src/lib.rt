@@ -1,16 +1,16 @@
 // Whole powers of sums. The base lies in one book, the result is formed from the first cell of another on, which has room for 64.
 use complex::Complex;
+use limits::Refusal;
 use numbers::SmallWhole;
 use sums::Formed;
-use trees::Refusal;
 ghost use mathlib.Core.Path.{_≡_};
 ghost use Prim.Native.Nat.{_+_, _≤_};
 ghost use Rattle.numbers.specs.Numbers.{smallWhole};
 ghost use Rattle.cells.specs.Book.{lent, Room};
 ghost use Rattle.trees.specs.Sums.{Sum};
 ghost use Rattle.terms.specs.Power.{raised, wholePower};
-ghost use Rattle.sums.specs.Lies.{Lies, Held, Agrees};
-ghost use Rattle.raising.specs.Turns.{nextPlace};
+ghost use Rattle.sums.specs.Contract.Lies.{Lies, Held, Agrees};
+ghost use Rattle.raising.specs.Contract.Turns.{nextPlace};
 
 // Where the next product goes: the two places beside the base, by turns.
 fn next_place(p: usize) -> usize

@@ -13,7 +13,7 @@ use Rattle.trees.specs.Sums.{Sum, size}
 use Rattle.trees.specs.Good.{isEmpty}
 use Rattle.terms.specs.Power.{rootable, unitCoefs}
 use Rattle.terms.proofs.Agree.{empty-size, root-test, units-test}
-use Rattle.sums.specs.Lies.{Lies}
+use Rattle.sums.specs.Contract.Lies.{Lies}
 use Rattle.sums.proofs.Walk.{Next, next, next-at, lies-none}
 
 -- what lies from k up to e answers the test as s does

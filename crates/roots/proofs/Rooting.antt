@@ -15,17 +15,17 @@ use Rattle.numbers.specs.Signs.{zero64}
 use Rattle.numbers.proofs.Bools.{T-of}
 use Rattle.cells.specs.declared.Entry.{Entry}
 use Rattle.cells.specs.Book.{Book, cell, at, Room, Plain}
-use Rattle.cells.specs.Moves.{SameRoom, Put, Copied}
+use Rattle.cells.specs.Contract.Moves.{SameRoom, Put, Copied}
 use Rattle.cells.proofs.Laws.{Fitting, put-at, at-kept, room-less, room-same, same-room-refl, same-room-trans}
-use Rattle.trees.specs.declared.Refusal.the-variants.{NotFinite}
+use Rattle.limits.specs.declared.Refusal.the-variants.{NotFinite}
 use Rattle.trees.specs.Kinds.{X}
 use Rattle.trees.specs.Sums.{Sum, size}
 use Rattle.terms.specs.Power.{rooted}
 use Rattle.sums.specs.declared.Formed.the-variants.{Done, Refused}
-use Rattle.sums.specs.Lies.{Agrees}
+use Rattle.sums.specs.Contract.Lies.{Agrees}
 use Rattle.sums.proofs.Walk.{plain-at}
 use Rattle.factors.proofs.Lying.{lies-copied}
-use Rattle.roots.specs.Roots.{Rooting, rootEntry}
+use Rattle.roots.specs.Contract.Roots.{Rooting, rootEntry}
 use Rattle.roots.proofs.Roots.{root-laid, Spot, root-spot, root-finite, root-fits, one-is-finite}
 
 -- the cells of b below k have become their roots in b′, whose powers are finite; the others are as they were

@@ -23,7 +23,7 @@ use Rattle.complex.specs.declared.Complex.{Complex}
 use Rattle.complex.specs.Arith as complex
 use Rattle.cells.specs.declared.Entry.{Entry}
 use Rattle.trees.specs.declared.Merge.the-variants.{Store}
-use Rattle.trees.specs.declared.Refusal.the-variants.{NotFinite}
+use Rattle.limits.specs.declared.Refusal.the-variants.{NotFinite}
 use Rattle.trees.specs.Kinds.{X, Div, hasNumber}
 use Rattle.trees.specs.Sums.{Sum, none, and, size, levels, entry}
 use Rattle.trees.specs.Good.{isNumber, isEmpty, GoodEntry, Good}
@@ -33,9 +33,9 @@ use Rattle.terms.specs.Singles.{alone}
 use Rattle.terms.specs.Power.{rootable, unitCoefs, rootOfOne, rooted}
 use Rattle.terms.proofs.Steps.{differ, and-both}
 use Rattle.terms.proofs.Agree.{root-test, units-test, rooted-x, rooted-sum, rooted-refused, x-size, empty-size}
-use Rattle.sums.specs.Lies.{At}
+use Rattle.sums.specs.Contract.Lies.{At}
 use Rattle.sums.proofs.Walk.{empty}
-use Rattle.roots.specs.Roots.{rootEntry}
+use Rattle.roots.specs.Contract.Roots.{rootEntry}
 
 -- ---- numbers
 

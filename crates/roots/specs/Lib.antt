@@ -1,2 +1,2 @@
 -- The root of roots' definitions.
-pub mod Roots
+pub mod Contract

@@ -2,8 +2,8 @@
 // the result is formed from the first cell of another on, which has room for 64.
 use cells::Entry;
 use complex::Complex;
+use limits::Refusal;
 use sums::Formed;
-use trees::Refusal;
 ghost use mathlib.Core.Path.{_≡_};
 ghost use mathlib.Core.Bool.{true};
 ghost use Prim.Native.Nat.{_+_};
@@ -11,8 +11,8 @@ ghost use lib.Ieee.Scale.{finite};
 ghost use Rattle.cells.specs.Book.{lent, Room};
 ghost use Rattle.trees.specs.Sums.{Sum};
 ghost use Rattle.terms.specs.Power.{rootable, unitCoefs, rootOfOne, rooted};
-ghost use Rattle.sums.specs.Lies.{Lies, Held, Agrees};
-ghost use Rattle.roots.specs.Roots.{Rooting, rootEntry};
+ghost use Rattle.sums.specs.Contract.Lies.{Lies, Held, Agrees};
+ghost use Rattle.roots.specs.Contract.Roots.{Rooting, rootEntry};
 
 // Whether the sum of n cells from i on is one term, an X or a Div of such a sum: then each cell's inside is all that follows.
 pub fn can_root(

@@ -8,37 +8,38 @@ use lib.Dec.{leb}
 use borrow.Author.Tests.{leb-true}
 use lib.ListN.{length}
 use lib.Seq.{length-take-le}
-use Rattle.trees.specs.declared.Refusal.{Refusal}
-use Rattle.trees.specs.declared.Refusal.the-variants.{NoRoom}
-use Rattle.trees.specs.Refusals.{refusalNo}
+use Rattle.limits.specs.declared.Refusal.{Refusal}
+use Rattle.limits.specs.declared.Refusal.the-variants.{NoRoom}
+use Rattle.limits.specs.Refusals.{refusalNo}
 use Rattle.trees.specs.Sums.{Sum}
-use Rattle.records.specs.declared.Record.{Record}
-use Rattle.records.specs.declared.Kind.the-variants as kind
-use Rattle.records.specs.declared.KindFound.{KindFound}
-use Rattle.records.specs.declared.KindFound.the-variants.{Known, Unknown}
-use Rattle.records.specs.Rules.{isA}
-use Rattle.records.proofs.Names.{kind-found}
-use Rattle.records.specs.declared.Modifier.the-variants.{Fork}
-use Rattle.records.specs.Names.{kindOf, modifierOf}
-use Rattle.records.specs.Tree.{forest, recAt, nextOf, count}
-use Rattle.records.specs.Walk.{Stretch}
-use Rattle.records.proofs.Walk.{stretch-count, stretch-after, stretch-levels, stretch-inside, stretch-next}
-use Rattle.arena.specs.Arena.{Arena}
-use Rattle.arena.specs.Stack.{Stacked, total, anyComplex}
-use Rattle.arena.specs.Blocks.{Outside}
+use Rattle.formats.specs.declared.record.Record.{Record}
+use Rattle.formats.specs.declared.record.Kind.the-variants as kind
+use Rattle.formats.specs.declared.record.KindFound.{KindFound}
+use Rattle.formats.specs.declared.record.KindFound.the-variants.{Known, Unknown}
+use Rattle.formats.specs.Rules.{isA}
+use Rattle.formats.proofs.record.Names.{kind-found}
+use Rattle.formats.specs.declared.record.Modifier.the-variants.{Fork}
+use Rattle.formats.specs.Names.{kindOf, modifierOf}
+use Rattle.formats.specs.Tree.{forest, recAt, nextOf, count}
+use Rattle.formats.specs.Contract.Walk.{Stretch}
+use Rattle.formats.proofs.record.Walk.{stretch-count, stretch-after, stretch-levels, stretch-inside, stretch-next}
+use Rattle.arena.specs.Contract.Arena.{Arena}
+use Rattle.arena.specs.Stack.{total, anyComplex}
+use Rattle.arena.specs.Contract.Stacked.{Stacked}
+use Rattle.arena.specs.Contract.Blocks.{Outside}
 use Rattle.arena.proofs.Laws.{space-same, outside-refl, outside-trans, outside-wider, stacked-total, stacked-above}
 use Rattle.steps.specs.State.{State, Walked, went, stopped, andThen, stop, lend, taking, takingIf}
-use Rattle.steps.specs.Agree.{Stands, Ready, Agree, Does}
+use Rattle.steps.specs.Contract.Agree.{Stands, Ready, Agree, Does}
 use Rattle.steps.specs.declared.AlgebraEnv.{AlgebraEnv}
 use Rattle.steps.specs.declared.Ran.{Ran}
 use Rattle.steps.specs.declared.Ran.the-variants.{Went, Stopped}
 use Rattle.holds.specs.Holding.{deepest, backTo}
-use Rattle.holds.specs.Begins.{Holds, Begins, PutsBack}
+use Rattle.holds.specs.Contract.Begins.{Holds, Begins, PutsBack}
 use Rattle.holds.specs.declared.Begun.the-variants.{Held, Halted}
 use Rattle.bodies.specs.Modifiers.{Runner, runAll, most, forked, modifier}
 use Rattle.bodies.specs.Reading.{runners, stepOf, insideOf, byInside}
-use Rattle.bodies.specs.Walks.{walkOf, placeOf}
-use Rattle.bodies.specs.Plans.{begin, planned, modified, Follows, UsedAs}
+use Rattle.bodies.specs.Contract.Walks.{walkOf, placeOf}
+use Rattle.bodies.specs.Contract.Plans.{begin, planned, modified, Follows, UsedAs}
 use Rattle.bodies.specs.declared.Inside.{Inside}
 use Rattle.bodies.specs.declared.Inside.the-variants as inside
 use Rattle.bodies.specs.declared.Use.{Use}
@@ -46,7 +47,7 @@ use Rattle.steps.specs.Steps.{leafStep}
 use Rattle.bodies.specs.declared.Plan.{Plan}
 use Rattle.bodies.proofs.Runs.{runnerAt, runners-split, walk-step, runners-none, stretch-first, place-next, place-stretch, place-on, some}
 use Rattle.bodies.proofs.Plans.{first-run, none-left, then-same}
-use Rattle.rounds.specs.Runs.{Inner, Bodily, Round, Rounds, Many, Forks}
+use Rattle.rounds.specs.Contract.Runs.{Inner, Bodily, Round, Rounds, Many, Forks}
 
 -- ---- one step after another
 

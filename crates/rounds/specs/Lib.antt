@@ -1,2 +1,2 @@
 -- The root of rounds' definitions.
-pub mod Runs
+pub mod Contract

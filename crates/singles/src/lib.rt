@@ -1,11 +1,11 @@
 // What a primitive forms of the one sum that it takes. It lies in one book, the result is formed from the first cell of another on, which
 // has room for 64.
-use records::Primitive;
+use formats::record::Primitive;
 use sums::Formed;
 ghost use Prim.Native.Nat.{_+_, _≤_};
 ghost use Rattle.cells.specs.Book.{lent, Room};
 ghost use Rattle.trees.specs.Sums.{Sum};
-ghost use Rattle.sums.specs.Lies.{Lies, Held, Agrees};
+ghost use Rattle.sums.specs.Contract.Lies.{Lies, Held, Agrees};
 ghost use Rattle.forms.specs.Forms.{ofOne};
 
 // What the primitive forms of the sum of n cells from i on.

@@ -1,7 +1,7 @@
 // Elements of one slice moved up, and copied from another slice.
 ghost use Prim.Native.Nat.{_+_, _≤_};
 ghost use lib.ListN.{length};
-ghost use Rattle.cells.specs.Moves.{Slid, Pasted};
+ghost use Rattle.cells.specs.Contract.Moves.{Slid, Pasted};
 
 pub fn slide8(s: &mut [u8], k: usize, e: usize, d: usize)
     requires { ⌜ (k ≤ e) × (e + d ≤ length (now s)) ⌝ }

@@ -6,7 +6,7 @@ ghost use Rattle.trees.specs.Kinds.{X};
 ghost use Prim.Native.Nat.{_≤_};
 ghost use Rattle.cells.specs.Book.{lent};
 ghost use Rattle.calculus.specs.Derivative.{deriveInto};
-ghost use Rattle.calculus.specs.Into.{Ready, Into};
+ghost use Rattle.calculus.specs.Contract.Into.{Ready, Into};
 ghost use lib.Dec.{eqb};
 
 // Any function of a sum but Div.

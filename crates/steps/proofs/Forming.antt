@@ -10,18 +10,18 @@ use lib.Ieee.Scale.{finite}
 use Rattle.numbers.specs.Signs.{zero64}
 use Rattle.complex.specs.Arith as complex
 use Rattle.cells.specs.Book.{Book}
-use Rattle.cells.proofs.Laws.{no-nan}
-use Rattle.trees.specs.declared.Refusal.the-variants.{NotFinite}
+use Rattle.numbers.proofs.Bits.{no-nan}
+use Rattle.limits.specs.declared.Refusal.the-variants.{NotFinite}
 use Rattle.trees.specs.Sums.{Sum, none, size}
 use Rattle.trees.specs.Map.{Outcome, sum, refused, unless, formed, coefIn}
 use Rattle.terms.specs.Singles.{GoodSum}
 use Rattle.terms.proofs.Goodness.{x-head, none-good, good-alone}
 use Rattle.sums.specs.declared.Formed.{Formed}
 use Rattle.sums.specs.declared.Formed.the-variants.{Done, Refused}
-use Rattle.sums.specs.Lies.{Agrees}
+use Rattle.sums.specs.Contract.Lies.{Agrees}
 use Rattle.arena.proofs.Laws.{good-some}
 use Rattle.steps.specs.Steps.{constantOf}
-use Rattle.steps.specs.Parts.{Filled}
+use Rattle.steps.specs.Contract.Parts.{Filled}
 
 -- a constant
 pub constant-good : (re im : ℕ) {r : Sum} → constantOf re im ≡ sum r → GoodSum r
@@ -38,10 +38,6 @@ not-finite re im {x} {y} e d h =
     again : (b : Bool) → unless b NotFinite (refused NotFinite) ≡ refused NotFinite
     again true = refl
     again false = refl
-
--- and they are no NaN's where they are of one
-pub no-nans : (n : ℕ) {x : Bool} → x ≡ finite (ofBits binary64 n) → x ≡ true → T (not (nanBits binary64 n))
-no-nans n e h = rw nanBits-is (no-nan (ofBits binary64 n) (subst T (sym h ∙ e) tt))
 
 -- so the answer of the code has an entry
 pub filled : (f : Formed) (b : Book) (o : Outcome) → ((r : Sum) → o ≡ sum r → GoodSum r) → Agrees f b 0 o → Filled f

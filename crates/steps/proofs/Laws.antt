@@ -7,26 +7,27 @@ use mathlib.Core.List.{List, [], _∷_, _++_, append-assoc}
 use lib.Dec.{leb}
 use lib.ListN.{length, take, drop}
 use borrow.Author.Tests.{le-leb, lt-leb}
-use Rattle.trees.specs.declared.Refusal.{Refusal}
-use Rattle.trees.specs.declared.Refusal.the-variants.{TooManyVariables, NoRoom}
+use Rattle.limits.specs.declared.Refusal.{Refusal}
+use Rattle.limits.specs.declared.Refusal.the-variants.{TooManyVariables, NoRoom}
 use Rattle.trees.specs.Sums.{Sum, size}
 use Rattle.trees.specs.Map.{Outcome, sum, refused}
 use Rattle.cells.specs.Book.{Book}
 use Rattle.sums.specs.declared.Formed.{Formed}
 use Rattle.sums.specs.declared.Formed.the-variants.{Done, Refused}
-use Rattle.sums.specs.Lies.{Lies, Agrees}
+use Rattle.sums.specs.Contract.Lies.{Lies, Agrees}
 use Rattle.adds.proofs.Lying.{lies-to}
-use Rattle.arena.specs.Arena.{Arena}
-use Rattle.arena.specs.Stack.{Top, Stacked, no-sum, Sized, total, sizesOf, anyComplex}
-use Rattle.arena.specs.Blocks.{Outside}
+use Rattle.arena.specs.Contract.Arena.{Arena}
+use Rattle.arena.specs.Stack.{total, anyComplex}
+use Rattle.arena.specs.Contract.Stacked.{Top, Stacked, no-sum, Sized, sizesOf}
+use Rattle.arena.specs.Contract.Blocks.{Outside}
 use Rattle.arena.proofs.Laws.{space-same, outside-refl, outside-trans, outside-wider, stacked-total, stacked-size, stacked-push, stacked-one, One}
 use Rattle.steps.specs.declared.AlgebraEnv.{AlgebraEnv}
 use Rattle.steps.specs.declared.Ran.{Ran}
 use Rattle.steps.specs.declared.Ran.the-variants.{Went, Stopped}
 use Rattle.steps.specs.State.{State, Walked, went, stopped, andThen, withStack, stop, takingIf, taking, lend, push}
 use Rattle.steps.specs.Steps.{flagged, counted}
-use Rattle.steps.specs.Agree.{Stands, Ready, Agree, Does}
-use Rattle.steps.specs.Parts.{withUsed, Tops, finished}
+use Rattle.steps.specs.Contract.Agree.{Stands, Ready, Agree, Does}
+use Rattle.steps.specs.Contract.Parts.{withUsed, Tops, finished}
 
 -- ---- walks
 

@@ -1,5 +1,4 @@
 -- The root of steps' definitions.
 pub mod State
 pub mod Steps
-pub mod Agree
-pub mod Parts
+pub mod Contract

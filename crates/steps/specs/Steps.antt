@@ -6,19 +6,19 @@ use lib.Dec.{eqb}
 use lib.Ieee.{binary64, ofBits}
 use Rattle.numbers.specs.Signs.{zero64}
 use Rattle.complex.specs.Arith as complex
-use Rattle.trees.specs.declared.Refusal.the-variants.{NotSupported, NonScalar, NonReal, NoInverse}
+use Rattle.limits.specs.declared.Refusal.the-variants.{NotSupported, NonScalar, NonReal, NoInverse}
 use Rattle.trees.specs.Kinds as kinds
 use Rattle.trees.specs.Sums.{Sum, none}
 use Rattle.trees.specs.Map.{Outcome}
 use Rattle.terms.specs.Singles.{alone}
-use Rattle.records.specs.declared.Primitive.{Primitive}
-use Rattle.records.specs.declared.Primitive.the-variants.{Complex}
-use Rattle.records.specs.declared.Record.{Record}
-use Rattle.records.specs.declared.KindFound.{KindFound}
-use Rattle.records.specs.declared.KindFound.the-variants.{Known, Unknown}
-use Rattle.records.specs.declared.Kind.the-variants as kind
-use Rattle.records.specs.Names.{primitiveNo, primitiveOf}
-use Rattle.records.specs.Table.{row}
+use Rattle.formats.specs.declared.record.Primitive.{Primitive}
+use Rattle.formats.specs.declared.record.Primitive.the-variants.{Complex}
+use Rattle.formats.specs.declared.record.Record.{Record}
+use Rattle.formats.specs.declared.record.KindFound.{KindFound}
+use Rattle.formats.specs.declared.record.KindFound.the-variants.{Known, Unknown}
+use Rattle.formats.specs.declared.record.Kind.the-variants as kind
+use Rattle.formats.specs.Names.{primitiveNo, primitiveOf}
+use Rattle.formats.specs.Table.{row}
 use Rattle.forms.specs.Forms.{ofOne, ofTwo}
 use Rattle.steps.specs.State.{State, Walked, went, andThen, stop, taking, lend, push}
 

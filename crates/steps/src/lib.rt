@@ -1,7 +1,7 @@
 // The state of reading beside the arena, refusals, and sums put on the stack. The stack of sums lies in the arena from its first slot on;
 // from v on lies what is held.
+use limits::Refusal;
 use sums::Formed;
-use trees::Refusal;
 ghost use mathlib.Core.Path.{_≡_};
 ghost use mathlib.Core.Bool.{_||_, cond};
 ghost use mathlib.Core.List.{List};
@@ -11,12 +11,13 @@ ghost use lib.ListN.{length};
 ghost use Rattle.cells.specs.Book.{lent, Room};
 ghost use Rattle.trees.specs.Sums.{Sum};
 ghost use Rattle.trees.specs.Map.{Outcome, sum};
-ghost use Rattle.sums.specs.Lies.{Lies, Agrees};
-ghost use Rattle.arena.specs.Arena.{arena};
-ghost use Rattle.arena.specs.Stack.{Stacked, anyComplex};
+ghost use Rattle.sums.specs.Contract.Lies.{Lies, Agrees};
+ghost use Rattle.arena.specs.Contract.Arena.{arena};
+ghost use Rattle.arena.specs.Stack.{anyComplex};
+ghost use Rattle.arena.specs.Contract.Stacked.{Stacked};
 ghost use Rattle.steps.specs.State.{push};
-ghost use Rattle.steps.specs.Agree.{Ready, Does};
-ghost use Rattle.steps.specs.Parts.{Filled, finished};
+ghost use Rattle.steps.specs.Contract.Agree.{Ready, Does};
+ghost use Rattle.steps.specs.Contract.Parts.{Filled, finished};
 
 // The state beside the arena: the cells that the stack takes, how many primitives were handled, counted to 2, and whether a complex number was met.
 pub struct AlgebraEnv {

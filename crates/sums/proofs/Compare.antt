@@ -15,8 +15,8 @@ use Rattle.trees.specs.Map.{byOrder}
 use Rattle.trees.proofs.Order.{nat-equal}
 use Rattle.trees.proofs.Keeps.{good-more}
 use Rattle.sums.specs.declared.Found.the-variants.{Same, Before}
-use Rattle.sums.specs.Lies.{Lies}
-use Rattle.sums.specs.Place.{place}
+use Rattle.sums.specs.Contract.Lies.{Lies}
+use Rattle.sums.specs.Contract.Place.{place}
 use Rattle.sums.proofs.Walk.{Next, next, next-at, lies-none, some}
 
 -- ---- two sums compared entry by entry

@@ -9,8 +9,8 @@ use lib.ListN.{getD}
 use borrow.Author.Tests.{leb-true, leb-false, le-leb, lt-leb, eq-eqb, ne-eqb}
 use Rattle.cells.specs.Book.{Book, at}
 use Rattle.trees.specs.Sums.{Sum, none, and, size, levels}
-use Rattle.sums.specs.Lies.{Lies}
-use Rattle.sums.specs.Nests.{Nests}
+use Rattle.sums.specs.Contract.Lies.{Lies}
+use Rattle.sums.specs.Contract.Nests.{Nests}
 use Rattle.sums.proofs.Walk.{opened, empty}
 
 -- a sum that lies in a book nests as the book's inside counts tell

@@ -14,11 +14,11 @@ use Rattle.complex.specs.declared.Complex.{Complex}
 use Rattle.complex.specs.Arith as complex
 use Rattle.cells.specs.declared.Entry.{Entry}
 use Rattle.cells.specs.Book.{Book, at, decoded, Room, Plain}
-use Rattle.cells.specs.Moves.{Kept, Put, Inserted}
+use Rattle.cells.specs.Contract.Moves.{Kept, Put, Inserted}
 use Rattle.cells.proofs.Laws.{Fitting, decoded-encoded, at-fits, at-kept, room-less, room-same, kept-refl, kept-wider, put-kept, inserted-kept}
 use Rattle.trees.specs.declared.Merge.{Merge}
-use Rattle.trees.specs.declared.Refusal.{Refusal}
-use Rattle.trees.specs.declared.Refusal.the-variants.{NotFinite, TooDeep, NoRoom}
+use Rattle.limits.specs.declared.Refusal.{Refusal}
+use Rattle.limits.specs.declared.Refusal.the-variants.{NotFinite, TooDeep, NoRoom}
 use Rattle.trees.specs.Sums.{Sum, none, and, size, levels, entry}
 use Rattle.trees.specs.Order.{cmpTerm}
 use Rattle.trees.specs.Good.{Good, isEmpty}
@@ -30,9 +30,9 @@ use Rattle.sums.specs.declared.Found.{Found}
 use Rattle.sums.specs.declared.Found.the-variants.{Same, Before}
 use Rattle.sums.specs.declared.Formed.{Formed}
 use Rattle.sums.specs.declared.Formed.the-variants.{Done, Refused}
-use Rattle.sums.specs.Lies.{At, Agrees}
-use Rattle.sums.specs.Place.{place}
-use Rattle.sums.specs.Putting.{Putting}
+use Rattle.sums.specs.Contract.Lies.{At, Agrees}
+use Rattle.sums.specs.Contract.Place.{place}
+use Rattle.sums.specs.Contract.Putting.{Putting}
 use Rattle.sums.proofs.Walk.{at-moved, at-stays, plain-at}
 
 -- the entry with another coefficient

@@ -9,7 +9,7 @@ use Rattle.cells.specs.declared.Entry.{Entry}
 use Rattle.cells.specs.Book.{Book, at}
 use Rattle.trees.specs.Sums.{Sum, none, and, size}
 use Rattle.trees.specs.Same.{sameSum, sameTerm}
-use Rattle.sums.specs.Lies.{Lies}
+use Rattle.sums.specs.Contract.Lies.{Lies}
 use Rattle.sums.proofs.Walk.{Next, next}
 
 -- two tests that both pass

@@ -11,11 +11,11 @@ use lib.Ieee.Scale.{finite}
 use Rattle.complex.specs.declared.Complex.{Complex}
 use Rattle.cells.specs.declared.Entry.{Entry}
 use Rattle.cells.specs.Book.{Book, cell, at, Room, Plain}
-use Rattle.cells.specs.Moves.{Kept, SameRoom}
+use Rattle.cells.specs.Contract.Moves.{Kept, SameRoom}
 use Rattle.cells.proofs.Laws.{room-less, room-same, at-kept}
 use Rattle.trees.specs.Sums.{Sum, none, and, size, len, entry}
 use Rattle.trees.specs.Good.{Good, GoodEntry, Before}
-use Rattle.sums.specs.Lies.{At, Lies}
+use Rattle.sums.specs.Contract.Lies.{At, Lies}
 
 -- where entries are left, the first is a term, with its inside right behind it, and then the rest
 pub record Opened (f : ℕ → Entry) (k : ℕ) (s : Sum) : Type 0 where

@@ -1,6 +1,2 @@
 -- The root of sums' definitions.
-pub mod Lies
-pub mod Nests
-pub mod Place
-pub mod Heads
-pub mod Putting
+pub mod Contract

@@ -1,8 +1,8 @@
 // Sums of terms in five parallel slices: kinds, inside counts, and the bits of the number, of re and of im. Their order, the
 // Rust's ==, and where a term stands or belongs.
 use cells::Entry;
+use limits::Refusal;
 use numbers::Ordering;
-use trees::Refusal;
 ghost use mathlib.Core.Path.{_≡_};
 ghost use Prim.Native.Nat.{ℕ, _+_, _≤_};
 ghost use lib.Dec.{leb};
@@ -12,9 +12,9 @@ ghost use Rattle.cells.specs.Book.{lent};
 ghost use Rattle.trees.specs.Sums.{Sum, size, len, levels};
 ghost use Rattle.trees.specs.Order.{cmpNat, cmpHead, cmpTerm, cmpSum};
 ghost use Rattle.trees.specs.Same.{sameHead, sameTerm, sameSum};
-ghost use Rattle.sums.specs.Lies.{At, Lies, Held};
-ghost use Rattle.sums.specs.Nests.{Nests, Nested};
-ghost use Rattle.sums.specs.Place.{place};
+ghost use Rattle.sums.specs.Contract.Lies.{At, Lies, Held};
+ghost use Rattle.sums.specs.Contract.Nests.{Nests, Nested};
+ghost use Rattle.sums.specs.Contract.Place.{place};
 
 // A sum was formed and has so many entries, insides counted; or it was refused.
 pub enum Formed {

@@ -1,16 +1,16 @@
 // The derivative of a power of x, of an exponential, and of sin, cos, sinh and cosh, put into a sum in another book.
 use cells::Entry;
+use limits::Refusal;
 use monomials::Constant;
 use sums::Formed;
 use trees::Merge;
-use trees::Refusal;
 ghost use mathlib.Core.Path.{_≡_};
 ghost use mathlib.Core.Bool.{false};
 ghost use Rattle.trees.specs.Kinds.{hasNumber};
 ghost use Prim.Native.Nat.{_≤_};
 ghost use Rattle.cells.specs.Book.{lent};
 ghost use Rattle.calculus.specs.Derivative.{deriveBy, deriveExp, deriveX};
-ghost use Rattle.calculus.specs.Into.{Ready, Into};
+ghost use Rattle.calculus.specs.Contract.Into.{Ready, Into};
 
 // A function whose derivative is of another kind: its argument's derivative has to be a constant.
 pub fn derive_by(

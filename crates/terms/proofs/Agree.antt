@@ -17,8 +17,8 @@ use Rattle.complex.specs.Arith as complex
 use Rattle.cells.specs.declared.Entry.{Entry}
 use Rattle.trees.specs.declared.Merge.{Merge}
 use Rattle.trees.specs.declared.Merge.the-variants.{Add}
-use Rattle.trees.specs.declared.Refusal.{Refusal}
-use Rattle.trees.specs.declared.Refusal.the-variants.{TooComplex, NotFinite, TooDeep, NoRoom}
+use Rattle.limits.specs.declared.Refusal.{Refusal}
+use Rattle.limits.specs.declared.Refusal.the-variants.{TooComplex, NotFinite, TooDeep, NoRoom}
 use Rattle.trees.specs.Kinds.{X, Div}
 use Rattle.trees.specs.Sums.{Sum, none, and, size, levels, flat, entry}
 use Rattle.trees.specs.Order.{cmpTerm}

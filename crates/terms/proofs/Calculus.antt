@@ -20,7 +20,7 @@ use Rattle.complex.specs.Arith as complex
 use Rattle.cells.specs.declared.Entry.{Entry}
 use Rattle.trees.specs.declared.Merge.{Merge}
 use Rattle.trees.specs.declared.Merge.the-variants.{Add}
-use Rattle.trees.specs.declared.Refusal.the-variants.{TooComplex}
+use Rattle.limits.specs.declared.Refusal.the-variants.{TooComplex}
 use Rattle.trees.specs.Kinds.{X}
 use Rattle.trees.specs.Sums.{Sum, none, and, size, len, entry}
 use Rattle.trees.specs.Order.{cmpNat, cmpHead, cmpEach, cmpSum, cmpTerm}

@@ -24,7 +24,7 @@ use Rattle.complex.specs.Arith as complex
 use Rattle.cells.specs.declared.Entry.{Entry}
 use Rattle.trees.specs.declared.Merge.{Merge}
 use Rattle.trees.specs.declared.Merge.the-variants.{Add, Store}
-use Rattle.trees.specs.declared.Refusal.the-variants.{TooComplex, NeedsMath, BigPower}
+use Rattle.limits.specs.declared.Refusal.the-variants.{TooComplex, NeedsMath, BigPower}
 use Rattle.trees.specs.Kinds.{X, Div, Log, Exp, hasNumber}
 use Rattle.trees.specs.Sums.{Sum, none, and, size, len, levels, entry}
 use Rattle.trees.specs.Order.{cmpTerm}

@@ -11,7 +11,7 @@ use Rattle.numbers.specs.declared.SmallWhole.{SmallWhole}
 use Rattle.numbers.specs.declared.SmallWhole.the-variants.{Is, Other}
 use Rattle.complex.specs.declared.Complex.{Complex}
 use Rattle.complex.specs.Arith as complex
-use Rattle.trees.specs.declared.Refusal.the-variants.{TooComplex, NeedsMath, BigPower}
+use Rattle.limits.specs.declared.Refusal.the-variants.{TooComplex, NeedsMath, BigPower}
 use Rattle.trees.specs.Kinds.{X, Div, Log, Exp}
 use Rattle.trees.specs.Sums.{Sum, none, and, size, entry}
 use Rattle.trees.specs.Map.{Outcome, sum, refused, Found, at, absent, andThenSum, unless}

@@ -9,7 +9,7 @@ use Rattle.complex.specs.declared.Complex.{Complex}
 use Rattle.complex.specs.Arith as complex
 use Rattle.cells.specs.declared.Entry.{Entry}
 use Rattle.trees.specs.declared.Merge.the-variants.{Add}
-use Rattle.trees.specs.declared.Refusal.the-variants.{TooComplex}
+use Rattle.limits.specs.declared.Refusal.the-variants.{TooComplex}
 use Rattle.trees.specs.Kinds.{X, Div}
 use Rattle.trees.specs.Sums.{Sum, none, and, size, entry}
 use Rattle.trees.specs.Same.{sameTerm}

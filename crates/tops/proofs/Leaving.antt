@@ -6,22 +6,23 @@ use mathlib.Core.List.{List, [], _∷_}
 use Rattle.trees.specs.Sums.{Sum, size}
 use Rattle.trees.specs.Map.{sum}
 use Rattle.terms.specs.Singles.{GoodSum}
-use Rattle.sums.specs.Lies.{Lies}
-use Rattle.records.specs.declared.Primitive.{Primitive}
-use Rattle.records.specs.Table.{row}
+use Rattle.sums.specs.Contract.Lies.{Lies}
+use Rattle.formats.specs.declared.record.Primitive.{Primitive}
+use Rattle.formats.specs.Table.{row}
 use Rattle.forms.specs.Forms.{ofOne, ofTwo}
-use Rattle.arena.specs.Arena.{Arena}
-use Rattle.arena.specs.Stack.{Stacked, total}
+use Rattle.arena.specs.Contract.Arena.{Arena}
+use Rattle.arena.specs.Stack.{total}
+use Rattle.arena.specs.Contract.Stacked.{Stacked}
 use Rattle.arena.proofs.Laws.{outside-refl, outside-wider, stacked-total}
 use Rattle.steps.specs.declared.AlgebraEnv.{AlgebraEnv}
 use Rattle.steps.specs.declared.Ran.{Ran}
 use Rattle.steps.specs.declared.Ran.the-variants.{Went}
 use Rattle.steps.specs.State.{State, Walked, withStack, taking, lend, push}
 use Rattle.steps.specs.Steps.{leavesOfOne, leavesOfTwo, leaves}
-use Rattle.steps.specs.Agree.{Ready, Agree, Does}
-use Rattle.steps.specs.Parts.{withUsed, Tops}
+use Rattle.steps.specs.Contract.Agree.{Ready, Agree, Does}
+use Rattle.steps.specs.Contract.Parts.{withUsed, Tops}
 use Rattle.steps.proofs.Laws.{lend-more, lend-two, total-two, stands-popped, topmost, pair, does-one, does-two}
-use Rattle.tops.specs.Parts.{Turned}
+use Rattle.tops.specs.Contract.Parts.{Turned}
 
 -- ---- primitives of one sum
 

@@ -9,9 +9,9 @@ use Rattle.trees.specs.Map.{sum}
 use Rattle.terms.specs.Singles.{GoodSum}
 use Rattle.terms.proofs.Steps.{sum-is}
 use Rattle.terms.proofs.Goodness.{fits-bits, good-over, good-neg, good-not, good-sqrt, good-exp, good-exp2, good-exp10, good-ln, good-log, good-log2, good-log10, good-reciprocal, good-add, good-sub, good-product, good-quotient, good-pow, good-complex}
-use Rattle.records.specs.declared.Primitive.{Primitive}
-use Rattle.records.specs.declared.Primitive.the-variants.{Identity, Pop, Dup, Flip, Neg, Not, Sqrt, Add, Sub, Mul, Div, Pow, Exp, Sin, Cos, Reciprocal, Complex, Max, SinH, CosH, Exp2, Exp10, Log, Ln, Log2, Log10, Over, Root, Unlisted}
-use Rattle.records.specs.Table.{row}
+use Rattle.formats.specs.declared.record.Primitive.{Primitive}
+use Rattle.formats.specs.declared.record.Primitive.the-variants.{Identity, Pop, Dup, Flip, Neg, Not, Sqrt, Add, Sub, Mul, Div, Pow, Exp, Sin, Cos, Reciprocal, Complex, Max, SinH, CosH, Exp2, Exp10, Log, Ln, Log2, Log10, Over, Root, Unlisted}
+use Rattle.formats.specs.Table.{row}
 use Rattle.forms.specs.Forms.{ofOne, ofTwo}
 
 -- what a primitive forms of a good sum is one

@@ -4,17 +4,17 @@ use native.Mathlib.Omega.{arith}
 use mathlib.Core.Path.{_≡_, subst}
 use mathlib.Core.List.{List, [], _∷_}
 use Rattle.cells.specs.Book.{Book, Room}
-use Rattle.cells.specs.Moves.{Copied}
+use Rattle.cells.specs.Contract.Moves.{Copied}
 use Rattle.cells.proofs.Laws.{room-less}
 use Rattle.trees.specs.Sums.{Sum, size}
-use Rattle.sums.specs.Lies.{Lies}
+use Rattle.sums.specs.Contract.Lies.{Lies}
 use Rattle.adds.proofs.Lying.{lies-to, lies-copied}
-use Rattle.arena.specs.Arena.{Arena, Space}
-use Rattle.arena.specs.Stack.{Top, Stacked, no-sum, on-top, sizesOf}
-use Rattle.arena.specs.Blocks.{Outside, Sunk}
+use Rattle.arena.specs.Contract.Arena.{Arena, Space}
+use Rattle.arena.specs.Contract.Stacked.{Top, Stacked, no-sum, on-top, sizesOf}
+use Rattle.arena.specs.Contract.Blocks.{Outside, Sunk}
 use Rattle.arena.proofs.Laws.{space-less, outside-trans, outside-wider, stacked-one, stacked-push, stacked-sunk, stacked-join}
-use Rattle.steps.specs.Parts.{Tops}
-use Rattle.tops.specs.Parts.{Turned}
+use Rattle.steps.specs.Contract.Parts.{Tops}
+use Rattle.tops.specs.Contract.Parts.{Turned}
 use Rattle.steps.proofs.Laws.{pair}
 
 sizes-two : (a : Arena) (u n m : ℕ) (s t : Sum) (ss : List Sum) → Tops a u (n ∷ m ∷ []) → Stacked a 0 u (s ∷ t ∷ ss) → (n ≡ size s) × (m ≡ size t)

@@ -1,2 +1,2 @@
 -- The root of tops' definitions.
-pub mod Parts
+pub mod Contract

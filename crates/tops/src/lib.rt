@@ -6,15 +6,15 @@ ghost use mathlib.Core.Path.{_≡_};
 ghost use mathlib.Core.List.{List, [], _∷_};
 ghost use Prim.Native.Nat.{_-_, _≤_};
 ghost use Rattle.trees.specs.Sums.{Sum};
-ghost use Rattle.records.specs.Names.{primitiveOf};
-ghost use Rattle.records.specs.Table.{row};
-ghost use Rattle.arena.specs.Arena.{arena, Space};
-ghost use Rattle.arena.specs.Stack.{Stacked};
+ghost use Rattle.formats.specs.Names.{primitiveOf};
+ghost use Rattle.formats.specs.Table.{row};
+ghost use Rattle.arena.specs.Contract.Arena.{arena, Space};
+ghost use Rattle.arena.specs.Contract.Stacked.{Stacked};
 ghost use Rattle.steps.specs.State.{taking};
 ghost use Rattle.steps.specs.Steps.{leaves};
-ghost use Rattle.steps.specs.Agree.{Ready, Does};
-ghost use Rattle.steps.specs.Parts.{Tops};
-ghost use Rattle.tops.specs.Parts.{Turned};
+ghost use Rattle.steps.specs.Contract.Agree.{Ready, Does};
+ghost use Rattle.steps.specs.Contract.Parts.{Tops};
+ghost use Rattle.tops.specs.Contract.Parts.{Turned};
 
 // The sum on top, of n cells, and the one below it, of m cells, change places.
 pub fn flip(
@@ -78,7 +78,7 @@ fn form_top(
     let mut vn = [0u64; 64];
     let mut vr = [0u64; 64];
     let mut vm = [0u64; 64];
-    let p = records::primitive_of(code);
+    let p = formats::record::primitive_of(code);
     let i = env.used - n;
     let f = singles::form_one(
         p,
@@ -140,7 +140,7 @@ pub fn one_operand(
         return steps::short(at, env);
     }
     let n = arena::top_size(az, 0, used);
-    let left = tables::left(code);
+    let left = formats::table::left(code);
     if left == 0 {
         return Ran::Went(AlgebraEnv {
             used: used - n,

@@ -1,6 +1,5 @@
 -- The root of sums' definitions.
 pub mod Kinds
-pub mod Refusals
 pub mod Sums
 pub mod Order
 pub mod Same

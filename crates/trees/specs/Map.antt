@@ -11,8 +11,8 @@ use Rattle.complex.specs.Arith as complex
 use Rattle.cells.specs.declared.Entry.{Entry}
 use Rattle.trees.specs.declared.Merge.{Merge}
 use Rattle.trees.specs.declared.Merge.the-variants.{Add, Take, Store}
-use Rattle.trees.specs.declared.Refusal.{Refusal}
-use Rattle.trees.specs.declared.Refusal.the-variants.{NoRoom, TooDeep, NotFinite}
+use Rattle.limits.specs.declared.Refusal.{Refusal}
+use Rattle.limits.specs.declared.Refusal.the-variants.{NoRoom, TooDeep, NotFinite}
 use Rattle.trees.specs.Sums.{Sum, none, and, size, levels, entry}
 use Rattle.trees.specs.Order.{cmpTerm, cmpEach}
 

@@ -5,13 +5,13 @@ use steps::Ran;
 ghost use mathlib.Core.Path.{_≡_};
 ghost use mathlib.Core.List.{[], _∷_};
 ghost use Prim.Native.Nat.{_-_};
-ghost use Rattle.records.specs.Names.{primitiveOf};
-ghost use Rattle.records.specs.Table.{row};
-ghost use Rattle.arena.specs.Arena.{arena};
+ghost use Rattle.formats.specs.Names.{primitiveOf};
+ghost use Rattle.formats.specs.Table.{row};
+ghost use Rattle.arena.specs.Contract.Arena.{arena};
 ghost use Rattle.steps.specs.State.{taking};
 ghost use Rattle.steps.specs.Steps.{leaves};
-ghost use Rattle.steps.specs.Agree.{Ready, Does};
-ghost use Rattle.steps.specs.Parts.{Tops};
+ghost use Rattle.steps.specs.Contract.Agree.{Ready, Does};
+ghost use Rattle.steps.specs.Contract.Parts.{Tops};
 
 // What a primitive forms of the two sums on top, of top cells and of low cells below it, is put in their place.
 fn form_pair(
@@ -36,7 +36,7 @@ fn form_pair(
     let mut vn = [0u64; 64];
     let mut vr = [0u64; 64];
     let mut vm = [0u64; 64];
-    let p = records::primitive_of(code);
+    let p = formats::record::primitive_of(code);
     let up = env.used - top;
     let down = up - low;
     let f = pairs::form_two(
@@ -99,7 +99,7 @@ fn two_leave(
     ensures { λ r. ⌜ Does (arena (ak .entry) (ai .entry) (an .entry) (ar .entry) (am .entry) (az .entry)) (arena (ak .exit) (ai .exit) (an .exit) (ar .exit) (am .exit) (az .exit)) v env r (λ st. taking at 2 st (leaves at (1024 - v) (primitiveOf code))) ⌝ }
 {
     let used = env.used;
-    let left = tables::left(code);
+    let left = formats::table::left(code);
     if left == 1 {
         return form_pair(code, at, n, m, ak, ai, an, ar, am, az, v, env);
     }

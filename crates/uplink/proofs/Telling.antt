@@ -5,9 +5,9 @@ use mathlib.Core.Bool.{Bool, true, false, cond}
 use mathlib.Core.List.{List, [], _∷_}
 use lib.Ieee.{Float}
 use mir.Val.{boolByte}
-use Rattle.runner.specs.declared.RunAnswer.{RunAnswer}
-use Rattle.runner.specs.declared.RunNumbers.{RunNumbers}
-use Rattle.runner.specs.Running.{runList, numbersOf}
+use Rattle.running.specs.declared.RunAnswer.{RunAnswer}
+use Rattle.running.specs.declared.RunNumbers.{RunNumbers}
+use Rattle.running.specs.Running.{runList, numbersOf}
 use Rattle.answers.specs.declared.Answer.{Answer}
 use Rattle.answers.specs.declared.Numbers.{Numbers}
 use Rattle.answers.specs.Making.{answerNumbers}

@@ -84,7 +84,7 @@ pub extern "C" fn uplink_inverse(list: &[u8], out: &mut [u8], answer: &mut [u64;
 pub extern "C" fn uplink_run(list: &[u8], x: f64, value: &mut f64, answer: &mut [u64; 3]) -> u64
     ensures { λ r. ⌜ Ran x (now (list .entry)) r (now (value .exit)) (now (answer .exit)) ⌝ }
 {
-    let n = runner::run_numbers(algebra::run(list, x));
+    let n = running::run_numbers(algebra::run(list, x));
     *answer = [n.place as u64, n.steps as u64, n.peak as u64];
     *value = n.value;
     n.number

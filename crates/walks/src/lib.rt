@@ -2,24 +2,24 @@
 use bodies::Inside;
 use bodies::Plan;
 use bodies::Use;
+use formats::record::Record;
 use holds::Begun;
-use records::Record;
 use steps::AlgebraEnv;
 use steps::Ran;
 ghost use mathlib.Core.Path.{_≡_};
 ghost use mathlib.Core.Bool.{Bool};
 ghost use Prim.Native.Nat.{_+_, _-_};
-ghost use Rattle.records.specs.Tree.{forest};
-ghost use Rattle.records.specs.Walk.{Stretch};
-ghost use Rattle.records.specs.Names.{modifierOf};
-ghost use Rattle.records.specs.declared.Modifier.the-variants.{Fork};
+ghost use Rattle.formats.specs.Tree.{forest};
+ghost use Rattle.formats.specs.Contract.Walk.{Stretch};
+ghost use Rattle.formats.specs.Names.{modifierOf};
+ghost use Rattle.formats.specs.declared.record.Modifier.the-variants.{Fork};
 ghost use Rattle.bodies.specs.declared.Use.the-variants.{Bodies};
-ghost use Rattle.arena.specs.Arena.{arena};
-ghost use Rattle.steps.specs.Agree.{Ready, Does};
+ghost use Rattle.arena.specs.Contract.Arena.{arena};
+ghost use Rattle.steps.specs.Contract.Agree.{Ready, Does};
 ghost use Rattle.bodies.specs.Reading.{runners, stepOf};
-ghost use Rattle.bodies.specs.Walks.{walkOf};
-ghost use Rattle.bodies.specs.Plans.{modified, UsedAs};
-ghost use Rattle.rounds.specs.Runs.{Inner, Bodily, Planned, Round, Rounds, Many, Forks};
+ghost use Rattle.bodies.specs.Contract.Walks.{walkOf};
+ghost use Rattle.bodies.specs.Contract.Plans.{modified, UsedAs};
+ghost use Rattle.rounds.specs.Contract.Runs.{Inner, Bodily, Planned, Round, Rounds, Many, Forks};
 
 fn wide(x: u8) -> usize
     ensures { λ r. ⌜ r ≡ x ⌝ }
@@ -48,7 +48,7 @@ pub fn walk(
     let mut at = from;
     let mut cur = env;
     while at < to {
-        let r = records::record_at(list, at);
+        let r = formats::record::record_at(list, at);
         let ran = step(list, at, r, ak, ai, an, ar, am, az, v, cur, left);
         let Ran::Went(then) = ran else {
             return ran;
@@ -266,12 +266,12 @@ fn fork_each(
     requires { ⌜ Ready (arena ak ai an ar am az) v env × Bodily (now list) from to left × Many (arena ak ai an ar am az) v m k ⌝ }
     ensures { λ o. ⌜ Forks (arena (ak .entry) (ai .entry) (an .entry) (ar .entry) (am .entry) (az .entry)) (arena (ak .exit) (ai .exit) (an .exit) (ar .exit) (am .exit) (az .exit)) v m k env o (now (list .entry)) at from to ⌝ }
 {
-    let mut i = records::count_nodes(list, from, to);
+    let mut i = formats::record::count_nodes(list, from, to);
     let mut cur = env;
     while 0 < i {
         i = i - 1;
         let b = bodies::place_of(list, from, to, i);
-        let r = records::record_at(list, b);
+        let r = formats::record::record_at(list, b);
         let lent = lends::lend_deepest(wide(r.args), k, m, at, ak, ai, an, ar, am, az, v, cur);
         let Ran::Went(ready) = lent else {
             return lent;

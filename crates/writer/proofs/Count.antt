@@ -11,9 +11,9 @@ use Rattle.complex.specs.declared.Complex.{Complex}
 use Rattle.complex.specs.Arith as complex
 use Rattle.trees.specs.Kinds as kinds
 use Rattle.trees.specs.Sums.{Sum, and}
-use Rattle.records.specs.declared.Record.{Record}
-use Rattle.records.specs.declared.Primitive.the-variants as prim
-use Rattle.records.specs.Tree.{Nodes, end, rec, size}
+use Rattle.formats.specs.declared.record.Record.{Record}
+use Rattle.formats.specs.declared.record.Primitive.the-variants as prim
+use Rattle.formats.specs.Tree.{Nodes, end, rec, size}
 use Rattle.drafts.specs.Writing.{push, does, on, body, append, one, two, Written, wrote, andThen, number, numberRecord, canWrite}
 use Rattle.writer.specs.ToNodes.{Form, constant, root, bare, square, power, form, isBare, isConstant, isEmpty, before, writePower, timesCoef, plus, write}
 use Rattle.writer.specs.Count.{Shape, shape, cost, costs, bareX, recordsFor, Powers, nothing, zero, term}

@@ -7,11 +7,11 @@ use Rattle.numbers.specs.Numbers.{belowEpsilon}
 use Rattle.numbers.specs.Signs.{zero64, one64}
 use Rattle.complex.specs.declared.Complex.{Complex}
 use Rattle.complex.specs.Arith as complex
-use Rattle.trees.specs.declared.Refusal.the-variants.{NotFinite}
+use Rattle.limits.specs.declared.Refusal.the-variants.{NotFinite}
 use Rattle.trees.specs.Kinds as kinds
 use Rattle.trees.specs.Sums.{Sum, none, and}
-use Rattle.records.specs.declared.Primitive.the-variants as prim
-use Rattle.records.specs.Tree.{end, rec, size}
+use Rattle.formats.specs.declared.record.Primitive.the-variants as prim
+use Rattle.formats.specs.Tree.{end, rec, size}
 use Rattle.drafts.specs.Writing.{push, pushPair, does, on, body, append, one, two, wrote, refused}
 use Rattle.writer.specs.ToNodes.{half64, two64, form, write, toNodes}
 

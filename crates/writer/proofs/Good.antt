@@ -15,12 +15,12 @@ use Rattle.trees.specs.Kinds as kinds
 use Rattle.trees.specs.Sums.{Sum, none, and, size}
 use Rattle.trees.specs.Good.{Good}
 use Rattle.terms.specs.Singles.{GoodSum}
-use Rattle.records.specs.declared.Primitive.{Primitive}
-use Rattle.records.specs.declared.Primitive.the-variants as prim
-use Rattle.records.specs.declared.Verdict.the-variants as verdicts
-use Rattle.records.specs.Names.{choose}
-use Rattle.records.specs.Tree.{Nodes, end, rec, encode}
-use Rattle.records.specs.Rules.{verdict}
+use Rattle.formats.specs.declared.record.Primitive.{Primitive}
+use Rattle.formats.specs.declared.record.Primitive.the-variants as prim
+use Rattle.formats.specs.declared.record.Verdict.the-variants as verdicts
+use Rattle.formats.specs.Names.{choose}
+use Rattle.formats.specs.Tree.{Nodes, end, rec, encode}
+use Rattle.formats.specs.Rules.{verdict}
 use Rattle.drafts.specs.Writing.{push, does, append, one, two, Written, wrote, refused, andThen, number, numberRecord, canWrite, ifCan}
 use Rattle.drafts.proofs.Fine.{Fine, fine-more, fine-end, fine-one, fine-append, fine-two, fine-say, fine-wrapped, fine-good, plain-does, plain-push, plain-number}
 use Rattle.writer.specs.ToNodes.{Form, constant, root, bare, square, power, form, isBare, isConstant, isEmpty, primitiveFor, functionOf, before, writePower, writeTerm, timesCoef, plus, close, turn, write, toNodes}

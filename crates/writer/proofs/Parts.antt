@@ -12,16 +12,16 @@ use Rattle.numbers.specs.Signs.{zero64, one64}
 use Rattle.numbers.proofs.Order.{eq-transitive}
 use Rattle.complex.specs.declared.Complex.{Complex}
 use Rattle.trees.specs.Kinds as kinds
-use Rattle.records.specs.declared.Record.{Record}
-use Rattle.records.specs.declared.Primitive.{Primitive}
-use Rattle.records.specs.declared.Primitive.the-variants as prim
-use Rattle.records.specs.Tree.{Nodes, end, rec, size}
+use Rattle.formats.specs.declared.record.Record.{Record}
+use Rattle.formats.specs.declared.record.Primitive.{Primitive}
+use Rattle.formats.specs.declared.record.Primitive.the-variants as prim
+use Rattle.formats.specs.Tree.{Nodes, end, rec, size}
 use Rattle.drafts.specs.declared.Draft.{Draft}
 use Rattle.drafts.specs.declared.Said.{Said}
 use Rattle.drafts.specs.declared.Said.the-variants as said
 use Rattle.drafts.specs.Writing.{push, does, append, one, two, wrapped, Written}
-use Rattle.drafts.specs.Lying.{Lying, SaidAs}
-use Rattle.drafts.specs.Growing.{Drawn, Spoken}
+use Rattle.drafts.specs.Contract.Lying.{Lying, SaidAs}
+use Rattle.drafts.specs.Contract.Growing.{Drawn, Spoken}
 use Rattle.drafts.proofs.Laws.{append-two, append-three}
 use Rattle.drafts.proofs.Growing.{drawn-none, drawn-as, drawn-drawn, spoken-none, spoken-as, spoken-more}
 use Rattle.writer.specs.ToNodes.{half64, two64, Form, constant, root, bare, square, power, form, isBare, isConstant, primitiveFor, over, functionOf, isEmpty, before, writePower, timesCoef, plus, close}

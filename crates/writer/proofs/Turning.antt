@@ -13,20 +13,20 @@ use Rattle.complex.specs.declared.Complex.{Complex}
 use Rattle.complex.specs.Arith as complex
 use Rattle.cells.specs.declared.Entry.{Entry}
 use Rattle.cells.specs.Book.{Book, at}
-use Rattle.trees.specs.declared.Refusal.{Refusal}
+use Rattle.limits.specs.declared.Refusal.{Refusal}
 use Rattle.trees.specs.Kinds as kinds
 use Rattle.trees.specs.Sums.{Sum, none, and}
-use Rattle.sums.specs.Lies.{Lies}
+use Rattle.sums.specs.Contract.Lies.{Lies}
 use Rattle.sums.proofs.Walk.{Next, next, lies-none}
-use Rattle.records.specs.Tree.{Nodes}
+use Rattle.formats.specs.Tree.{Nodes}
 use Rattle.drafts.specs.declared.Draft.{Draft}
 use Rattle.drafts.specs.declared.Said.{Said}
 use Rattle.drafts.specs.declared.Said.the-variants as said
 use Rattle.drafts.specs.Writing.{append, Written, wrote, refused, andThen}
-use Rattle.drafts.specs.Growing.{Ready, Drawn, Spoken}
+use Rattle.drafts.specs.Contract.Growing.{Ready, Drawn, Spoken}
 use Rattle.drafts.proofs.Growing.{ready-spoken, drawn-done, drawn-as, drawn-then, spoken-none, spoken-as, spoken-more, spoken-then, spoken-stop}
 use Rattle.writer.specs.ToNodes.{Form, form, isBare, isConstant, functionOf, isEmpty, before, writePower, writeTerm, timesCoef, plus, close, turn, write}
-use Rattle.writer.specs.Turns.{isX, meetsX, termOf, finished, entryOf}
+use Rattle.writer.specs.Contract.Turns.{isX, meetsX, termOf, finished, entryOf}
 use Rattle.writer.proofs.Parts.{empty-draft, spoken-where}
 
 -- ---- an entry

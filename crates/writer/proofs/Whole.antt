@@ -5,10 +5,10 @@ use mathlib.Core.Bool.{Bool, false}
 use mathlib.Core.List.{List}
 use Rattle.cells.proofs.Laws.{zeros, length-zeros}
 use Rattle.trees.specs.Sums.{Sum}
-use Rattle.records.specs.Tree.{end}
+use Rattle.formats.specs.Tree.{end}
 use Rattle.drafts.specs.declared.Said.{Said}
-use Rattle.drafts.specs.Lying.{SaidAs}
-use Rattle.drafts.specs.Growing.{Ready, Spoken}
+use Rattle.drafts.specs.Contract.Lying.{SaidAs}
+use Rattle.drafts.specs.Contract.Growing.{Ready, Spoken}
 use Rattle.drafts.proofs.Lying.{fresh}
 use Rattle.drafts.proofs.Growing.{ready-fresh}
 use Rattle.writer.specs.ToNodes.{write, toNodes}

@@ -1,4 +1,4 @@
 -- The root of writer's definitions.
 pub mod ToNodes
-pub mod Turns
 pub mod Count
+pub mod Contract

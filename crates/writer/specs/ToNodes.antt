@@ -8,10 +8,10 @@ use Rattle.complex.specs.declared.Complex.{Complex}
 use Rattle.complex.specs.Arith as complex
 use Rattle.trees.specs.Kinds as kinds
 use Rattle.trees.specs.Sums.{Sum, none, and}
-use Rattle.records.specs.declared.Primitive.{Primitive}
-use Rattle.records.specs.declared.Primitive.the-variants as prim
-use Rattle.records.specs.Names.{choose}
-use Rattle.records.specs.Tree.{Nodes, end, rec}
+use Rattle.formats.specs.declared.record.Primitive.{Primitive}
+use Rattle.formats.specs.declared.record.Primitive.the-variants as prim
+use Rattle.formats.specs.Names.{choose}
+use Rattle.formats.specs.Tree.{Nodes, end, rec}
 use Rattle.drafts.specs.Writing.{push, does, append, one, two, wrapped, Written, wrote, andThen, number}
 
 -- ---- powers of x

@@ -5,7 +5,7 @@ use complex::Complex;
 use drafts::Draft;
 use drafts::Said;
 use drafts::Wrote;
-use records::Primitive;
+use formats::record::Primitive;
 ghost use mathlib.Core.Path.{_≡_};
 ghost use mathlib.Core.Bool.{false};
 ghost use Prim.Native.Nat.{_+_, _*_, _≤_};
@@ -14,12 +14,12 @@ ghost use lib.Ieee.Scale.{finite};
 ghost use Rattle.numbers.specs.Signs.{zero64};
 ghost use Rattle.cells.specs.Book.{lent};
 ghost use Rattle.trees.specs.Sums.{Sum};
-ghost use Rattle.sums.specs.Lies.{Lies, Held};
+ghost use Rattle.sums.specs.Contract.Lies.{Lies, Held};
 ghost use Rattle.drafts.specs.Writing.{push, does, append, two};
-ghost use Rattle.drafts.specs.Lying.{Answered};
-ghost use Rattle.drafts.specs.Growing.{Ready, Drawn, Spoken};
+ghost use Rattle.drafts.specs.Contract.Lying.{Answered};
+ghost use Rattle.drafts.specs.Contract.Growing.{Ready, Drawn, Spoken};
 ghost use Rattle.writer.specs.ToNodes.{form, constant, primitiveFor, over, functionOf, writePower, before, timesCoef, plus, close, write, toNodes};
-ghost use Rattle.writer.specs.Turns.{meetsX, withCoef, termOf, finished, entryOf};
+ghost use Rattle.writer.specs.Contract.Turns.{meetsX, withCoef, termOf, finished, entryOf};
 
 // ---- two records at once
 

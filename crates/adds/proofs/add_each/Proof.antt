@@ -6,7 +6,7 @@ use mathlib.Core.Path.{subst}
 use Rattle.complex.specs.declared.Complex.{Complex}
 use Rattle.cells.specs.declared.Entry.{Entry}
 use Rattle.cells.specs.Book.{Book, book}
-use Rattle.cells.specs.Moves.{SameRoom}
+use Rattle.cells.specs.Contract.Moves.{SameRoom}
 use Rattle.cells.proofs.Laws.{room-same, same-room-refl, same-room-trans}
 use Rattle.trees.specs.declared.Merge.the-variants.{Add}
 use Rattle.trees.specs.Sums.{Sum}
@@ -14,7 +14,7 @@ use Rattle.trees.specs.Map.{Outcome, formed}
 use Rattle.terms.specs.declared.Change.{Change}
 use Rattle.terms.specs.Adding.{changed}
 use Rattle.terms.specs.Singles.{withCoef}
-use Rattle.sums.specs.Lies.{Lies, Agrees}
+use Rattle.sums.specs.Contract.Lies.{Lies, Agrees}
 use Rattle.sums.proofs.Walk.{Next, next, next-at}
 use Rattle.sums.proofs.Compare.{inner-more}
 use Rattle.adds.proofs.Lying.{lies-to, good-head}

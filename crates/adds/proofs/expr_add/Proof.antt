@@ -5,7 +5,7 @@ use borrow.Author.Needs.{needs}
 use Rattle.cells.specs.Book.{Book, book}
 use Rattle.cells.proofs.Laws.{room-less, room-same}
 use Rattle.trees.specs.Sums.{Sum}
-use Rattle.sums.specs.Lies.{Lies}
+use Rattle.sums.specs.Contract.Lies.{Lies}
 use Rattle.adds.proofs.Lying.{lies-to, lies-copied}
 use Rattle.adds.proofs.expr_add.Statement.{statement}
 use Rattle.adds.proofs.expr_add.Tie as tie

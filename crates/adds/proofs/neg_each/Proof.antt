@@ -3,10 +3,10 @@ use Prim.Native.Nat.{_+_, _-_, _^_, _<_}
 use native.Mathlib.Omega.{arith}
 use borrow.Author.Needs.{needs}
 use Rattle.cells.specs.Book.{Book, book}
-use Rattle.cells.specs.Moves.{SameRoom}
+use Rattle.cells.specs.Contract.Moves.{SameRoom}
 use Rattle.cells.proofs.Laws.{same-room-refl, same-room-trans}
 use Rattle.trees.specs.Sums.{Sum}
-use Rattle.sums.specs.Lies.{Lies}
+use Rattle.sums.specs.Contract.Lies.{Lies}
 use Rattle.sums.proofs.Walk.{Next, next, next-at}
 use Rattle.adds.proofs.Negating.{Negating, start, plain-negated, turn, done}
 use Rattle.adds.proofs.neg_each.Statement.{statement}

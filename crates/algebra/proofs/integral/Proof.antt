@@ -1,6 +1,6 @@
 -- A refusal of reading is handed on; the integral of what was read is written. Assumes nothing.
 use borrow.Author.Needs.{needs}
-use Rattle.records.specs.Tree.{recordsIn}
+use Rattle.formats.specs.Tree.{recordsIn}
 use Rattle.answers.specs.Making.{integrateAndWrite}
 use Rattle.algebra.specs.Reading.{readList}
 use Rattle.algebra.specs.Entries.{integral}

@@ -1,6 +1,6 @@
 -- The derivative is written as a list, or its refusal is handed on. Assumes nothing.
 use borrow.Author.Needs.{needs}
-use Rattle.records.specs.Tree.{recordsIn}
+use Rattle.formats.specs.Tree.{recordsIn}
 use Rattle.answers.specs.Making.{deriveAndWrite, write}
 use Rattle.answers.proofs.Giving.{then-refused, then-held, then-made}
 use Rattle.answers.proofs.derive_and_write.Statement.{statement}

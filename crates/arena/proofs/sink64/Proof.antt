@@ -2,7 +2,7 @@
 use Prim.Native.Nat.{_-_, _≤_}
 use native.Mathlib.Omega.{arith}
 use borrow.Author.Needs.{needs}
-use Rattle.cells.specs.Moves.{Pasted}
+use Rattle.cells.specs.Contract.Moves.{Pasted}
 use Rattle.cells.proofs.Lists.{paste-none, paste-done}
 use Rattle.arena.proofs.Moving.{sink-more}
 use Rattle.arena.proofs.sink64.Statement.{statement}

@@ -2,9 +2,9 @@
 use mathlib.Core.Path.{_≡_}
 use Prim.Native.Nat.{_-_, max}
 use native.Mathlib.Omega.{arith}
-use Rattle.records.specs.Tree.{forest}
-use Rattle.records.specs.Walk.{Walkable}
-use Rattle.records.proofs.Walk.{walk-on}
+use Rattle.formats.specs.Tree.{forest}
+use Rattle.formats.specs.Contract.Walk.{Walkable}
+use Rattle.formats.proofs.record.Walk.{walk-on}
 use Rattle.bodies.specs.Modifiers.{most}
 use Rattle.bodies.specs.Reading.{runners}
 use Rattle.bodies.proofs.Runs.{most-on, most-none}

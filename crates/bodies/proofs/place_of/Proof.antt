@@ -4,9 +4,9 @@ use Prim.Native.Nat.{ℕ, _-_, _*_, _≤_, _<_}
 use native.Mathlib.Omega.{arith}
 use mathlib.Core.List.{List}
 use lib.ListN.{length}
-use Rattle.records.specs.Tree.{forest, count, nextOf}
-use Rattle.records.specs.Walk.{Walkable}
-use Rattle.bodies.specs.Walks.{placeOf}
+use Rattle.formats.specs.Tree.{forest, count, nextOf}
+use Rattle.formats.specs.Contract.Walk.{Walkable}
+use Rattle.bodies.specs.Contract.Walks.{placeOf}
 use Rattle.bodies.proofs.Runs.{place-zero, place-on, next-is}
 use Rattle.bodies.proofs.place_of.Statement.{statement}
 use Rattle.bodies.proofs.place_of.Tie as tie

@@ -1,8 +1,8 @@
 -- By the number of bodies that the modifier has. Assumes nothing.
 use mathlib.Core.Path.{_≡_, sym, _∙_}
 use borrow.Author.Needs.{needs}
-use Rattle.records.specs.declared.Modifier.{Modifier}
-use Rattle.bodies.specs.Plans.{wayOf}
+use Rattle.formats.specs.declared.record.Modifier.{Modifier}
+use Rattle.bodies.specs.Contract.Plans.{wayOf}
 use Rattle.bodies.specs.declared.Way.{Way}
 use Rattle.bodies.proofs.Plans.{use-one, use-two, is-fork, not-listed}
 use Rattle.bodies.proofs.use_of.Statement.{statement}

@@ -1,7 +1,7 @@
 -- `cells::load` meets its contract: the bits of a finite number are no NaN's. Assumes nothing.
 use borrow.Author.Needs.{needs}
 use lib.Ieee.Bits.{nanBits-is}
-use Rattle.cells.proofs.Laws.{no-nan}
+use Rattle.numbers.proofs.Bits.{no-nan}
 use Rattle.cells.proofs.load.Statement.{statement}
 use Rattle.cells.proofs.load.Tie as tie
 

@@ -1,7 +1,7 @@
 -- `cells::store` meets its contract: five lists are written at one index. Assumes nothing.
 use borrow.Author.Needs.{needs}
 use Rattle.cells.specs.Book.{book}
-use Rattle.cells.proofs.Laws.{no-nan}
+use Rattle.numbers.proofs.Bits.{no-nan}
 use Rattle.cells.proofs.Lists.{put-of}
 use Rattle.cells.proofs.store.Statement.{statement}
 use Rattle.cells.proofs.store.Tie as tie

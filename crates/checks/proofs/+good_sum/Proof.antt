@@ -8,8 +8,8 @@ use borrow.Fn.PlainCycle.{Measures, is, falls, and}
 use mathlib.Core.Path.{refl}
 use Rattle.cells.specs.Book.{Book, book, Room, at}
 use Rattle.cells.proofs.Laws.{room-less}
-use Rattle.sums.specs.Lies.{Held}
-use Rattle.checks.specs.Fine.{Fine}
+use Rattle.sums.specs.Contract.Lies.{Held}
+use Rattle.checks.specs.Contract.Fine.{Fine}
 use Rattle.checks.proofs.Rising.{Passed, outset, passed, rest-fine, rest-inner, rest-follows, pass, held-zero, fails}
 use Rattle.checks.proofs.good_sum.Reads as good-sum
 use Rattle.checks.proofs.good_sum.Kinds as good-sum-kinds

@@ -3,7 +3,7 @@ use native.Mathlib.Omega.{arith}
 use borrow.Author.Needs.{needs}
 use mathlib.Core.Path.{refl}
 use Rattle.cells.specs.Book.{Book, lent}
-use Rattle.checks.specs.Fine.{Term}
+use Rattle.checks.specs.Contract.Fine.{Term}
 use Rattle.checks.proofs.Rising.{term-held, term-room, compared}
 use Rattle.checks.proofs.follows.Statement.{statement}
 use Rattle.checks.proofs.follows.Tie as tie

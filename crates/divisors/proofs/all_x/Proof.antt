@@ -7,7 +7,7 @@ use lib.Ieee.{Float}
 use Rattle.numbers.specs.Signs.{zero64}
 use Rattle.cells.specs.Book.{Book, book, at}
 use Rattle.trees.specs.Sums.{Sum}
-use Rattle.sums.specs.Lies.{Lies}
+use Rattle.sums.specs.Contract.Lies.{Lies}
 use Rattle.sums.proofs.Walk.{Next, next-at}
 use Rattle.divisors.proofs.Powers.{Powers, power-more, power-other, power-end}
 use Rattle.divisors.proofs.all_x.Statement.{statement}

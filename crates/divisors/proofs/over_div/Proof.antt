@@ -9,7 +9,7 @@ use Rattle.trees.specs.Map.{sum}
 use Rattle.terms.specs.Product.{product}
 use Rattle.terms.specs.Quotient.{xTo}
 use Rattle.sums.specs.declared.Formed.the-variants.{Done}
-use Rattle.sums.specs.Lies.{Lies}
+use Rattle.sums.specs.Contract.Lies.{Lies}
 use Rattle.divisors.proofs.Agreed.{given, refusal}
 use Rattle.divisors.proofs.over_div.Statement.{statement}
 use Rattle.divisors.proofs.over_div.Tie as tie

@@ -12,7 +12,7 @@ use Rattle.trees.specs.Kinds.{Div}
 use Rattle.trees.specs.Sums.{entry}
 use Rattle.trees.specs.Map.{formed}
 use Rattle.terms.specs.Singles.{single}
-use Rattle.sums.specs.Lies.{Agrees}
+use Rattle.sums.specs.Contract.Lies.{Agrees}
 use Rattle.divisors.proofs.Heads.{div-head, lies-from-0, single-size}
 use Rattle.divisors.proofs.over_other.Statement.{statement}
 use Rattle.divisors.proofs.over_other.Tie as tie

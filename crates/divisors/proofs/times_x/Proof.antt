@@ -8,7 +8,7 @@ use lib.Ieee.{Float}
 use Rattle.complex.specs.declared.Complex.{Complex}
 use Rattle.numbers.specs.Ops.{_⊕_}
 use Rattle.cells.specs.Book.{Book, book}
-use Rattle.cells.specs.Moves.{SameRoom}
+use Rattle.cells.specs.Contract.Moves.{SameRoom}
 use Rattle.cells.proofs.Laws.{room-same, same-room-refl, same-room-trans}
 use Rattle.trees.specs.declared.Merge.the-variants.{Add}
 use Rattle.trees.specs.Kinds as kinds
@@ -17,11 +17,11 @@ use Rattle.trees.specs.Map.{formed}
 use Rattle.terms.specs.Product.{product}
 use Rattle.terms.specs.Quotient.{xTo}
 use Rattle.terms.proofs.Agree.{product-not}
-use Rattle.sums.specs.Lies.{Lies, Agrees}
+use Rattle.sums.specs.Contract.Lies.{Lies, Agrees}
 use Rattle.sums.proofs.Walk.{Next, next, next-at}
 use Rattle.adds.proofs.Lying.{lies-to}
 use Rattle.adds.proofs.Each.{Adding, Stepped, start, stepped, onward, stopped, done}
-use Rattle.divisors.specs.Dividing.{stepX, timesX}
+use Rattle.divisors.specs.Contract.Dividing.{stepX, timesX}
 use Rattle.divisors.proofs.Powers.{x-product}
 use Rattle.divisors.proofs.Heads.{nothing}
 use Rattle.divisors.proofs.times_x.Statement.{statement}

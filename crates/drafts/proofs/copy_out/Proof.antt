@@ -5,7 +5,7 @@ use borrow.Author.Needs.{needs}
 use mathlib.Core.Path.{_≡_, refl, ap, _∙_}
 use lib.ListN.{length}
 use lib.Seq.{sets, length-sets}
-use Rattle.records.specs.Bytes.{part}
+use Rattle.formats.specs.Bytes.{part}
 use Rattle.drafts.proofs.Lying.{copy-more, copy-all}
 use Rattle.drafts.proofs.copy_out.Statement.{statement}
 use Rattle.drafts.proofs.copy_out.Tie as tie

@@ -1,6 +1,6 @@
 -- Assumes nothing.
 use borrow.Author.Needs.{needs}
-use Rattle.cells.proofs.Laws.{no-nan}
+use Rattle.numbers.proofs.Bits.{no-nan}
 use Rattle.drafts.proofs.push.Statement.{statement}
 use Rattle.drafts.proofs.push.Tie as tie
 

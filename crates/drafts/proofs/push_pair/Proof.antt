@@ -2,7 +2,7 @@
 use borrow.Author.Needs.{needs}
 use lib.Ieee.Scale.{finite}
 use lib.Ieee.Fits.{and-l, and-r}
-use Rattle.cells.proofs.Laws.{no-nan}
+use Rattle.numbers.proofs.Bits.{no-nan}
 use Rattle.drafts.proofs.push_pair.Statement.{statement}
 use Rattle.drafts.proofs.push_pair.Tie as tie
 

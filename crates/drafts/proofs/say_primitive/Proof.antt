@@ -1,7 +1,7 @@
 -- Assumes nothing.
 use borrow.Author.Needs.{needs}
 use mathlib.Core.Path.{ap}
-use Rattle.records.specs.declared.Record.{Record}
+use Rattle.formats.specs.declared.record.Record.{Record}
 use Rattle.drafts.specs.Writing.{append, one, does}
 use Rattle.drafts.proofs.Growing.{drawn-as}
 use Rattle.drafts.proofs.say_primitive.Statement.{statement}

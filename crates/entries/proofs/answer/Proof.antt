@@ -2,7 +2,7 @@
 use mathlib.Core.Path.{sym, _∙_}
 use mathlib.Core.Bool.{true≢false}
 use borrow.Author.Needs.{needs}
-use Rattle.entries.specs.Steps.{good, deep, bad}
+use Rattle.entries.specs.Contract.Steps.{good, deep, bad}
 use Rattle.entries.proofs.Theorem.{from-first}
 use Rattle.entries.proofs.answer.Statement.{statement}
 use Rattle.entries.proofs.answer.Tie as tie

@@ -7,9 +7,9 @@ use mathlib.Core.Path.{_≡_, sym, _∙_}
 use mathlib.Core.Bool.{true, true≢false}
 use lib.ListN.{length}
 use Rattle.cells.specs.Book.{Book, book, Room}
-use Rattle.records.specs.Bytes.{Bytes}
+use Rattle.formats.specs.Bytes.{Bytes}
 use Rattle.entries.specs.Taking.{Weighed, Laid}
-use Rattle.entries.specs.Steps.{Answered}
+use Rattle.entries.specs.Contract.Steps.{Answered}
 use Rattle.entries.specs.declared.Taken.{Taken}
 use Rattle.entries.specs.declared.Taken.the-variants as taken
 use Rattle.entries.proofs.Theorem.{refuse-length, refuse-entry, none-laid, weigh, laid}

@@ -9,7 +9,7 @@ use mathlib.Core.Path.{refl, sym, _∙_}
 use lib.ListN.{getD}
 use Rattle.trees.specs.Sums.{Sum}
 use Rattle.terms.specs.Product.{pairable, rowable, mulable}
-use Rattle.factors.specs.Apart.{Shape}
+use Rattle.factors.specs.Contract.Apart.{Shape}
 use Rattle.factors.proofs.Shapes.{Part, part, Tests, Tested, tested, test-no, test-on, test-end, row-and, row-none, sum-and, sum-none}
 use Rattle.factors.proofs.can_mul.Reads as can-mul
 use Rattle.factors.proofs.can_mul.Kinds as can-mul-kinds

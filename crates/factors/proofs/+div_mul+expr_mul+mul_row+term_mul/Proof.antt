@@ -9,16 +9,16 @@ use mathlib.Core.Path.{_≡_, refl}
 use lib.Dec.{lit≤}
 use Rattle.numbers.specs.Signs.{zero64}
 use Rattle.cells.specs.Book.{Book, book}
-use Rattle.cells.specs.Moves.{Kept}
+use Rattle.cells.specs.Contract.Moves.{Kept}
 use Rattle.cells.proofs.Laws.{room-less, room-same, kept-refl, kept-trans, room-fresh}
-use Rattle.trees.specs.declared.Refusal.{Refusal}
+use Rattle.limits.specs.declared.Refusal.{Refusal}
 use Rattle.trees.specs.declared.Merge.the-variants.{Add}
 use Rattle.trees.specs.Kinds.{Div}
 use Rattle.trees.specs.Sums.{Sum, none, size, entry}
 use Rattle.trees.specs.Map.{formed, eachInto}
 use Rattle.terms.specs.Product.{pairable, rowable, mulable, mulTerm, mulInto}
 use Rattle.sums.specs.declared.Formed.the-variants.{Done, Refused}
-use Rattle.sums.specs.Lies.{Lies, Agrees}
+use Rattle.sums.specs.Contract.Lies.{Lies, Agrees}
 use Rattle.sums.proofs.Walk.{Next, next-at, lies-empty}
 use Rattle.factors.proofs.Shapes.{row-and, sum-and}
 use Rattle.factors.proofs.Lying.{lies-apart, apart-rest, Agreed, agreed-done}

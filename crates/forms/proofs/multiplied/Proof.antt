@@ -7,7 +7,7 @@ use Rattle.cells.specs.Book.{Book, book}
 use Rattle.cells.proofs.Laws.{room-fresh}
 use Rattle.trees.specs.Sums.{Sum}
 use Rattle.terms.specs.Product.{product}
-use Rattle.sums.specs.Lies.{Lies, Agrees}
+use Rattle.sums.specs.Contract.Lies.{Lies, Agrees}
 use Rattle.factors.proofs.Lying.{agreed-refused, agree-refused}
 use Rattle.forms.proofs.Laid.{carry-room, carried}
 use Rattle.forms.proofs.multiplied.Statement.{statement}

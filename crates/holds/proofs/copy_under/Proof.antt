@@ -1,7 +1,7 @@
 -- `holds::copy_under` meets its contract: the deepest of the top k is found among them, and copied below them. Assumes nothing.
 use Prim.Native.Nat.{_-_}
 use borrow.Author.Needs.{needs}
-use Rattle.arena.specs.Arena.{Arena, arena}
+use Rattle.arena.specs.Contract.Arena.{Arena, arena}
 use Rattle.arena.specs.declared.Deep.the-variants.{From, Short}
 use Rattle.holds.proofs.Moves.{Found, found-is, found-for, search-asks, search-top, copied-short, copied-never, copied-asks, copied}
 use Rattle.holds.proofs.copy_under.Statement.{statement}

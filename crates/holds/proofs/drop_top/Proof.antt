@@ -1,6 +1,6 @@
 -- `holds::drop_top` meets its contract: the stack ends where its top begins. Assumes nothing.
 use borrow.Author.Needs.{needs}
-use Rattle.arena.specs.Arena.{Arena, arena}
+use Rattle.arena.specs.Contract.Arena.{Arena, arena}
 use Rattle.holds.proofs.Moves.{found-is, search-asks, dropped-short, dropped}
 use Rattle.holds.proofs.drop_top.Statement.{statement}
 use Rattle.holds.proofs.drop_top.Tie as tie

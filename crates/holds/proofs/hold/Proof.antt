@@ -1,6 +1,6 @@
 -- `holds::hold` meets its contract: the block of the top k is raised to end at v. Assumes nothing.
 use borrow.Author.Needs.{needs}
-use Rattle.arena.specs.Arena.{Arena, arena}
+use Rattle.arena.specs.Contract.Arena.{Arena, arena}
 use Rattle.arena.specs.declared.Deep.the-variants.{From}
 use Rattle.holds.proofs.Moves.{Found, found-is, search-asks, raise-asks, held-short, held-under}
 use Rattle.holds.proofs.hold.Statement.{statement}

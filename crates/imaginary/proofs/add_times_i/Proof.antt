@@ -11,7 +11,7 @@ use Rattle.trees.specs.Sums.{Sum}
 use Rattle.trees.specs.Map.{sum, refused}
 use Rattle.terms.specs.Singles.{constant}
 use Rattle.terms.specs.Product.{product}
-use Rattle.sums.specs.Lies.{Lies}
+use Rattle.sums.specs.Contract.Lies.{Lies}
 use Rattle.factors.proofs.Lying.{agreed-refused}
 use Rattle.adds.proofs.Lying.{lies-to, lies-copied}
 use Rattle.imaginary.proofs.Laws.{imaginary-finite, Made, made, then-made, then-refused}

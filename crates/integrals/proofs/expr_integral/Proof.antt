@@ -4,7 +4,7 @@ use native.Mathlib.Omega.{arith}
 use borrow.Author.Needs.{needs}
 use mathlib.Core.Path.{_∙_}
 use Rattle.cells.specs.Book.{Book, book}
-use Rattle.cells.specs.Moves.{SameRoom}
+use Rattle.cells.specs.Contract.Moves.{SameRoom}
 use Rattle.adds.proofs.Lying.{readable}
 use Rattle.calculus.specs.Integral.{integrateInto, integrate}
 use Rattle.calculus.proofs.Eaching.{Eaching, Turn, each-start, each-end, turn-within, turn-asks, turn-stop, turn-next}

@@ -1,7 +1,7 @@
 -- What was written is what undoes the sum. Assumes nothing.
 use borrow.Author.Needs.{needs}
 use mathlib.Core.Path.{subst}
-use Rattle.drafts.specs.Lying.{Answered}
+use Rattle.drafts.specs.Contract.Lying.{Answered}
 use Rattle.inverse.proofs.Searching.{inverse-is}
 use Rattle.inverse.proofs.algebraic_inverse.Statement.{statement}
 use Rattle.inverse.proofs.algebraic_inverse.Tie as tie

@@ -3,7 +3,7 @@ use borrow.Author.Needs.{needs}
 use native.Mathlib.Omega.{arith}
 use mathlib.Core.Path.{ap}
 use mathlib.Core.List.{List}
-use Rattle.records.specs.Tree.{end}
+use Rattle.formats.specs.Tree.{end}
 use Rattle.inverse.specs.Inverse.{Word, spell}
 use Rattle.inverse.proofs.Words.{start-ready, spelt-join, told, told-as}
 use Rattle.inverse.proofs.Forms.{full-words}

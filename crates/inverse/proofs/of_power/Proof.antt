@@ -2,7 +2,7 @@
 use borrow.Author.Needs.{needs}
 use native.Mathlib.Omega.{arith}
 use borrow.Author.Tests.{not-true, not-false}
-use Rattle.trees.specs.declared.Refusal.the-variants.{NeedsMath}
+use Rattle.limits.specs.declared.Refusal.the-variants.{NeedsMath}
 use Rattle.inverse.proofs.Words.{start-ready, spelt-join, told, told-as, told-refused}
 use Rattle.inverse.proofs.Forms.{power-known, power-unknown}
 use Rattle.inverse.proofs.of_power.Statement.{statement}

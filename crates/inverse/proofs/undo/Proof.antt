@@ -1,6 +1,6 @@
 -- Assumes nothing.
 use borrow.Author.Needs.{needs}
-use Rattle.trees.specs.declared.Refusal.the-variants.{TooComplex}
+use Rattle.limits.specs.declared.Refusal.the-variants.{TooComplex}
 use Rattle.inverse.proofs.Words.{told-as, told-refused}
 use Rattle.inverse.proofs.Forms.{others-none, others-power, others-beside, others-many}
 use Rattle.inverse.proofs.undo.Statement.{statement}

@@ -1,6 +1,6 @@
 -- `leaves::apply` meets its contract: by how many sums the primitive takes. Assumes nothing.
 use Prim.Native.Nat.{_-_}
-use Rattle.records.specs.Names.{primitiveOf}
+use Rattle.formats.specs.Names.{primitiveOf}
 use Rattle.leaves.proofs.Choices.{taken-none, taken-some, taken-two}
 use Rattle.steps.proofs.Laws.{does-stop}
 use borrow.Author.Needs.{needs}

@@ -1,6 +1,6 @@
 -- `leaves::leaf_of` meets its contract: in each arm the kind is the arm's. Assumes nothing.
 use Prim.Native.Nat.{_-_}
-use Rattle.records.specs.declared.KindFound.the-variants.{Known}
+use Rattle.formats.specs.declared.record.KindFound.the-variants.{Known}
 use Rattle.leaves.proofs.Choices.{leaf-kind, leaf-real, leaf-complex, leaf-primitive, leaf-marker, leaf-refused}
 use Rattle.steps.proofs.Laws.{does-stop, does-nothing}
 use borrow.Author.Needs.{needs}

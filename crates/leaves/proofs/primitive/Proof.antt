@@ -1,7 +1,7 @@
 -- `leaves::primitive` meets its contract: the step, and then what is counted of it. Assumes nothing.
 use Prim.Native.Nat.{_-_}
-use Rattle.records.specs.Names.{primitiveOf}
-use Rattle.records.specs.declared.Primitive.the-variants.{Complex}
+use Rattle.formats.specs.Names.{primitiveOf}
+use Rattle.formats.specs.declared.record.Primitive.the-variants.{Complex}
 use Rattle.leaves.proofs.Choices.{primitive-done, same-number}
 use borrow.Author.Needs.{needs}
 use Rattle.leaves.proofs.primitive.Statement.{statement}

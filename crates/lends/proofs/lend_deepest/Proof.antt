@@ -2,7 +2,7 @@
 use Prim.Native.Nat.{_+_, _-_, _≤_}
 use native.Mathlib.Omega.{arith}
 use borrow.Author.Needs.{needs}
-use Rattle.arena.specs.Arena.{Arena, arena}
+use Rattle.arena.specs.Contract.Arena.{Arena, arena}
 use Rattle.arena.specs.declared.Deep.{Deep}
 use Rattle.arena.specs.declared.Deep.the-variants.{From, Short}
 use Rattle.holds.specs.Holding.{deepest}

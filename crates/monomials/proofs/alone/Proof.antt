@@ -5,7 +5,7 @@ use borrow.Author.Needs.{needs}
 use Rattle.cells.specs.Book.{Book, book}
 use Rattle.cells.proofs.Laws.{room-less}
 use Rattle.trees.specs.Sums.{none}
-use Rattle.sums.specs.Lies.{Lies}
+use Rattle.sums.specs.Contract.Lies.{Lies}
 use Rattle.sums.proofs.Walk.{lies-empty}
 use Rattle.monomials.proofs.alone.Statement.{statement}
 use Rattle.monomials.proofs.alone.Tie as tie

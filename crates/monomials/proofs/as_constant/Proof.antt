@@ -8,9 +8,9 @@ use Rattle.cells.specs.Book.{Book, book}
 use Rattle.trees.specs.Sums.{Sum}
 use Rattle.trees.specs.Map as map
 use Rattle.terms.specs.Singles.{asConstant}
-use Rattle.sums.specs.Lies.{Lies}
+use Rattle.sums.specs.Contract.Lies.{Lies}
 use Rattle.sums.proofs.Walk.{next-at}
-use Rattle.monomials.specs.Reads.{constantOf}
+use Rattle.monomials.specs.Contract.Reads.{constantOf}
 use Rattle.monomials.proofs.Reading.{not-one, one}
 use Rattle.monomials.proofs.as_constant.Statement.{statement}
 use Rattle.monomials.proofs.as_constant.Tie as tie

@@ -6,7 +6,7 @@ use mathlib.Core.List.{[], _∷_}
 use Rattle.cells.specs.Book.{Book, book}
 use Rattle.trees.specs.Sums.{none, size}
 use Rattle.terms.proofs.Steps.{differ}
-use Rattle.sums.specs.Lies.{Lies}
+use Rattle.sums.specs.Contract.Lies.{Lies}
 use Rattle.sums.proofs.Walk.{lies-empty}
 use Rattle.monomials.proofs.constant_sum.Statement.{statement}
 use Rattle.monomials.proofs.constant_sum.Tie as tie

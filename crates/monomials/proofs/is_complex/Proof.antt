@@ -7,7 +7,7 @@ use Rattle.cells.specs.Book.{Book, book, at}
 use Rattle.trees.specs.Sums.{Sum}
 use Rattle.terms.specs.Singles.{isComplex}
 use Rattle.terms.proofs.Agree.{complexEntry}
-use Rattle.sums.specs.Lies.{Lies}
+use Rattle.sums.specs.Contract.Lies.{Lies}
 use Rattle.adds.proofs.Lying.{readable}
 use Rattle.monomials.proofs.Reading.{scan, scan-all, scan-found, scan-past, scan-end}
 use Rattle.monomials.proofs.is_complex.Statement.{statement}

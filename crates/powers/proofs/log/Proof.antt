@@ -5,10 +5,10 @@ use mathlib.Core.Path.{_≡_, refl, sym, ap, _∙_}
 use Rattle.cells.specs.Book.{Book, book}
 use Rattle.trees.specs.Sums.{Sum}
 use Rattle.terms.specs.Singles.{asConstant}
-use Rattle.sums.specs.Lies.{Lies}
-use Rattle.monomials.specs.Reads.{constantOf}
+use Rattle.sums.specs.Contract.Lies.{Lies}
+use Rattle.monomials.specs.Contract.Reads.{constantOf}
 use Rattle.powers.specs.declared.Real.{Real}
-use Rattle.powers.specs.Reals.{realOf}
+use Rattle.powers.specs.Contract.Reals.{realOf}
 use Rattle.powers.proofs.Reals.{log-real, log-not, log-head}
 use Rattle.powers.proofs.log.Statement.{statement}
 use Rattle.powers.proofs.log.Tie as tie

@@ -9,10 +9,10 @@ use Rattle.trees.specs.Sums.{Sum}
 use Rattle.terms.specs.Singles.{asConstant, isX}
 use Rattle.terms.specs.Power.{isEuler}
 use Rattle.terms.proofs.Steps.{and-both}
-use Rattle.sums.specs.Lies.{Lies}
-use Rattle.monomials.specs.Reads.{constantOf}
+use Rattle.sums.specs.Contract.Lies.{Lies}
+use Rattle.monomials.specs.Contract.Reads.{constantOf}
 use Rattle.powers.specs.declared.Real.{Real}
-use Rattle.powers.specs.Reals.{realOf, eulerIs}
+use Rattle.powers.specs.Contract.Reals.{realOf, eulerIs}
 use Rattle.powers.proofs.Reals.{euler-is, real-finite, pow-exp, pow-real, pow-not, x-some, exp-head}
 use Rattle.powers.proofs.pow_in.Statement.{statement}
 use Rattle.powers.proofs.pow_in.Tie as tie

@@ -10,8 +10,8 @@ use Rattle.numbers.specs.Signs.{zero64}
 use Rattle.cells.specs.Book.{Book, book}
 use Rattle.trees.specs.Sums.{Sum}
 use Rattle.terms.specs.Power.{rootable}
-use Rattle.sums.specs.Lies.{Lies}
-use Rattle.roots.specs.Roots.{Rooting}
+use Rattle.sums.specs.Contract.Lies.{Lies}
+use Rattle.roots.specs.Contract.Roots.{Rooting}
 use Rattle.powers.proofs.Reals.{power-whole, power-several, power-math, power-root}
 use Rattle.powers.proofs.power_by.Statement.{statement}
 use Rattle.powers.proofs.power_by.Tie as tie

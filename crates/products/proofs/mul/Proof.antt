@@ -10,7 +10,7 @@ use Rattle.trees.specs.Sums.{Sum}
 use Rattle.terms.specs.Product.{mulable}
 use Rattle.factors.proofs.Shapes.{shape-of}
 use Rattle.factors.proofs.Laws.{whole, product-able, product-not}
-use Rattle.sums.specs.Lies.{Lies}
+use Rattle.sums.specs.Contract.Lies.{Lies}
 use Rattle.products.proofs.mul.Statement.{statement}
 use Rattle.products.proofs.mul.Tie as tie
 

@@ -4,12 +4,12 @@ use borrow.Author.Needs.{needs}
 use borrow.Author.Tests.{not-true, not-false}
 use mathlib.Core.Path.{_≡_, sym, _∙_}
 use Rattle.cells.specs.Book.{Book, book}
-use Rattle.trees.specs.declared.Refusal.the-variants.{NotFinite}
+use Rattle.limits.specs.declared.Refusal.the-variants.{NotFinite}
 use Rattle.trees.specs.Sums.{Sum}
 use Rattle.sums.specs.declared.Formed.the-variants.{Refused}
 use Rattle.sums.specs.declared.Found.{Found}
-use Rattle.sums.specs.Lies.{Lies}
-use Rattle.sums.specs.Putting.{Putting}
+use Rattle.sums.specs.Contract.Lies.{Lies}
+use Rattle.sums.specs.Contract.Putting.{Putting}
 use Rattle.sums.proofs.Nesting.{lies-nests}
 use Rattle.sums.proofs.Putting.{Answer, answer-refused, formed-number}
 use Rattle.puts.proofs.put_block.Statement.{statement}

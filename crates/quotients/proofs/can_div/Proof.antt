@@ -6,10 +6,10 @@ use borrow.Author.Tests.{not-true, not-false}
 use mathlib.Core.Path.{refl, sym, _∙_}
 use Rattle.cells.specs.Book.{Book, book}
 use Rattle.trees.specs.Sums.{Sum}
-use Rattle.sums.specs.Lies.{Lies}
+use Rattle.sums.specs.Contract.Lies.{Lies}
 use Rattle.sums.proofs.Walk.{Next, next, next-at}
 use Rattle.sums.proofs.Compare.{inner-more}
-use Rattle.divisors.specs.Dividing.{Divisor}
+use Rattle.divisors.specs.Contract.Dividing.{Divisor}
 use Rattle.quotients.proofs.Able.{Able, able-on, able-off, able-end}
 use Rattle.divisors.proofs.Heads.{lies-more}
 use Rattle.quotients.proofs.can_div.Statement.{statement}

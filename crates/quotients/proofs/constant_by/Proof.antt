@@ -12,7 +12,7 @@ use Rattle.trees.specs.declared.Merge.the-variants.{Store}
 use Rattle.trees.specs.Kinds.{Div}
 use Rattle.trees.specs.Sums.{none, entry}
 use Rattle.trees.specs.Map.{formed}
-use Rattle.sums.specs.Lies.{Agrees}
+use Rattle.sums.specs.Contract.Lies.{Agrees}
 use Rattle.adds.proofs.Lying.{lies-copied}
 use Rattle.divisors.proofs.Heads.{div-head}
 use Rattle.quotients.proofs.constant_by.Statement.{statement}

@@ -6,7 +6,7 @@ use borrow.Author.Tests.{not-true, not-false}
 use mathlib.Core.Path.{sym, subst}
 use Rattle.cells.specs.Book.{Book, book}
 use Rattle.trees.specs.Sums.{Sum}
-use Rattle.sums.specs.Lies.{Lies, Agrees}
+use Rattle.sums.specs.Contract.Lies.{Lies, Agrees}
 use Rattle.sums.proofs.Walk.{next-at}
 use Rattle.quotients.proofs.Divisors.{several, One, one-term}
 use Rattle.quotients.proofs.div.Statement.{statement}

@@ -4,16 +4,16 @@ use native.Mathlib.Omega.{arith}
 use borrow.Author.Needs.{needs}
 use Rattle.cells.specs.declared.Entry.{Entry}
 use Rattle.cells.specs.Book.{Book, book}
-use Rattle.cells.specs.Moves.{SameRoom}
+use Rattle.cells.specs.Contract.Moves.{SameRoom}
 use Rattle.cells.proofs.Laws.{room-same, same-room-refl, same-room-trans}
 use Rattle.trees.specs.Sums.{Sum, none}
 use Rattle.trees.specs.Map.{Outcome}
 use Rattle.terms.specs.Quotient.{divTerm}
-use Rattle.sums.specs.Lies.{Lies}
+use Rattle.sums.specs.Contract.Lies.{Lies}
 use Rattle.sums.proofs.Walk.{Next, next, next-at}
 use Rattle.adds.proofs.Lying.{lies-to}
 use Rattle.adds.proofs.Each.{Adding, Stepped, start, stepped, onward, stopped, done}
-use Rattle.divisors.specs.Dividing.{Divisor}
+use Rattle.divisors.specs.Contract.Dividing.{Divisor}
 use Rattle.divisors.proofs.Heads.{nothing}
 use Rattle.quotients.proofs.div_each.Statement.{statement}
 use Rattle.quotients.proofs.div_each.Tie as tie

@@ -14,7 +14,7 @@ use Rattle.trees.specs.Map.{formed}
 use Rattle.terms.specs.Outcomes.{quotientCode}
 use Rattle.terms.specs.Singles.{single}
 use Rattle.terms.proofs.Agree.{ratio, ratioOne, over-other}
-use Rattle.sums.specs.Lies.{Agrees}
+use Rattle.sums.specs.Contract.Lies.{Agrees}
 use Rattle.divisors.proofs.Heads.{lies-more}
 use Rattle.quotients.proofs.Terms.{overDiv, by-div, by-power}
 use Rattle.quotients.proofs.div_term.Statement.{statement}

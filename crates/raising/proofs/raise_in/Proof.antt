@@ -4,10 +4,10 @@ use native.Mathlib.Omega.{arith}
 use borrow.Author.Needs.{needs}
 use mathlib.Core.Path.{_≡_, sym, _∙_}
 use Rattle.cells.specs.Book.{Book, book}
-use Rattle.cells.specs.Moves.{SameRoom}
+use Rattle.cells.specs.Contract.Moves.{SameRoom}
 use Rattle.cells.proofs.Laws.{room-less, same-room-refl, same-room-trans}
 use Rattle.trees.specs.Sums.{Sum}
-use Rattle.sums.specs.Lies.{Lies}
+use Rattle.sums.specs.Contract.Lies.{Lies}
 use Rattle.factors.proofs.Lying.{agree-refused}
 use Rattle.raising.proofs.Turns.{Turn, base, Raising, So-far, so-far-start, so-far-operands, so-far-stops, so-far-few, so-far-more, raising-room, so-far-done}
 use Rattle.raising.proofs.raise_in.Statement.{statement}

@@ -6,7 +6,7 @@ use mathlib.Core.Path.{_≡_, sym}
 use Rattle.cells.specs.Book.{Book, book}
 use Rattle.trees.specs.Sums.{Sum}
 use Rattle.terms.specs.Power.{rootable}
-use Rattle.sums.specs.Lies.{Lies}
+use Rattle.sums.specs.Contract.Lies.{Lies}
 use Rattle.roots.proofs.Down.{Down, down-start, down-reads, down-next, root-several, root-x, root-other, root-div, root-none}
 use Rattle.roots.proofs.can_root.Statement.{statement}
 use Rattle.roots.proofs.can_root.Tie as tie

@@ -4,7 +4,7 @@ use native.Mathlib.Omega.{arith}
 use Rattle.cells.specs.Book.{Book, book}
 use Rattle.cells.proofs.Laws.{room-less}
 use Rattle.trees.specs.Sums.{Sum}
-use Rattle.roots.specs.Roots.{Rooting}
+use Rattle.roots.specs.Contract.Roots.{Rooting}
 use Rattle.roots.proofs.Rooting.{rooting-copied}
 use Rattle.roots.proofs.root.Statement.{statement}
 use Rattle.roots.proofs.root.Tie as tie

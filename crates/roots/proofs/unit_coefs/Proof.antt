@@ -7,7 +7,7 @@ use mathlib.Core.Path.{_≡_, sym, _∙_}
 use Rattle.cells.specs.Book.{Book, book}
 use Rattle.trees.specs.Sums.{Sum}
 use Rattle.terms.specs.Power.{unitCoefs}
-use Rattle.sums.specs.Lies.{Lies}
+use Rattle.sums.specs.Contract.Lies.{Lies}
 use Rattle.roots.proofs.Down.{Down, down-start, down-reads, down-next, units-stop, units-more, units-none}
 use Rattle.roots.proofs.unit_coefs.Statement.{statement}
 use Rattle.roots.proofs.unit_coefs.Tie as tie

@@ -2,7 +2,7 @@
 use Prim.Native.Nat.{_≤_}
 use native.Mathlib.Omega.{arith}
 use borrow.Author.Needs.{needs}
-use Rattle.cells.specs.Moves.{Slid}
+use Rattle.cells.specs.Contract.Moves.{Slid}
 use Rattle.cells.proofs.Lists.{slide-none, slide-more, slide-done}
 use Rattle.slides.proofs.slide8.Statement.{statement}
 use Rattle.slides.proofs.slide8.Tie as tie

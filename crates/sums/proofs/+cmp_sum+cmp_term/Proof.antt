@@ -11,7 +11,7 @@ use Rattle.numbers.specs.declared.Ordering.the-variants.{Equal}
 use Rattle.cells.specs.Book.{Book, book, at}
 use Rattle.trees.specs.Sums.{Sum, len}
 use Rattle.trees.specs.Order.{cmpNat}
-use Rattle.sums.specs.Lies.{Lies}
+use Rattle.sums.specs.Contract.Lies.{Lies}
 use Rattle.sums.proofs.Walk.{Next, next, next-at}
 use Rattle.sums.proofs.Compare.{Abreast, outset, second, turn, walked}
 use Rattle.sums.proofs.cmp_sum.Reads as cmp-sum

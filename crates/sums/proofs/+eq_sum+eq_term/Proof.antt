@@ -12,7 +12,7 @@ use lib.Dec.{ltb}
 use Rattle.cells.specs.Book.{Book, book}
 use Rattle.trees.specs.Sums.{Sum}
 use Rattle.trees.specs.Same.{sameSum}
-use Rattle.sums.specs.Lies.{Lies}
+use Rattle.sums.specs.Contract.Lies.{Lies}
 use Rattle.sums.proofs.Walk.{next-at}
 use Rattle.sums.proofs.Sameness.{both, Pair, Paired, paired, pair-end}
 use Rattle.sums.proofs.eq_sum.Reads as eq-sum

@@ -8,7 +8,7 @@ use mathlib.Core.Path.{refl, sym, _∙_}
 use mathlib.Core.List.{List}
 use lib.ListN.{getD}
 use Rattle.trees.specs.Sums.{Sum}
-use Rattle.sums.specs.Nests.{Nests}
+use Rattle.sums.specs.Contract.Nests.{Nests}
 use Rattle.sums.proofs.Nesting.{nests-zero, Rest, Entered, entered, nests-none}
 use Rattle.sums.proofs.nests_within.Reads as nests-within
 use Rattle.sums.proofs.nests_within.Kinds as nests-within-kinds

@@ -6,7 +6,7 @@ use mathlib.Core.Path.{_≡_}
 use lib.ListN.{getD}
 use Rattle.cells.specs.declared.Entry.{Entry}
 use Rattle.trees.specs.Sums.{Sum, size, len}
-use Rattle.sums.specs.Lies.{At}
+use Rattle.sums.specs.Contract.Lies.{At}
 use Rattle.sums.proofs.Walk.{opened, len-empty}
 use Rattle.sums.proofs.count.Statement.{statement}
 use Rattle.sums.proofs.count.Tie as tie

@@ -6,7 +6,7 @@ use mathlib.Core.Path.{_≡_, refl, sym}
 use Rattle.numbers.specs.declared.Ordering.{Ordering}
 use Rattle.cells.specs.Book.{Book, book}
 use Rattle.trees.specs.Sums.{Sum}
-use Rattle.sums.specs.Lies.{Lies}
+use Rattle.sums.specs.Contract.Lies.{Lies}
 use Rattle.sums.proofs.Walk.{Next, next, next-at}
 use Rattle.sums.proofs.Compare.{Seek, inner-more, Sought, sought, past, unseen}
 use Rattle.sums.proofs.find.Statement.{statement}

@@ -1,7 +1,7 @@
 -- `tops::flip` meets its contract: the lower sum is copied out, the upper one sinks to its place, and the copy is put on top. Assumes nothing.
 use Prim.Native.Nat.{_-_}
 use Rattle.arena.proofs.Laws.{space-less, space-same}
-use Rattle.arena.specs.Arena.{Arena}
+use Rattle.arena.specs.Contract.Arena.{Arena}
 use Rattle.cells.proofs.Laws.{room-fresh, room-less, room-same}
 use Rattle.cells.specs.Book.{Book, book}
 use Rattle.tops.proofs.Turning.{Below, below, turned}

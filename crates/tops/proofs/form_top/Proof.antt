@@ -1,16 +1,16 @@
 -- `tops::form_top` meets its contract: the sum on top is taken off, and what is formed of it put on. Assumes nothing.
 use Prim.Native.Nat.{_-_, _+_}
-use Rattle.arena.specs.Arena.{Arena}
+use Rattle.arena.specs.Contract.Arena.{Arena}
 use Rattle.cells.proofs.Laws.{room-fresh, room-same}
 use Rattle.cells.specs.Book.{Room, Book, book}
 use Rattle.forms.specs.Forms.{ofOne}
-use Rattle.records.specs.Names.{primitiveOf}
-use Rattle.records.specs.declared.Primitive.{Primitive}
+use Rattle.formats.specs.Names.{primitiveOf}
+use Rattle.formats.specs.declared.record.Primitive.{Primitive}
 use Rattle.steps.proofs.Laws.{Topmost, topmost, ready-popped}
 use Rattle.tops.proofs.Leaving.{one-formed}
 use Rattle.steps.proofs.Forming.{filled}
 use Rattle.tops.proofs.Table.{of-one-good}
-use Rattle.sums.specs.Lies.{Lies, Agrees}
+use Rattle.sums.specs.Contract.Lies.{Lies, Agrees}
 use Rattle.trees.specs.Sums.{Sum}
 use borrow.Author.Needs.{needs}
 use mathlib.Core.Path.{subst}

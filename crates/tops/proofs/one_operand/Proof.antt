@@ -1,12 +1,12 @@
 -- `tops::one_operand` meets its contract: too few sums, none left, one formed, or the sum twice. Assumes nothing.
 use Prim.Native.Nat.{_-_, _≤_}
-use Rattle.arena.specs.Arena.{Arena}
+use Rattle.arena.specs.Contract.Arena.{Arena}
 use Rattle.cells.specs.Book.{book}
-use Rattle.records.specs.Names.{primitiveOf}
-use Rattle.records.specs.Table.{row}
+use Rattle.formats.specs.Names.{primitiveOf}
+use Rattle.formats.specs.Table.{row}
 use Rattle.steps.proofs.Laws.{does-none, tops-one, Topmost, topmost}
 use Rattle.tops.proofs.Leaving.{one-popped, one-twice}
-use Rattle.steps.specs.Parts.{Tops}
+use Rattle.steps.specs.Contract.Parts.{Tops}
 use borrow.Author.Needs.{needs}
 use mathlib.Core.List.{[], _∷_}
 use mathlib.Core.Path.{sym, _∙_}

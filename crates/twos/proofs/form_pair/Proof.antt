@@ -1,16 +1,16 @@
 -- `twos::form_pair` meets its contract: the two sums on top are taken off, and what is formed of them put on. Assumes nothing.
 use Prim.Native.Nat.{_-_, _+_}
-use Rattle.arena.specs.Arena.{Arena}
+use Rattle.arena.specs.Contract.Arena.{Arena}
 use Rattle.cells.proofs.Laws.{room-fresh, room-same}
 use Rattle.cells.specs.Book.{Room, Book, book}
 use Rattle.forms.specs.Forms.{ofTwo}
-use Rattle.records.specs.Names.{primitiveOf}
-use Rattle.records.specs.declared.Primitive.{Primitive}
+use Rattle.formats.specs.Names.{primitiveOf}
+use Rattle.formats.specs.declared.record.Primitive.{Primitive}
 use Rattle.steps.proofs.Laws.{Pair, pair, ready-popped}
 use Rattle.tops.proofs.Leaving.{two-formed}
 use Rattle.steps.proofs.Forming.{filled}
 use Rattle.tops.proofs.Table.{of-two-good}
-use Rattle.sums.specs.Lies.{Lies, Held, Agrees}
+use Rattle.sums.specs.Contract.Lies.{Lies, Held, Agrees}
 use Rattle.trees.specs.Sums.{Sum}
 use borrow.Author.Needs.{needs}
 use mathlib.Core.Path.{subst}

@@ -1,9 +1,9 @@
 -- `twos::two_leave` meets its contract: one formed, the two turned, or the lower one once more. Assumes nothing.
 use Prim.Native.Nat.{_-_, _≤_}
-use Rattle.arena.specs.Arena.{Arena}
+use Rattle.arena.specs.Contract.Arena.{Arena}
 use Rattle.cells.specs.Book.{book}
-use Rattle.records.specs.Names.{primitiveOf}
-use Rattle.records.specs.Table.{row}
+use Rattle.formats.specs.Names.{primitiveOf}
+use Rattle.formats.specs.Table.{row}
 use Rattle.steps.proofs.Laws.{Pair, pair}
 use Rattle.tops.proofs.Leaving.{two-turned, two-over}
 use Rattle.tops.proofs.Table.{rows}

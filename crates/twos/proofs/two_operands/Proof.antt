@@ -1,9 +1,9 @@
 -- `twos::two_operands` meets its contract: too few sums, or two. Assumes nothing.
 use Prim.Native.Nat.{_-_}
-use Rattle.arena.specs.Arena.{Arena}
+use Rattle.arena.specs.Contract.Arena.{Arena}
 use Rattle.cells.specs.Book.{book}
 use Rattle.steps.proofs.Laws.{does-none, does-only, tops-one, tops-two, topmost}
-use Rattle.steps.specs.Parts.{Tops}
+use Rattle.steps.specs.Contract.Parts.{Tops}
 use borrow.Author.Needs.{needs}
 use mathlib.Core.List.{[], _∷_}
 use native.Mathlib.Omega.{arith}

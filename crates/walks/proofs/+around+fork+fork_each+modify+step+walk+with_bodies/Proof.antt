@@ -3,12 +3,12 @@ use native.Mathlib.Omega.{arith}
 use borrow.Author.Needs.{needs}
 use Prim.Native.Nat.{_+_, _-_, _*_, _≤_}
 use mathlib.Core.Bool.{Bool, true}
-use Rattle.records.specs.Tree.{forest, count}
-use Rattle.records.specs.Walk.{Stretch}
-use Rattle.steps.specs.Agree.{Ready}
-use Rattle.bodies.specs.Walks.{walkOf}
+use Rattle.formats.specs.Tree.{forest, count}
+use Rattle.formats.specs.Contract.Walk.{Stretch}
+use Rattle.steps.specs.Contract.Agree.{Ready}
+use Rattle.bodies.specs.Contract.Walks.{walkOf}
 use Rattle.bodies.specs.Reading.{runners}
-use Rattle.bodies.specs.Plans.{modified}
+use Rattle.bodies.specs.Contract.Plans.{modified}
 use Rattle.bodies.proofs.Runs.{walk-none}
 use Rattle.holds.proofs.Moves.{begins-is}
 use Rattle.rounds.proofs.Laws.{Going, Forking, going-start, going-ready, going-step, going-stop, going-end, walk-on, walk-next, walk-rest, round-stop, round-ready, round-held, round-back, round-end, plan-stop, plan-round, plan-end, fork-stop, fork-many, fork-end, forking-begin, forking-ready, forking-done, turn-room, turn-body, turn-lend-stop, turn-ready, turn-walk-stop, turn-next, inner-of, does-told, does-back, rounds-back, began-few, used-told, halt-does, halt-asks, step-leaf, step-nodes, step-bodies, bodily-of}
@@ -50,8 +50,8 @@ use Rattle.walks.proofs.wide.Reads as wide-reads
 use Rattle.holds.proofs.hold.Reads as hold-reads
 use Rattle.lends.proofs.lend_deepest.Reads as lend-deepest-reads
 use Rattle.lends.proofs.put_back.Reads as put-back-reads
-use Rattle.records.proofs.count_nodes.Reads as count-nodes-reads
-use Rattle.records.proofs.record_at.Reads as record-at-reads
+use Rattle.formats.proofs.record.count_nodes.Reads as count-nodes-reads
+use Rattle.formats.proofs.record.record_at.Reads as record-at-reads
 use Rattle.walks.proofs.+around+fork+fork_each+modify+step+walk+with_bodies.{statement}
 use Rattle.walks.proofs.+around+fork+fork_each+modify+step+walk+with_bodies.Tie.{close}
 

@@ -10,9 +10,9 @@ use borrow.Fn.Kinds.{In}
 use borrow.Fn.PlainCycle.{Measures, is, falls, and}
 use Rattle.cells.specs.Book.{Book, book}
 use Rattle.trees.specs.Sums.{Sum}
-use Rattle.sums.specs.Lies.{Lies}
+use Rattle.sums.specs.Contract.Lies.{Lies}
 use Rattle.sums.proofs.Walk.{Next, next-at}
-use Rattle.drafts.specs.Growing.{Ready}
+use Rattle.drafts.specs.Contract.Growing.{Ready}
 use Rattle.drafts.proofs.Growing.{ready-less, ready-drawn, ready-spoken}
 use Rattle.writer.proofs.Turning.{Left, outset, first, number-finite, turn-ready, left-stop, left-more, close-ready, left-end, term-power, term-stop, term-function, turn-zero, turn-stop, turn-more}
 use Rattle.writer.proofs.write_sum.Reads as write-sum

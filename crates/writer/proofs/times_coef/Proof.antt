@@ -3,7 +3,7 @@ use borrow.Author.Needs.{needs}
 use native.Mathlib.Omega.{arith}
 use mathlib.Core.Path.{sym}
 use borrow.Author.Tests.{not-true, not-false}
-use Rattle.records.specs.declared.Primitive.the-variants as prim
+use Rattle.formats.specs.declared.record.Primitive.the-variants as prim
 use Rattle.drafts.specs.Writing.{does, append, one, wrote}
 use Rattle.drafts.proofs.Growing.{ready-less, ready-spoken, drawn-done, spoken-then, spoken-stop}
 use Rattle.writer.proofs.Parts.{times-none, times-as}

@@ -1,7 +1,7 @@
 -- One step after the other; a number that cannot be written ends it. Assumes nothing.
 use borrow.Author.Needs.{needs}
 use native.Mathlib.Omega.{arith}
-use Rattle.records.specs.declared.Primitive.the-variants as prim
+use Rattle.formats.specs.declared.record.Primitive.the-variants as prim
 use Rattle.drafts.specs.Writing.{does, append, one, wrote}
 use Rattle.drafts.proofs.Growing.{ready-less, ready-drawn, ready-spoken, drawn-done, drawn-then, spoken-then, spoken-stop}
 use Rattle.writer.proofs.Parts.{finite-zero}

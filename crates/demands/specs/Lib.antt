@@ -1,3 +1,0 @@
--- The root of demands' definitions.
-pub mod Speed
-pub mod Cases

@@ -1,1 +1,0 @@
--- The root of fields' laws: they stand in records.

@@ -1,1 +1,0 @@
--- The root of fields' definitions: they stand in records.

@@ -1,0 +1,3 @@
+-- What the contracts between own functions cite.
+pub mod Measure
+pub mod Walk

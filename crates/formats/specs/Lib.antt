@@ -1,0 +1,7 @@
+-- The root of formats's definitions.
+pub mod Names
+pub mod Table
+pub mod Bytes
+pub mod Tree
+pub mod Rules
+pub mod Contract

@@ -1,0 +1,3 @@
+-- The root of limits' definitions.
+pub mod Limits
+pub mod Refusals

@@ -1,0 +1,37 @@
+-- Document 01's limits by name, as the code's constants have them.
+use Prim.Native.Nat.{ℕ}
+
+-- a sum, insides counted
+abbrev pub sumEntries : ℕ
+sumEntries = 64
+
+-- how many entries of a sum may lie one inside the other
+abbrev pub sumLevels : ℕ
+sumLevels = 4
+
+-- on the stack and held, while a list is read
+abbrev pub stackEntries : ℕ
+stackEntries = 1024
+
+-- a list that is handed over
+abbrev pub listRecords : ℕ
+listRecords = 2048
+
+-- how many records may lie one inside the other: a node may be inside 128 others
+abbrev pub listLevels : ℕ
+listLevels = 129
+
+-- a node record and a sum entry as bytes
+abbrev pub recordBytes : ℕ
+recordBytes = 24
+
+abbrev pub entryBytes : ℕ
+entryBytes = 32
+
+-- the highest whole power of a sum or a number that is worked out
+abbrev pub highestPower : ℕ
+highestPower = 64
+
+-- on the runner's stack and held
+abbrev pub runValues : ℕ
+runValues = 256

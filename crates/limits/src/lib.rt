@@ -1,0 +1,75 @@
+// Document 01's limits and refusals by name. Nothing else in the code gives a limit or a refusal its number.
+ghost use mathlib.Core.Path.{_≡_};
+ghost use Rattle.limits.specs.Refusals.{refusalNo};
+
+// A sum, insides counted.
+pub const SUM_ENTRIES: usize = 64;
+
+// How many entries of a sum may lie one inside the other.
+pub const SUM_LEVELS: usize = 4;
+
+// On the stack and held, while a list is read.
+pub const STACK_ENTRIES: usize = 1024;
+
+// A list that is handed over.
+pub const LIST_RECORDS: usize = 2048;
+
+// How many records may lie one inside the other: a node may be inside 128 others.
+pub const LIST_LEVELS: usize = 129;
+
+// A node record and a sum entry as bytes.
+pub const RECORD_BYTES: usize = 24;
+
+pub const ENTRY_BYTES: usize = 32;
+
+// The highest whole power of a sum or a number that is worked out.
+pub const HIGHEST_POWER: u64 = 64;
+
+// On the runner's stack and held.
+pub const RUN_VALUES: usize = 256;
+
+// What a refusal is called; refusal_no gives its number.
+pub enum Refusal {
+    TooManyVariables,
+    NotSupported,
+    NoOutput,
+    TooManyOutputs,
+    NonScalar,
+    NonReal,
+    TooComplex,
+    InterpreterBug,
+    NoInverse,
+    NotHandled,
+    BadRecord,
+    NoRoom,
+    TooDeep,
+    NeedsMath,
+    NotFinite,
+    BigPower,
+    OutputRoom,
+}
+
+// The refusal's number in document 01's table.
+pub fn refusal_no(r: Refusal) -> u64
+    ensures { λ n. ⌜ n ≡ refusalNo r ⌝ }
+{
+    match r {
+        Refusal::TooManyVariables => 1,
+        Refusal::NotSupported => 2,
+        Refusal::NoOutput => 3,
+        Refusal::TooManyOutputs => 4,
+        Refusal::NonScalar => 5,
+        Refusal::NonReal => 6,
+        Refusal::TooComplex => 7,
+        Refusal::InterpreterBug => 8,
+        Refusal::NoInverse => 9,
+        Refusal::NotHandled => 10,
+        Refusal::BadRecord => 11,
+        Refusal::NoRoom => 12,
+        Refusal::TooDeep => 13,
+        Refusal::NeedsMath => 14,
+        Refusal::NotFinite => 15,
+        Refusal::BigPower => 16,
+        Refusal::OutputRoom => 17,
+    }
+}

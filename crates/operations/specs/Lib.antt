@@ -1,2 +1,0 @@
--- The root of operations' definitions.
-pub mod Ready

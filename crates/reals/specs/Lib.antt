@@ -1,2 +1,0 @@
--- The root of reals' definitions.
-pub mod Reals

@@ -1,7 +1,0 @@
--- The kind's number is what the byte is held against. Assumes nothing.
-use borrow.Author.Needs.{needs}
-use Rattle.records.proofs.is_a.Statement.{statement}
-use Rattle.records.proofs.is_a.Tie as tie
-
-pub is-a-spec : {M : Type 1} → statement M
-is-a-spec = tie.close (tie.spec (λ c κs. search needs) (λ c. rw (← c .kind-no .ensures)))

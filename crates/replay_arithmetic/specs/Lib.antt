@@ -1,0 +1,2 @@
+-- The root of operations' definitions.
+pub mod Contract

@@ -1,0 +1,1 @@
+-- The root of replay_lists's definitions.

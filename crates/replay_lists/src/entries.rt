@@ -1,0 +1,160 @@
+// The entries under test, each with its answer as a stored line has it.
+use answers::Numbers;
+ghost use Prim.Native.Nat.{_<_};
+
+// What a line is: an input, an answer of an entry, or something else. An answer of `write` begins with the flag that was handed over.
+pub enum Keyword {
+    List,
+    Sum,
+    Read,
+    Derive,
+    Integrate,
+    WriteReal,
+    WriteComplex,
+    Derivative,
+    Integral,
+    Inverse,
+    Other,
+}
+
+// Number, place, how many records or entries were written, and the complex flag, 0 or 1.
+pub struct Answer {
+    pub number: u64,
+    pub place: u64,
+    pub count: u64,
+    pub flag: u64,
+}
+
+pub fn keyword_of(line: &[u8]) -> Keyword {
+    if replay::text::is_keyword(line, b"list") {
+        return Keyword::List;
+    }
+    if replay::text::is_keyword(line, b"sum") {
+        return Keyword::Sum;
+    }
+    if replay::text::is_keyword(line, b"read") {
+        return Keyword::Read;
+    }
+    if replay::text::is_keyword(line, b"derive") {
+        return Keyword::Derive;
+    }
+    if replay::text::is_keyword(line, b"integrate") {
+        return Keyword::Integrate;
+    }
+    if replay::text::is_keyword(line, b"write 0") {
+        return Keyword::WriteReal;
+    }
+    if replay::text::is_keyword(line, b"write 1") {
+        return Keyword::WriteComplex;
+    }
+    if replay::text::is_keyword(line, b"derivative") {
+        return Keyword::Derivative;
+    }
+    if replay::text::is_keyword(line, b"integral") {
+        return Keyword::Integral;
+    }
+    if replay::text::is_keyword(line, b"inverse") {
+        return Keyword::Inverse;
+    }
+    Keyword::Other
+}
+
+// How long the keyword is.
+pub fn word_len(k: Keyword) -> usize {
+    match k {
+        Keyword::List => 4,
+        Keyword::Sum => 3,
+        Keyword::Read => 4,
+        Keyword::Derive => 6,
+        Keyword::Integrate => 9,
+        Keyword::WriteReal => 7,
+        Keyword::WriteComplex => 7,
+        Keyword::Derivative => 10,
+        Keyword::Integral => 8,
+        Keyword::Inverse => 7,
+        Keyword::Other => 0,
+    }
+}
+
+// The row in which an entry's calls are counted; a line that is no answer makes no call.
+pub fn row(k: Keyword) -> usize
+    ensures { λ r. ⌜ r < 8 ⌝ }
+{
+    match k {
+        Keyword::Read => replay::count::READ,
+        Keyword::Derive => replay::count::DERIVE,
+        Keyword::Integrate => replay::count::INTEGRATE,
+        Keyword::WriteReal => replay::count::WRITE,
+        Keyword::WriteComplex => replay::count::WRITE,
+        Keyword::Derivative => replay::count::DERIVATIVE,
+        Keyword::Integral => replay::count::INTEGRAL,
+        Keyword::Inverse => replay::count::INVERSE,
+        _ => replay::count::LINES,
+    }
+}
+
+// Whether the entry is handed a sum; else it is handed a list.
+pub fn takes_sum(k: Keyword) -> bool {
+    match k {
+        Keyword::Derive => true,
+        Keyword::Integrate => true,
+        Keyword::WriteReal => true,
+        Keyword::WriteComplex => true,
+        _ => false,
+    }
+}
+
+// Whether the entry writes a sum; else it writes a list.
+pub fn writes_sum(k: Keyword) -> bool {
+    match k {
+        Keyword::Read => true,
+        Keyword::Derive => true,
+        Keyword::Integrate => true,
+        _ => false,
+    }
+}
+
+pub fn refusal(number: u64, place: u64) -> Answer {
+    Answer {
+        number: number,
+        place: place,
+        count: 0,
+        flag: 0,
+    }
+}
+
+pub fn is_same(a: Answer, b: Answer) -> bool {
+    (a.number == b.number) & (a.place == b.place) & (a.count == b.count) & (a.flag == b.flag)
+}
+
+fn flag_of(complex: bool) -> u64 {
+    if complex { 1 } else { 0 }
+}
+
+fn told(n: Numbers) -> Answer {
+    Answer {
+        number: n.number,
+        place: n.place as u64,
+        count: n.count as u64,
+        flag: flag_of(n.flag),
+    }
+}
+
+fn given(a: answers::Answer) -> Answer {
+    told(answers::answer_numbers(a))
+}
+
+// What the entry of this keyword answers; 0 at 0 with nothing written, which no entry answers, where there is none.
+pub fn call(k: Keyword, input: &[u8], out: &mut [u8]) -> Answer {
+    match k {
+        Keyword::Read => told(algebra::read_numbers(algebra::read(input, out))),
+        Keyword::Derive => given(algebra::derive(input, out)),
+        Keyword::Integrate => given(algebra::integrate(input, out)),
+        Keyword::WriteReal => given(algebra::write(input, false, out)),
+        Keyword::WriteComplex => given(algebra::write(input, true, out)),
+        Keyword::Derivative => given(algebra::derivative(input, out)),
+        Keyword::Integral => given(algebra::integral(input, out)),
+        Keyword::Inverse => given(algebra::inverse(input, out)),
+        _ => refusal(0, 0),
+    }
+}

@@ -1,0 +1,257 @@
+// The lines of a text: an input is held, and the answers after it are replayed on it.
+use crate::calls;
+use crate::entries;
+use crate::entries::Answer;
+use crate::entries::Keyword;
+use replay::text::Decoded;
+use replay::text::Number;
+ghost use Prim.Native.Nat.{_≤_};
+ghost use lib.ListN.{length};
+
+// Bytes of a record and of an entry.
+const RECORD: usize = 24;
+
+const ENTRY: usize = 32;
+
+// The input that the answers are about, and how many bytes it has.
+pub enum Held {
+    Nothing,
+    List(usize),
+    Sum(usize),
+}
+
+// How far the lines went, and what is held there.
+pub struct Reached {
+    pub at: usize,
+    pub held: Held,
+}
+
+// A refusal's number, or 0, and place, and where in the line they end.
+enum Told {
+    Both(u64, u64, usize),
+    Missing,
+}
+
+// An answer and how many bytes are written.
+enum Stored {
+    Answer(Answer, usize),
+    Broken,
+}
+
+fn list_line(line: &[u8], counts: &mut [u64; 64], input: &mut [u8]) -> Held {
+    let decoded = replay::text::decode(line, 4, RECORD, input);
+    match decoded {
+        Decoded::Bytes(n) => {
+            replay::count::note_line(counts, replay::count::LISTS);
+            Held::List(n)
+        }
+        Decoded::Broken => {
+            replay::count::note_line(counts, replay::count::BROKEN);
+            Held::Nothing
+        }
+    }
+}
+
+fn sum_line(line: &[u8], counts: &mut [u64; 64], input: &mut [u8]) -> Held {
+    let decoded = replay::text::decode(line, 3, ENTRY, input);
+    match decoded {
+        Decoded::Bytes(n) => {
+            replay::count::note_line(counts, replay::count::SUMS);
+            Held::Sum(n)
+        }
+        Decoded::Broken => {
+            replay::count::note_line(counts, replay::count::BROKEN);
+            Held::Nothing
+        }
+    }
+}
+
+fn number_place(line: &[u8], at: usize) -> Told {
+    let first = replay::text::number_at(line, at);
+    let Number::Found(number, i) = first else {
+        return Told::Missing;
+    };
+    let second = replay::text::number_at(line, i);
+    let Number::Found(place, j) = second else {
+        return Told::Missing;
+    };
+    Told::Both(number, place, j)
+}
+
+// Bytes of what the entry of this keyword writes one of.
+fn unit_of(k: Keyword) -> usize
+    ensures { λ r. ⌜ 1 ≤ r ⌝ }
+{
+    if entries::writes_sum(k) {
+        ENTRY
+    } else {
+        RECORD
+    }
+}
+
+// The answer whose number, place and flag are known; what is written is in the line from here on, and goes into want.
+fn stored_in(
+    line: &[u8],
+    at: usize,
+    k: Keyword,
+    number: u64,
+    place: u64,
+    flag: u64,
+    want: &mut [u8],
+) -> Stored {
+    let unit = unit_of(k);
+    let decoded = replay::text::decode(line, at, unit, want);
+    let Decoded::Bytes(n) = decoded else {
+        return Stored::Broken;
+    };
+    let answer = Answer {
+        number: number,
+        place: place,
+        count: (n / unit) as u64,
+        flag: flag,
+    };
+    Stored::Answer(answer, n)
+}
+
+// The answer of a line; that of `read` has a flag behind the place.
+fn stored_of(line: &[u8], k: Keyword, want: &mut [u8]) -> Stored {
+    let both = number_place(line, entries::word_len(k));
+    let Told::Both(number, place, i) = both else {
+        return Stored::Broken;
+    };
+    let Keyword::Read = k else {
+        return stored_in(line, i, k, number, place, 0, want);
+    };
+    let third = replay::text::number_at(line, i);
+    let Number::Found(flag, j) = third else {
+        return Stored::Broken;
+    };
+    stored_in(line, j, k, number, place, flag, want)
+}
+
+// The calls on the first n bytes of the input, of whose output the first m bytes of want are stored.
+fn replay(
+    name: &[u8],
+    counts: &mut [u64; 64],
+    k: Keyword,
+    input: &[u8],
+    n: usize,
+    answer: Answer,
+    want: &[u8],
+    m: usize,
+) {
+    if input.len() < n {
+        replay::count::note_line(counts, replay::count::BROKEN);
+        return;
+    }
+    if want.len() < m {
+        replay::count::note_line(counts, replay::count::BROKEN);
+        return;
+    }
+    calls::replay(name, counts, k, &input[..n], answer, &want[..m]);
+}
+
+// Whether what is held is what the entry is handed.
+fn is_fit(k: Keyword, held: Held) -> bool {
+    match held {
+        Held::List(_) => !entries::takes_sum(k),
+        Held::Sum(_) => entries::takes_sum(k),
+        Held::Nothing => false,
+    }
+}
+
+fn held_bytes(held: Held) -> usize {
+    match held {
+        Held::List(n) => n,
+        Held::Sum(n) => n,
+        Held::Nothing => 0,
+    }
+}
+
+fn answer_line(
+    name: &[u8],
+    line: &[u8],
+    counts: &mut [u64; 64],
+    k: Keyword,
+    held: Held,
+    input: &[u8],
+    want: &mut [u8],
+) {
+    if !is_fit(k, held) {
+        replay::count::note_line(counts, replay::count::BROKEN);
+        return;
+    }
+    let n = held_bytes(held);
+    let stored = stored_of(line, k, want);
+    let Stored::Answer(answer, m) = stored else {
+        replay::count::note_line(counts, replay::count::BROKEN);
+        return;
+    };
+    replay(name, counts, k, input, n, answer, want, m);
+}
+
+// One line: what is held after it.
+fn run(
+    name: &[u8],
+    line: &[u8],
+    counts: &mut [u64; 64],
+    held: Held,
+    input: &mut [u8],
+    want: &mut [u8],
+) -> Held {
+    replay::count::note_line(counts, replay::count::LINE);
+    let k = entries::keyword_of(line);
+    match k {
+        Keyword::List => list_line(line, counts, input),
+        Keyword::Sum => sum_line(line, counts, input),
+        Keyword::Other => {
+            replay::count::note_line(counts, replay::count::SKIPPED);
+            held
+        }
+        _ => {
+            answer_line(name, line, counts, k, held, input, want);
+            held
+        }
+    }
+}
+
+// Where the line that starts here ends: at a newline, or at n.
+fn end(text: &[u8], at: usize, n: usize) -> usize
+    requires { ⌜ (at ≤ n) × (n ≤ length (now text)) ⌝ }
+    ensures { λ r. ⌜ (at ≤ r) × (r ≤ n) ⌝ }
+{
+    let mut i = at;
+    while i < n {
+        if text[i] == b'\n' {
+            return i;
+        }
+        i = i + 1;
+    }
+    n
+}
+
+// Every whole line of the first n bytes.
+pub fn run_all(
+    name: &[u8],
+    text: &[u8],
+    n: usize,
+    counts: &mut [u64; 64],
+    held: Held,
+    input: &mut [u8],
+    want: &mut [u8],
+) -> Reached
+    requires { ⌜ n ≤ length (now text) ⌝ }
+    ensures { λ r. ⌜ r .at ≤ n ⌝ }
+{
+    let mut at = 0usize;
+    let mut held = held;
+    while at < n {
+        let e = end(text, at, n);
+        if e == n {
+            return Reached { at: at, held: held };
+        }
+        held = run(name, &text[at..e], counts, held, input, want);
+        at = e + 1;
+    }
+    Reached { at: at, held: held }
+}

@@ -1,0 +1,13 @@
+// Replays stored answers: lists and sums, each with the answers of the entries, in the form that vectors/README.md describes.
+mod calls;
+mod entries;
+mod files;
+mod lines;
+
+fn main() {
+    let mut counts = [0u64; 64];
+    files::run(b"lists.txt", &mut counts);
+    files::run(b"sums.txt", &mut counts);
+    files::run(b"limits.txt", &mut counts);
+    replay::count::summary(&counts);
+}

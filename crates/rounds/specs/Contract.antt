@@ -1,0 +1,2 @@
+-- What the contracts between own functions cite.
+pub mod Runs

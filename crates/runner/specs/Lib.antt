@@ -1,4 +1,0 @@
--- The root of runner's definitions.
-pub mod Primitives
-pub mod Running
-pub mod Views

@@ -1,1 +1,0 @@
--- The root of tables' laws: they stand in records.

@@ -1,9 +1,0 @@
--- Assumes nothing.
-use borrow.Author.Needs.{needs}
-use Rattle.records.specs.Names.{primitiveOf}
-use Rattle.records.proofs.Table.{unpacked}
-use Rattle.tables.proofs.left.Statement.{statement}
-use Rattle.tables.proofs.left.Tie as tie
-
-pub left-spec : {M : Type 1} → statement M
-left-spec = tie.close (tie.spec (λ c κs. search needs) (λ c. search needs) (λ c. rw (c .table-at .ensures, unpacked (primitiveOf (c .before .args .code)) .1)))

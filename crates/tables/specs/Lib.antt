@@ -1,1 +1,0 @@
--- The root of tables' definitions: they stand in records.

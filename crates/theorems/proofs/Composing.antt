@@ -1,0 +1,152 @@
+-- The entries compose: derivative is read, derive and write, through bytes or not; integral likewise. What read, derive and integrate write is a good sum,
+-- and what write, derivative, integral and inverse write is a good list. Assumes nothing.
+use Prim.Native.Nat.{ℕ, _*_, _≤_}
+use native.Mathlib.Omega.{arith}
+use mathlib.Core.Path.{_≡_, refl, sym, ap, subst, _∙_}
+use mathlib.Core.Bool.{Bool}
+use mathlib.Core.List.{List}
+use lib.ListN.{take}
+use lib.Seq.{sets}
+use Rattle.limits.specs.declared.Refusal.{Refusal}
+use Rattle.limits.specs.declared.Refusal.the-variants.{OutputRoom}
+use Rattle.trees.specs.Sums.{Sum}
+use Rattle.trees.specs.Map.{Outcome, sum}
+use Rattle.terms.specs.Singles.{GoodSum}
+use Rattle.arena.proofs.Laws.{good-some}
+use Rattle.formats.specs.Tree.{recordsIn}
+use Rattle.entries.specs.Encoding.{entriesIn, encodeSum}
+use Rattle.entries.proofs.Laws.{length-sum}
+use Rattle.bodies.specs.Reading.{Read, done, refusedAt}
+use Rattle.calculus.specs.Derivative as derivatives
+use Rattle.calculus.specs.Integral as integrals
+use Rattle.calculus.proofs.Good.{derive-good, integrate-good}
+use Rattle.answers.specs.declared.Answer.{Answer}
+use Rattle.answers.specs.declared.Answer.the-variants as given
+use Rattle.answers.specs.Promises.{Promise}
+use Rattle.answers.specs.Making as making
+use Rattle.answers.specs.Making.{Made, ofOutcome, ofSum, write, derive, integrate, deriveAndWrite, integrateAndWrite, Gives, OfBytes}
+use Rattle.answers.proofs.Giving.{gives-refusal}
+use Rattle.answers.proofs.Taking.{of-good}
+use Rattle.answers.proofs.Told.{Success, success, refusal, not-made, refused-same, sum-same, SumMade, sum-made, refused-outcome, first-bytes}
+use Rattle.algebra.specs.Reading.{readList, madeOf, flagOf, answerOf, bytesOf}
+use Rattle.algebra.specs.Entries.{afterRead, derivative, integral}
+use Rattle.algebra.specs.declared.ReadAnswer.the-variants as answer
+use Rattle.theorems.proofs.Reading.{sum-good, unflagged, sum-flagged, refusal-flagged}
+
+-- ---- what `read` tells
+
+-- the sum's bytes are the output's first
+pub record ReadTold (x : Read) (n : ℕ) (c : Bool) (out′ : List ℕ) : Type 0 where
+  pub s : Sum
+  pub handled : Bool
+  pub is : x ≡ done s c handled
+  pub bytes : take (32 * n) out′ ≡ encodeSum s
+
+sum-read : (x : Read) {n : ℕ} {c : Bool} {bytes out′ : List ℕ} (out : List ℕ) → madeOf x ≡ making.made n bytes → flagOf x ≡ c → n ≤ entriesIn out → out′ ≡ sets out 0 bytes → ReadTold x n c out′
+sum-read (done s d h) {n} out e f fits w =
+    let z = sum-same s e in
+    record {
+      s = s;
+      handled = h;
+      is = rw f refl;
+      bytes = ap (take (32 * n)) (w ∙ ap (sets out 0) (z .1)) ∙ first-bytes (encodeSum s) out (32 * n) (omega (arith, z .0, length-sum s)) (omega (arith, fits));
+    }
+sum-read (refusedAt q at h) out e f fits w = absurd (not-made e)
+
+pub read-told : (x : Read) {out out′ : List ℕ} {n : ℕ} {c : Bool} → Promise (answerOf x) (bytesOf x) out out′ (answer.Sum n c) → ReadTold x n c out′
+read-told x {out} {out′} p =
+    let u = unflagged x p in
+    let f = sum-flagged (flagOf x) (u .answer) (u .is) in
+    let o = success entriesIn (madeOf x) (subst (λ (a : Answer). Gives entriesIn (madeOf x) out out′ a) (f .0) (u .gives)) in
+    sum-read x out (o .is) (f .1) (o .fits) (o .written)
+
+refusal-read : (x : Read) {q : Refusal} {at : ℕ} → madeOf x ≡ making.refusedAt q at → (h : Bool) × (x ≡ refusedAt q at h)
+refusal-read (refusedAt p i h) e = let z = refused-same e in (h, rw (z .0, z .1) refl)
+refusal-read (done s c h) e = absurd (not-made (sym e))
+
+pub read-refusal : (x : Read) {out out′ : List ℕ} {q : Refusal} {at : ℕ} → Promise (answerOf x) (bytesOf x) out out′ (answer.Refused q at) → (q ≡ OutputRoom → ⊥) → (h : Bool) × (x ≡ refusedAt q at h)
+read-refusal x {out} {out′} p n =
+    let u = unflagged x p in
+    refusal-read x (refusal entriesIn (madeOf x) (subst (λ (a : Answer). Gives entriesIn (madeOf x) out out′ a) (refusal-flagged (flagOf x) (u .answer) (u .is)) (u .gives)) n)
+
+-- reading refused, and not for want of room
+pub after-refusal : (l : List ℕ) {out₁ out₁′ : List ℕ} {q : Refusal} {at : ℕ} (f : Bool → Sum → Made) (out : List ℕ) → Promise (answerOf (readList l)) (bytesOf (readList l)) out₁ out₁′ (answer.Refused q at) → (q ≡ OutputRoom → ⊥) → Gives recordsIn (afterRead (readList l) f) out out (given.Refused q at)
+after-refusal l {out₁} {out₁′} {q} {at} f out p n = let w = read-refusal (readList l) p n in rw (w .1) (gives-refusal recordsIn q at out)
+
+-- ---- through bytes
+
+-- g derives or integrates: of a good sum it makes a good one
+module _ (g : Sum → Outcome) (keeps : (s d : Sum) → GoodSum s → g s ≡ sum d → GoodSum d) (l : List ℕ) {out₁ out₁′ : List ℕ} where
+  module _ {n : ℕ} {c : Bool} (p : Promise (answerOf (readList l)) (bytesOf (readList l)) out₁ out₁′ (answer.Sum n c)) (out₂ out₂′ : List ℕ) where
+    told : ReadTold (readList l) n c out₁′
+    told = read-told (readList l) p
+
+    good : GoodSum (told .s)
+    good = sum-good l (told .is)
+
+    of-told : {r : Answer} → OfBytes entriesIn (λ s. ofOutcome (g s) ofSum) (take (32 * n) out₁′) out₂ out₂′ r → Gives entriesIn (ofOutcome (g (told .s)) ofSum) out₂ out₂′ r
+    of-told {r} q = of-good (told .s) (good .good) (good-some good) (good .room) (subst (λ z. OfBytes entriesIn (λ s. ofOutcome (g s) ofSum) z out₂ out₂′ r) (told .bytes) q)
+
+    -- g refused, and not for want of room
+    pub composed-refusal : {q : Refusal} {at : ℕ} (out : List ℕ) → OfBytes entriesIn (λ s. ofOutcome (g s) ofSum) (take (32 * n) out₁′) out₂ out₂′ (given.Refused q at) → (q ≡ OutputRoom → ⊥)
+        → Gives recordsIn (afterRead (readList l) (λ f s. ofOutcome (g s) (write f))) out out (given.Refused q at)
+    composed-refusal {q} {at} out b m =
+        let e = refusal entriesIn (ofOutcome (g (told .s)) ofSum) (of-told b) m in
+        let z = refused-outcome (g (told .s)) (write c) (λ s i w. absurd (not-made (sym w))) e in
+        rw (told .is) (rw z (gives-refusal recordsIn q at out))
+
+    -- g wrote m entries
+    module _ {m : ℕ} (b : OfBytes entriesIn (λ s. ofOutcome (g s) ofSum) (take (32 * n) out₁′) out₂ out₂′ (given.Done m)) where
+      made : Success (ofOutcome (g (told .s)) ofSum) m (entriesIn out₂) out₂ out₂′
+      made = success entriesIn (ofOutcome (g (told .s)) ofSum) (of-told b)
+
+      formed : SumMade (g (told .s)) m (made .bytes)
+      formed = sum-made (g (told .s)) (made .is)
+
+      kept : GoodSum (formed .s)
+      kept = keeps (told .s) (formed .s) good (formed .is)
+
+      bytes : take (32 * m) out₂′ ≡ encodeSum (formed .s)
+      bytes =
+          ap (take (32 * m)) (made .written ∙ ap (sets out₂ 0) (formed .these))
+          ∙ first-bytes (encodeSum (formed .s)) out₂ (32 * m) (omega (arith, formed .many, length-sum (formed .s))) (omega (arith, made .fits))
+
+      -- what write answers to those bytes is what comes of the list in one
+      pub composed : {out out′ : List ℕ} {r : Answer} → OfBytes recordsIn (write c) (take (32 * m) out₂′) out out′ r → Gives recordsIn (afterRead (readList l) (λ f s. ofOutcome (g s) (write f))) out out′ r
+      composed {out} {out′} {r} w =
+          let k = of-good (formed .s) (kept .good) (good-some kept) (kept .room) (subst (λ z. OfBytes recordsIn (write c) z out out′ r) bytes w) in
+          rw (told .is) (rw (formed .is) k)
+
+-- ---- derivative and integral
+
+-- read wrote n entries, of whose bytes derive wrote m, to whose bytes write answers r: so does derivative to the list
+pub derivative-composed : (l : List ℕ) {out₁ out₁′ : List ℕ} {n : ℕ} {c : Bool} {m : ℕ} {out out′ : List ℕ} {r : Answer} → Promise (answerOf (readList l)) (bytesOf (readList l)) out₁ out₁′ (answer.Sum n c) → (out₂ out₂′ : List ℕ)
+    → OfBytes entriesIn derive (take (32 * n) out₁′) out₂ out₂′ (given.Done m) → OfBytes recordsIn (write c) (take (32 * m) out₂′) out out′ r → Gives recordsIn (derivative l) out out′ r
+unfolding derive deriveAndWrite derivative
+derivative-composed l p out₂ out₂′ b w = composed derivatives.derive (λ s d g e. derive-good s g e) l p out₂ out₂′ b w
+
+-- what derive refuses, but for want of room, derivative refuses
+pub derivative-refuses : (l : List ℕ) {out₁ out₁′ : List ℕ} {n : ℕ} {c : Bool} {q : Refusal} {at : ℕ} → Promise (answerOf (readList l)) (bytesOf (readList l)) out₁ out₁′ (answer.Sum n c) → (out₂ out₂′ out : List ℕ)
+    → OfBytes entriesIn derive (take (32 * n) out₁′) out₂ out₂′ (given.Refused q at) → (q ≡ OutputRoom → ⊥) → Gives recordsIn (derivative l) out out (given.Refused q at)
+unfolding derive deriveAndWrite derivative
+derivative-refuses l p out₂ out₂′ out b n = composed-refusal derivatives.derive (λ s d g e. derive-good s g e) l p out₂ out₂′ out b n
+
+-- what read refuses, but for want of room, derivative refuses
+pub derivative-unread : (l : List ℕ) {out₁ out₁′ : List ℕ} {q : Refusal} {at : ℕ} (out : List ℕ) → Promise (answerOf (readList l)) (bytesOf (readList l)) out₁ out₁′ (answer.Refused q at) → (q ≡ OutputRoom → ⊥) → Gives recordsIn (derivative l) out out (given.Refused q at)
+unfolding derivative
+derivative-unread l out p n = after-refusal l deriveAndWrite out p n
+
+-- likewise integral
+pub integral-composed : (l : List ℕ) {out₁ out₁′ : List ℕ} {n : ℕ} {c : Bool} {m : ℕ} {out out′ : List ℕ} {r : Answer} → Promise (answerOf (readList l)) (bytesOf (readList l)) out₁ out₁′ (answer.Sum n c) → (out₂ out₂′ : List ℕ)
+    → OfBytes entriesIn integrate (take (32 * n) out₁′) out₂ out₂′ (given.Done m) → OfBytes recordsIn (write c) (take (32 * m) out₂′) out out′ r → Gives recordsIn (integral l) out out′ r
+unfolding integrate integrateAndWrite integral
+integral-composed l p out₂ out₂′ b w = composed integrals.integrate (λ s d g e. integrate-good s g e) l p out₂ out₂′ b w
+
+pub integral-refuses : (l : List ℕ) {out₁ out₁′ : List ℕ} {n : ℕ} {c : Bool} {q : Refusal} {at : ℕ} → Promise (answerOf (readList l)) (bytesOf (readList l)) out₁ out₁′ (answer.Sum n c) → (out₂ out₂′ out : List ℕ)
+    → OfBytes entriesIn integrate (take (32 * n) out₁′) out₂ out₂′ (given.Refused q at) → (q ≡ OutputRoom → ⊥) → Gives recordsIn (integral l) out out (given.Refused q at)
+unfolding integrate integrateAndWrite integral
+integral-refuses l p out₂ out₂′ out b n = composed-refusal integrals.integrate (λ s d g e. integrate-good s g e) l p out₂ out₂′ out b n
+
+pub integral-unread : (l : List ℕ) {out₁ out₁′ : List ℕ} {q : Refusal} {at : ℕ} (out : List ℕ) → Promise (answerOf (readList l)) (bytesOf (readList l)) out₁ out₁′ (answer.Refused q at) → (q ≡ OutputRoom → ⊥) → Gives recordsIn (integral l) out out (given.Refused q at)
+unfolding integral
+integral-unread l out p n = after-refusal l integrateAndWrite out p n

@@ -1,0 +1,9 @@
+-- The modules here.
+pub mod Cases
+pub mod Composing
+pub mod Demands
+pub mod Reading
+pub mod Demand3
+pub mod Written
+pub mod Real
+pub mod Speed

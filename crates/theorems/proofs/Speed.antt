@@ -1,0 +1,11 @@
+-- The modules here.
+pub mod Building
+pub mod Examples
+pub mod Finite
+pub mod Listed
+pub mod Pieces
+pub mod Rising
+pub mod Steps
+pub mod Terms
+pub mod Theorem
+pub mod Whole

@@ -1,0 +1,31 @@
+-- The terms of a sum without imaginary parts: each coefficient that is listed is the whole coefficient. Assumes nothing.
+use Prim.Native.Nat.{ℕ}
+use mathlib.Core.Path.{_≡_}
+use mathlib.Core.Bool.{true, false}
+use mathlib.Core.List.{List, [], _∷_}
+use lib.Ieee.{Float}
+use Rattle.numbers.specs.Numbers.{smallWhole}
+use Rattle.numbers.specs.declared.SmallWhole.the-variants.{Is}
+use Rattle.complex.specs.declared.Complex.{Complex}
+use Rattle.complex.specs.Arith as complex
+use Rattle.complex.specs.Real.{Real}
+use Rattle.trees.specs.Kinds as kinds
+use Rattle.trees.specs.Sums.{Sum, and}
+use Rattle.theorems.specs.Contract.Reals.{RealSum}
+use Rattle.theorems.specs.Value as value
+use Rattle.theorems.specs.Value.{Power, power, Terms}
+
+-- as Terms, and each coefficient that is listed is real
+pub data Listed : Sum → List Power → Type 0 where
+  nothing : Listed Sum.none []
+  zero-term : {k : ℕ} {p : Float} {j : Sum} {c : Complex} {r : Sum} {ts : List Power}
+      → complex.same c complex.zero ≡ true → Listed r ts → Listed (and k p j c r) ts
+  term : {p : Float} {k : ℕ} {j : Sum} {c : Complex} {r : Sum} {ts : List Power}
+      → complex.same c complex.zero ≡ false → Real c → smallWhole p ≡ Is k → Listed r ts
+      → Listed (and kinds.X p j c r) (power k (c .re) ∷ ts)
+
+pub listed : {s : Sum} {ts : List Power} → RealSum s → Terms s ts → Listed s ts
+unfolding RealSum
+listed r value.nothing = nothing
+listed r (value.zero-term z t) = zero-term z (listed (r .2) t)
+listed r (value.term z w t) = term z (r .0) w (listed (r .2) t)

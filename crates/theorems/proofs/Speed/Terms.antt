@@ -1,0 +1,221 @@
+-- What is written for a term of a whole power, how many records that is, and what it yields. Assumes nothing.
+use Prim.Native.Nat.{ℕ, zero, suc, _+_, _*_, _≤_, max}
+use mathlib.Core.Path.{_≡_, refl, sym, ap, _∙_}
+use mathlib.Core.Bool.{Bool, true, false, not, _&&_, _||_, cond}
+use mathlib.Core.List.{_∷_}
+use mathlib.Core.Option.{Option, none}
+use native.Mathlib.Omega.{arith}
+use borrow.Author.Tests.{lt-ltb, ne-eqb}
+use lib.Dec.{T, eqb, eqb→eq}
+use lib.ListN.{length}
+use lib.IntN.{pos, natAbs}
+use lib.Ieee.{Float, fin, binary64, up, down, eq, lt, ofBits, fits}
+use lib.Ieee.Bits.{is-true}
+use lib.Ieee.Fits.{and-r, down-pos, eq→eqb}
+use lib.Ieee.Scale.{finite}
+use Rattle.numbers.specs.Signs.{zero64, one64, Zero}
+use Rattle.numbers.specs.Ops.{_⊕_, _⊗_}
+use Rattle.numbers.specs.Numbers.{smallWhole, belowEpsilon}
+use Rattle.numbers.specs.Wholes.{Means}
+use Rattle.numbers.specs.declared.SmallWhole.the-variants.{Is}
+use Rattle.numbers.proofs.Bools.{bool-ext, T-of, and-true, and-false}
+use Rattle.numbers.proofs.Zeros.{zero-test}
+use Rattle.numbers.proofs.Order.{eq-symmetric}
+use Rattle.numbers.proofs.Wholes.{means-eq, means-fin, means-1, means-whole, eq-means, small-whole}
+use Rattle.complex.specs.declared.Complex.{Complex}
+use Rattle.complex.specs.Arith as complex
+use Rattle.complex.specs.Real.{Real}
+use Rattle.trees.specs.Kinds as kinds
+use Rattle.trees.specs.Good.{isNumber}
+use Rattle.trees.specs.Sums.{Sum, and}
+use Rattle.formats.specs.declared.record.Primitive.the-variants as prim
+use Rattle.formats.specs.Names.{choose}
+use Rattle.formats.specs.Tree.{Nodes, end, size}
+use Rattle.drafts.specs.Writing.{push, does, append, one, two, Written, andThen, canWrite}
+use Rattle.drafts.proofs.Laws.{append-end, append-join, size-append}
+use Rattle.drafts.proofs.Fine.{Fine, fine-more, fine-end, fine-append, fine-two, plain-does, plain-push}
+use Rattle.writer.specs.ToNodes.{Form, half64, two64, form, isBare, isConstant, isEmpty, before, plus, writePower, timesCoef, write}
+use Rattle.writer.specs.Count.{cost}
+use Rattle.running.specs.Primitives.{times}
+use Rattle.theorems.specs.Value.{termValue, timesUnless}
+use Rattle.theorems.specs.Places.{formOf, costOf, isX, formedUnless, inTerm, unlessFinite, firstNotFinite}
+use Rattle.theorems.proofs.Speed.Steps.{state, out, or, or-none, bad, number-finite, adds, multiplies, raises}
+use Rattle.theorems.proofs.Speed.Pieces.{Yields, end-yields, then-yields, square-yields}
+
+-- ---- the records of a term
+
+-- x to the power n + 1
+abbrev base : Float → ℕ → Nodes
+base p zero = end
+base p (suc zero) = two (does prim.Dup) (does prim.Mul)
+base p (suc (suc n)) = two (push p) (does prim.Pow)
+
+abbrev tail : Bool → Float → Nodes
+tail true c = end
+tail false c = two (push c) (does prim.Mul)
+
+abbrev pub piece : Float → ℕ → Float → Nodes
+piece p zero c = append (two (push zero64) (does prim.Mul)) (two (push c) (does prim.Add))
+piece p (suc n) c = append (base p n) (tail (eq c one64) c)
+
+tail-size : (b : Bool) (c : Float) → size (tail b c) ≡ cond b 0 2
+unfolding size
+tail-size true c = refl
+tail-size false c = refl
+
+two-more : (b : Bool) → 2 + cond b 0 2 ≡ cond b 2 4
+two-more true = refl
+two-more false = refl
+
+pub piece-size : (p c : Float) (k : ℕ) → size (piece p k c) ≡ costOf k c
+unfolding size append cost
+piece-size p c zero = refl
+piece-size p c (suc zero) = tail-size (eq c one64) c
+piece-size p c (suc (suc zero)) =
+    size-append (two (does prim.Dup) (does prim.Mul)) (tail (eq c one64) c) ∙ ap (λ (k : ℕ). 2 + k) (tail-size (eq c one64) c) ∙ two-more (eq c one64)
+piece-size p c (suc (suc (suc n))) =
+    size-append (two (push p) (does prim.Pow)) (tail (eq c one64) c) ∙ ap (λ (k : ℕ). 2 + k) (tail-size (eq c one64) c) ∙ two-more (eq c one64)
+
+-- ---- they keep the rules of lists
+
+number-fits : (v : Float) → T (isNumber v) → T (fits binary64 v)
+number-fits v t = and-r (finite v) (fits binary64 v) t
+
+base-fine : (p : Float) (n : ℕ) → T (isNumber p) → Fine 2 1 (base p n)
+base-fine p zero fp = fine-more 2 1 (fine-end 1) (omega arith) (omega arith)
+base-fine p (suc zero) fp = fine-two 1 (does prim.Dup) (does prim.Mul) (omega arith) (plain-does prim.Dup) (plain-does prim.Mul)
+base-fine p (suc (suc n)) fp = fine-two 1 (push p) (does prim.Pow) (omega arith) (plain-push p (number-fits p fp)) (plain-does prim.Pow)
+
+tail-fine : (b : Bool) (c : Float) → T (isNumber c) → Fine 2 1 (tail b c)
+tail-fine true c fc = fine-more 2 1 (fine-end 1) (omega arith) (omega arith)
+tail-fine false c fc = fine-two 1 (push c) (does prim.Mul) (omega arith) (plain-push c (number-fits c fc)) (plain-does prim.Mul)
+
+pub zero-number : T (isNumber zero64)
+unfolding ofBits fits
+zero-number = tt
+
+pub zero-fine : Fine 2 1 (two (push zero64) (does prim.Mul))
+zero-fine = fine-two 1 (push zero64) (does prim.Mul) (omega arith) (plain-push zero64 (number-fits zero64 zero-number)) (plain-does prim.Mul)
+
+pub piece-fine : (p c : Float) (k : ℕ) → T (isNumber p) → T (isNumber c) → Fine 4 1 (piece p k c)
+piece-fine p c zero fp fc =
+    fine-append (two (push zero64) (does prim.Mul)) (two (push c) (does prim.Add)) zero-fine
+    (fine-two 1 (push c) (does prim.Add) (omega arith) (plain-push c (number-fits c fc)) (plain-does prim.Add))
+piece-fine p c (suc n) fp fc = fine-append (base p n) (tail (eq c one64) c) (base-fine p n fp) (tail-fine (eq c one64) c fc)
+
+-- ---- what they yield
+
+pub or-unless : (b : Bool) (at : ℕ) (o p : Option ℕ) → or (unlessFinite b at o) p ≡ unlessFinite b at (or o p)
+or-unless true at o p = refl
+or-unless false at o p = refl
+
+pub reyield : {N : Nodes} {x r : Float} {q : ℕ} (b d : ℕ → Option ℕ) → ((at : ℕ) → b at ≡ d at) → Yields N x r q b → Yields N x r q d
+reyield {N} {x} {r} {q} b d e g = record { run = λ s at h n p room i. g .run s at h n p room i ∙ ap (λ (a : Option ℕ). out a (state (r ∷ s) (n + size N) (max p (q + (length s + h))))) (e at) }
+
+cond-same : (b : Bool) (n : ℕ) → cond b n n ≡ n
+cond-same true n = refl
+cond-same false n = refl
+
+module _ (c : Float) (fc : T (isNumber c)) where
+  tail-yields : (b : Bool) {A : Nodes} {x v : Float} {q : ℕ} {d : ℕ → Option ℕ} → 1 ≤ q → q ≤ 2 → Yields A x v q d
+      → Yields (append A (tail b c)) x (timesUnless b v c) (cond b q 2) (λ at. or (d at) (firstNotFinite (formedUnless b (at + size A + 1) (v ⊗ c))))
+  unfolding firstNotFinite
+  tail-yields true {A} {x} {v} {q} {d} low high g = rw (append-end A) (reyield d _ (λ at. sym (or-none (d at))) g)
+  tail-yields false {A} {x} {v} {q} {d} low high g = then-yields (does prim.Mul) low high g fc (multiplies v c)
+
+  pub piece-yields : (x p : Float) (k : ℕ) → T (isNumber p) → smallWhole p ≡ Is k → Yields (piece p k c) x (termValue x k c) (cond (isX k c) 1 2) (λ at. firstNotFinite (inTerm at x k c))
+  unfolding termValue inTerm firstNotFinite times append size
+  piece-yields x p zero fp w =
+      let e : (at : ℕ) → at + 0 + 1 ≡ at + 1 = λ at. omega arith in
+      let e₂ : (at : ℕ) → at + 2 + 1 ≡ at + 3 = λ at. omega arith in
+      reyield _ _ (λ at. or-unless (finite (x ⊗ zero64)) (at + 0 + 1) none (bad (x ⊗ zero64 ⊕ c) (at + 2 + 1)) ∙ rw (e at, e₂ at))
+      (then-yields (does prim.Add) (omega arith) (omega arith)
+      (then-yields (does prim.Mul) (omega arith) (omega arith) (end-yields x) zero-number (multiplies x zero64)) fc (adds (x ⊗ zero64) c))
+  piece-yields x p (suc zero) fp w =
+      let e : (at : ℕ) → at + 0 + 1 ≡ at + 1 = λ at. omega arith in
+      reyield _ _ (λ at. ap (λ (m : ℕ). firstNotFinite (formedUnless (eq c one64) m (x ⊗ c))) (e at)) (tail-yields (eq c one64) (omega arith) (omega arith) (end-yields x))
+  piece-yields x p (suc (suc zero)) fp w =
+      let e : (at : ℕ) → at + 2 + 1 ≡ at + 3 = λ at. omega arith in
+      reyield _ _ (λ at. or-unless (finite (x ⊗ x)) (at + 1) none (firstNotFinite (formedUnless (eq c one64) (at + 2 + 1) (x ⊗ x ⊗ c))) ∙ rw (e at))
+      (rw (cond-same (eq c one64) 2) at (tail-yields (eq c one64) (omega arith) (omega arith) (square-yields x)))
+  piece-yields x p (suc (suc (suc n))) fp w =
+      let v = times (suc (suc n)) x x in
+      let e : (at : ℕ) → at + 0 + 1 ≡ at + 1 = λ at. omega arith in
+      let e₂ : (at : ℕ) → at + 2 + 1 ≡ at + 3 = λ at. omega arith in
+      reyield _ _ (λ at. or-unless (finite v) (at + 0 + 1) none (firstNotFinite (formedUnless (eq c one64) (at + 2 + 1) (v ⊗ c))) ∙ rw (e at, e₂ at))
+      (rw (cond-same (eq c one64) 2) at (tail-yields (eq c one64) (omega arith) (omega arith)
+      (then-yields (does prim.Pow) (omega arith) (omega arith) (end-yields x) fp (raises x p (suc (suc n)) w))))
+
+-- ---- the arm of the match that a whole power takes
+
+means-2 : Means two64 (pos 2)
+unfolding ofBits
+means-2 = means-fin false 1 1
+
+means-0 : Means zero64 (pos 0)
+unfolding ofBits
+means-0 = means-fin false 0 0
+
+eq-whole : (p y : Float) (k j : ℕ) → Means p (pos k) → Means y (pos j) → eq p y ≡ eqb k j
+eq-whole p y k j m n =
+    bool-ext (eq p y) (eqb k j) (λ t. eq→eqb (ap natAbs (means-eq m n .0 (is-true (eq p y) t)))) (λ t. T-of (means-eq m n .1 (ap pos (eqb→eq k j t))))
+
+not-half : (p : Float) (k : ℕ) → Means p (pos k) → eq p half64 ≡ false
+unfolding ofBits
+not-half p k m = go (eq p half64) refl
+  where
+    go : (b : Bool) → eq p half64 ≡ b → b ≡ false
+    go true e = sym (means-whole (eq-means half64 p (eq-symmetric half64 p ∙ e) m))
+    go false e = refl
+
+form-by : (k : ℕ) → choose (eqb k 0) Form.constant (choose false Form.root (choose (eqb k 1) Form.bare (choose (eqb k 2) Form.square Form.power))) ≡ formOf k
+form-by zero = refl
+form-by (suc zero) = refl
+form-by (suc (suc zero)) = refl
+form-by (suc (suc (suc n))) = rw (ne-eqb (suc (suc (suc n))) 0 (λ e. omega arith), ne-eqb (suc (suc (suc n))) 1 (λ e. omega arith), ne-eqb (suc (suc (suc n))) 2 (λ e. omega arith))
+
+pub form-is : (p : Float) (k : ℕ) → smallWhole p ≡ Is k → form p ≡ formOf k
+unfolding form
+form-is p k w =
+    let m = small-whole p k .0 w .1 in
+    rw (eq-whole p zero64 k 0 m means-0, not-half p k m, eq-whole p one64 k 1 m means-1, eq-whole p two64 k 2 m means-2) (form-by k)
+
+-- ---- what is written
+
+-- an imaginary part of +0 or -0
+small-zero : (v : Float) → Zero v → belowEpsilon v ≡ true
+unfolding belowEpsilon lt ofBits
+small-zero (fin s m e) z = lt-ltb (m * up e * 4503599627370496) (1 * down e) (omega (arith, down-pos e))
+
+pub can-write : (c : Complex) → T (isNumber (c .re)) → Real c → canWrite false c ≡ true
+can-write c f r = rw (small-zero (c .im) r, number-finite (c .re) f)
+
+pub one-real : (c : Complex) → Real c → complex.same c complex.one ≡ eq (c .re) one64
+one-real c r = rw (zero-test (c .im) .1 r) (and-true (eq (c .re) one64))
+
+module _ (c : Complex) (f : Nodes → Written) (e : canWrite false c ≡ true) where
+  tail-is : (b : Bool) (ns : Nodes) → andThen (timesCoef (not b && true) false c ns) f ≡ f (append ns (tail b (c .re)))
+  unfolding append
+  tail-is true ns = rw (append-end ns)
+  tail-is false ns = rw (e, append-join ns)
+
+  piece-is : (k : ℕ) (p : Float) (ns : Nodes) → complex.same c complex.one ≡ eq (c .re) one64
+      → andThen (writePower (formOf k) p false c ns) (λ ms. andThen (timesCoef (not (complex.same c complex.one) && not (isConstant (formOf k))) false c ms) f) ≡ f (append ns (piece p k (c .re)))
+  unfolding append
+  piece-is zero p ns o = rw (e, and-false (not (complex.same c complex.one)), append-join ns, append-join ns)
+  piece-is (suc zero) p ns o = rw o (tail-is (eq (c .re) one64) ns)
+  piece-is (suc (suc zero)) p ns o = rw (o, ← append-join ns) (tail-is (eq (c .re) one64) (append ns (two (does prim.Dup) (does prim.Mul))))
+  piece-is (suc (suc (suc k))) p ns o = rw (o, ← append-join ns) (tail-is (eq (c .re) one64) (append ns (two (push p) (does prim.Pow))))
+
+module _ (p : Float) (i : Sum) (c : Complex) (r : Sum) (id : Bool) (ns : Nodes) where
+  pub write-zero : (k : ℕ) → complex.same c complex.zero ≡ true → write false (and k p i c r) id ns ≡ write false r id ns
+  unfolding write
+  write-zero k e = rw e
+
+  pub write-term : (k : ℕ) → complex.same c complex.zero ≡ false → T (isNumber (c .re)) → Real c → smallWhole p ≡ Is k
+      → write false (and kinds.X p i c r) id ns
+      ≡ write false r (id || isBare (formOf k)) (plus (not id && isEmpty ns) (append (before (not id && isEmpty ns) ns) (piece p k (c .re))))
+  unfolding write
+  write-term k z n re w =
+      rw (z, form-is p k w)
+      (piece-is c (λ m. write false r (id || isBare (formOf k)) (plus (not id && isEmpty ns) m)) (can-write c n re) k p (before (not id && isEmpty ns) ns) (one-real c re))

@@ -1,1 +1,0 @@
--- The root of verdicts' laws: they stand in records.

@@ -1,1 +1,0 @@
--- The root of verdicts' definitions: they stand in records.
