@@ -107,6 +107,14 @@ mod reading {
     }
 
     #[test]
+    fn values_where_calculus_has_none() {
+        assert_eq!(reads("Sqrt, Dup, Mul"), "(x)");
+        assert!(value("Sqrt, Dup, Mul", 9.0) == 9.0);
+        assert_eq!(reads("Dup, Div"), "(1)");
+        close(value("Dup, Div", 0.7), 1.0);
+    }
+
+    #[test]
     fn zero_terms_stay() {
         assert_eq!(reads("Dup, Sub"), "(0x)");
         gives_up(judge::read(&text::list("Dup, Dup, Sub, Pow")));
@@ -290,6 +298,27 @@ mod integrating {
         assert_eq!(integral("push 2, Mul, Cos"), "Identity, Sin");
         // The sine of 0, which is 0, as well.
         assert_eq!(integral("Dup, Sub, Sin"), "Identity, Cos, push -1, Mul");
+    }
+
+    #[test]
+    fn sinh_and_cosh_of_2x_count_as_those_of_x() {
+        // A list is never read as these: the sum is handed over, sinh 2x and then cosh 2x.
+        for (kind, other) in [(7, 8), (8, 7)] {
+            let sum = |kind: u8, inner: f64| {
+                let mut bytes = vec![0; 64];
+                bytes[0] = kind;
+                bytes[4] = 1;
+                bytes[16..24].copy_from_slice(&1f64.to_le_bytes());
+                bytes[32] = 1;
+                bytes[40..48].copy_from_slice(&1f64.to_le_bytes());
+                bytes[48..56].copy_from_slice(&inner.to_le_bytes());
+                bytes
+            };
+            assert_eq!(
+                judge::integrate(&sum(kind, 2.0)),
+                Answer::Rust(Ok(sum(other, 1.0)))
+            );
+        }
     }
 
     #[test]

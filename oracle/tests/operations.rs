@@ -6,7 +6,7 @@ use oracle::operations::{Case, codes, select};
 
 #[test]
 fn stored_cases_are_the_judges() {
-    let file = Path::new(env!("CARGO_MANIFEST_DIR")).join("../crates/operations/stdin");
+    let file = Path::new(env!("CARGO_MANIFEST_DIR")).join("../crates/replay_arithmetic/stdin");
     let stored = fs::read_to_string(file).expect("the stored cases");
     let text: String = select().iter().map(Case::line).collect();
     assert!(

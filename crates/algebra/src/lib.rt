@@ -9,6 +9,7 @@ use running::RunAnswer;
 ghost use mathlib.Core.Path.{_≡_};
 ghost use Prim.Native.Nat.{_+_, _≤_};
 ghost use mathlib.Core.Bool.{Bool};
+ghost use mathlib.Core.List.{[]};
 ghost use Rattle.cells.specs.Book.{lent, Room};
 ghost use Rattle.trees.specs.Sums.{Sum};
 ghost use Rattle.sums.specs.Contract.Lies.{Lies, Held};
@@ -22,6 +23,8 @@ ghost use Rattle.answers.specs.Making as making;
 ghost use Rattle.answers.specs.Making.{answered, Gives, OfBytes};
 ghost use Rattle.algebra.specs.Reading.{readList, flagged, answerOf, bytesOf, readNumbers};
 ghost use Rattle.algebra.specs.Entries as lists;
+ghost use Rattle.algebra.specs.Replies as entry;
+ghost use Rattle.algebra.specs.Replies.{Promised, ofRead, ofAnswer, ofRun};
 
 // What `read` answers: a sum of so many entries, with the complex flag, or a refusal with its place.
 pub enum ReadAnswer {
@@ -99,7 +102,7 @@ fn put_read(
 
 // From a list to the sum that it stands for.
 pub fn read(list: &[u8], out: &mut [u8]) -> ReadAnswer
-    ensures { λ r. ⌜ Promise (answerOf (readList (now (list .entry)))) (bytesOf (readList (now (list .entry)))) (now (out .entry)) (now (out .exit)) r ⌝ }
+    ensures { λ r. ⌜ Promised entry.read (now (list .entry)) (now (out .entry)) (now (out .exit)) (ofRead r) ⌝ }
 {
     let mut wk = [0u8; 64];
     let mut wi = [0u8; 64];
@@ -115,7 +118,7 @@ pub fn read(list: &[u8], out: &mut [u8]) -> ReadAnswer
 
 // From a list to the list of its derivative.
 pub fn derivative(list: &[u8], out: &mut [u8]) -> Answer
-    ensures { λ r. ⌜ Gives recordsIn (lists.derivative (now (list .entry))) (now (out .entry)) (now (out .exit)) r ⌝ }
+    ensures { λ r. ⌜ Promised entry.derivative (now (list .entry)) (now (out .entry)) (now (out .exit)) (ofAnswer r) ⌝ }
 {
     let mut wk = [0u8; 64];
     let mut wi = [0u8; 64];
@@ -140,7 +143,7 @@ pub fn derivative(list: &[u8], out: &mut [u8]) -> Answer
 
 // From a list to the list of its integral.
 pub fn integral(list: &[u8], out: &mut [u8]) -> Answer
-    ensures { λ r. ⌜ Gives recordsIn (lists.integral (now (list .entry))) (now (out .entry)) (now (out .exit)) r ⌝ }
+    ensures { λ r. ⌜ Promised entry.integral (now (list .entry)) (now (out .entry)) (now (out .exit)) (ofAnswer r) ⌝ }
 {
     let mut wk = [0u8; 64];
     let mut wi = [0u8; 64];
@@ -199,7 +202,7 @@ fn invert_read(
 
 // From a list to the list that undoes it.
 pub fn inverse(list: &[u8], out: &mut [u8]) -> Answer
-    ensures { λ r. ⌜ Gives recordsIn (lists.inverse (now (list .entry))) (now (out .entry)) (now (out .exit)) r ⌝ }
+    ensures { λ r. ⌜ Promised entry.inverse (now (list .entry)) (now (out .entry)) (now (out .exit)) (ofAnswer r) ⌝ }
 {
     let mut wk = [0u8; 64];
     let mut wi = [0u8; 64];
@@ -219,7 +222,7 @@ pub fn inverse(list: &[u8], out: &mut [u8]) -> Answer
 
 // The derivative of a sum that is handed over.
 pub fn derive(sum: &[u8], out: &mut [u8]) -> Answer
-    ensures { λ r. ⌜ OfBytes entriesIn making.derive (now (sum .entry)) (now (out .entry)) (now (out .exit)) r ⌝ }
+    ensures { λ r. ⌜ Promised entry.derive (now (sum .entry)) (now (out .entry)) (now (out .exit)) (ofAnswer r) ⌝ }
 {
     let mut ak = [0u8; 64];
     let mut ai = [0u8; 64];
@@ -235,7 +238,7 @@ pub fn derive(sum: &[u8], out: &mut [u8]) -> Answer
 
 // The integral of a sum that is handed over.
 pub fn integrate(sum: &[u8], out: &mut [u8]) -> Answer
-    ensures { λ r. ⌜ OfBytes entriesIn making.integrate (now (sum .entry)) (now (out .entry)) (now (out .exit)) r ⌝ }
+    ensures { λ r. ⌜ Promised entry.integrate (now (sum .entry)) (now (out .entry)) (now (out .exit)) (ofAnswer r) ⌝ }
 {
     let mut ak = [0u8; 64];
     let mut ai = [0u8; 64];
@@ -251,7 +254,7 @@ pub fn integrate(sum: &[u8], out: &mut [u8]) -> Answer
 
 // A sum that is handed over, as a list.
 pub fn write(sum: &[u8], complex: bool, out: &mut [u8]) -> Answer
-    ensures { λ r. ⌜ OfBytes recordsIn (making.write complex) (now (sum .entry)) (now (out .entry)) (now (out .exit)) r ⌝ }
+    ensures { λ r. ⌜ Promised (entry.write complex) (now (sum .entry)) (now (out .entry)) (now (out .exit)) (ofAnswer r) ⌝ }
 {
     let mut ak = [0u8; 64];
     let mut ai = [0u8; 64];
@@ -269,7 +272,7 @@ pub fn write(sum: &[u8], complex: bool, out: &mut [u8]) -> Answer
 
 // The value of a list at x, with the records run and the most values there were at once.
 pub fn run(list: &[u8], x: f64) -> RunAnswer
-    ensures { λ r. ⌜ r ≡ runList (now (list .entry)) x ⌝ }
+    ensures { λ r. ⌜ Promised (entry.run x) (now (list .entry)) [] [] (ofRun r) ⌝ }
 {
     running::run::run(list, x)
 }

@@ -30,10 +30,10 @@ pub fn answer_numbers(r: Answer) -> Numbers
     ensures { λ n. ⌜ n ≡ answerNumbers r ⌝ }
 {
     match r {
-        Answer::Done(n) => Numbers {
+        Answer::Done(written) => Numbers {
             number: 0,
             place: 0,
-            count: n,
+            count: written,
             flag: false,
         },
         Answer::Refused(q, at) => Numbers {
@@ -50,7 +50,7 @@ fn answer_of(w: Wrote) -> Answer
     ensures { λ r. ⌜ r ≡ answerOf w ⌝ }
 {
     match w {
-        Wrote::List(n) => Answer::Done(n),
+        Wrote::List(records) => Answer::Done(records),
         Wrote::Refused(q) => Answer::Refused(q, 0),
     }
 }

@@ -7,7 +7,7 @@ use mathlib.Core.Bool.{false}
 use mathlib.Core.List.{List, [], _∷_, _++_}
 use lib.ListN.{length, getD, take, drop}
 use Rattle.cells.specs.Book.{Room, Cell, cell, at, decoded}
-use Rattle.cells.proofs.Laws.{room-less, room-same, same-room-refl, same-room-trans}
+use Rattle.cells.proofs.Laws.{zeros, fresh, length-zeros, room-fresh, room-less, room-same, same-room-refl, same-room-trans}
 use Rattle.trees.specs.Sums.{Sum, none, and, size}
 use Rattle.trees.specs.Good.{isEmpty}
 use Rattle.terms.specs.Singles.{GoodSum}
@@ -31,6 +31,10 @@ slot-cell a a′ j i e = ap (λ (s : Slot). decoded (s .cell)) e
 
 slot-size : (a a′ : Arena) (j i : ℕ) → slot a′ j ≡ slot a i → getD (a′ .sizes) j 0 ≡ getD (a .sizes) i 0
 slot-size a a′ j i e = ap (λ (s : Slot). s .size) e
+
+-- the fresh state: n slots of zeros
+pub space-fresh : (n : ℕ) → Space (record { cells = fresh n; sizes = zeros n }) n
+space-fresh n = record { cells = room-fresh n; sizes = omega (arith, length-zeros n) }
 
 pub space-less : {a : Arena} {m n : ℕ} → m ≤ n → Space a n → Space a m
 space-less h s = record { cells = room-less h (s .cells); sizes = let z = s .sizes in omega arith }

@@ -6,7 +6,7 @@ use mathlib.Core.Bool.{Bool, true, false, cond}
 use lib.Dec.{eqb}
 use borrow.Author.Tests.{eq-eqb, ne-eqb}
 use lib.Ieee.{Float, eq}
-use Rattle.numbers.specs.Constants.{euler, ln2, ln10}
+use Rattle.numbers.specs.Constants.{euler, ln2, ln10, two64}
 use Rattle.numbers.specs.Ops.{_⊖_}
 use Rattle.numbers.specs.Signs.{zero64, one64}
 use Rattle.complex.specs.declared.Complex.{Complex}
@@ -24,7 +24,7 @@ use Rattle.monomials.specs.declared.Constant.the-variants as constant
 use Rattle.monomials.specs.Contract.Reads.{constantOf}
 use Rattle.trees.specs.Map.{Found, at, absent}
 use Rattle.calculus.specs.declared.Ln.the-variants.{Is, Other}
-use Rattle.calculus.specs.Derivative.{slope, vanishes, primeStep, foundThen, primeFrom, prime, lnOf, two64, ten64}
+use Rattle.calculus.specs.Derivative.{slope, vanishes, primeStep, foundThen, primeFrom, prime, lnOf, ten64}
 
 -- ---- one step
 

@@ -3,7 +3,7 @@ use Prim.Native.Nat.{ℕ}
 use mathlib.Core.Bool.{Bool, cond}
 use lib.Dec.{eqb}
 use lib.Ieee.{Float, eq, binary64, ofBits}
-use Rattle.numbers.specs.Constants.{euler, ln2, ln10}
+use Rattle.numbers.specs.Constants.{euler, ln2, ln10, two64}
 use Rattle.numbers.specs.Ops.{_⊖_}
 use Rattle.numbers.specs.Signs.{zero64, one64}
 use Rattle.complex.specs.declared.Complex.{Complex}
@@ -79,9 +79,6 @@ deriveExp x i s = unless (isX i) TooComplex (turnedTo kinds.Exp (complex.times (
 
 abbrev pub deriveBy : ℕ → Merge → Entry → Sum → Sum → Outcome
 deriveBy k m x i s = byPrime (prime i) (λ d. turnedTo k (complex.times (x .coef) d) i m s)
-
-abbrev pub two64 : Float
-two64 = ofBits binary64 0x4000000000000000
 
 abbrev pub ten64 : Float
 ten64 = ofBits binary64 0x4024000000000000

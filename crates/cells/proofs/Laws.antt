@@ -74,7 +74,7 @@ put-kept p = record { below = λ j h. p .else j (λ e. omega arith); above = λ 
 pub inserted-kept : {g b b′ : Book} {i k e : ℕ} {x : Entry} → Inserted g b b′ i k e x → Kept b b′ k (e + (1 + x .inside))
 inserted-kept p = record { below = p .below; above = p .above; long = p .long }
 
--- ---- the fresh state: n cells of five zeros
+-- ---- the fresh state: n cells of five zeros, as arrays of a repeated value are
 
 abbrev pub zeros : ℕ → List ℕ
 zeros n = replicate n 0
@@ -84,14 +84,6 @@ fresh n = book (zeros n) (zeros n) (zeros n) (zeros n) (zeros n)
 
 pub length-zeros : (n : ℕ) → length (zeros n) ≡ n
 length-zeros n = length-replicate n 0
-
-zero-at : (n i : ℕ) → getD (zeros n) i 0 ≡ 0
-zero-at zero i = refl
-zero-at (suc n) zero = refl
-zero-at (suc n) (suc i) = zero-at n i
-
-pub cell-fresh : (n i : ℕ) → cell (fresh n) i ≡ record { kind = 0; inside = 0; num = 0; re = 0; im = 0 }
-cell-fresh n i = rw (zero-at n i)
 
 pub room-fresh : (n : ℕ) → Room (fresh n) n
 room-fresh n = omega (arith, length-zeros n)

@@ -27,6 +27,7 @@ use Rattle.trees.specs.Order.{cmpTerm}
 use Rattle.trees.specs.Good.{isEmpty}
 use Rattle.trees.specs.Map.{putIn, Outcome, sum, refused, andThenSum, formed, eachInto}
 use Rattle.trees.proofs.Keeps.{putBy, formed-sum}
+use Rattle.terms.specs.Outcomes.{productCode, addPowers}
 use Rattle.terms.specs.Product.{pairable, rowable, mulable, mulTerm, mulInto, product}
 use Rattle.sums.specs.declared.Formed.{Formed}
 use Rattle.sums.specs.declared.Formed.the-variants.{Done, Refused}
@@ -106,6 +107,23 @@ pair-insides k l f v n h = go (eqb k Div) (eqb l Div) refl (rw (ne-eqb k X n) at
     go true true e h = (h, eqb-true l Div e)
     go true false e h = absurd (true≢false (sym h))
     go false b e h = absurd (true≢false (sym h))
+
+-- powers are added of two X alone
+pub by-powers : (k l : ℕ) {n : ℕ} → n ≡ productCode k l → n ≡ addPowers → k ≡ X
+by-powers k l {n} e h = go (eqb k X) (eqb l X) (eqb k Div && eqb l Div) refl (sym e ∙ h)
+  where
+    go : (a b d : Bool) → eqb k X ≡ a → cond (a && b) 1 (cond d 2 0) ≡ addPowers → k ≡ X
+    go true b d z h = eqb-true k X z
+    go false b true z h = absurd (omega arith)
+    go false b false z h = absurd (omega arith)
+
+-- of a pair that has a product and whose powers aren't added, the first is no X
+pub by-insides : (k l : ℕ) (f : Sum → Bool) (v : Sum) {n : ℕ} → pairable k f l v ≡ true → n ≡ productCode k l → (n ≡ addPowers → ⊥) → k ≡ X → ⊥
+by-insides k l f v {n} able e not-added is-x = go (eqb l X) (rw (eq-eqb k X is-x, ne-eqb k Div (λ z. omega (arith, is-x, z))) at able) (rw (eq-eqb k X is-x) at e)
+  where
+    go : (b : Bool) → cond (eqb (cond b 1 0) 1) true (cond (eqb (cond b 1 0) 2) (f v) false) ≡ true → n ≡ cond b 1 (cond (eqb k Div && eqb l Div) 2 0) → ⊥
+    go true h z = not-added z
+    go false h z = true≢false (sym h)
 
 some-inside : {b : Book} {x : Entry} {i p left : ℕ} {t : Sum} → Term b x i p left t → (x .kind ≡ X → ⊥) → 0 < x .inside
 unfolding size

@@ -224,8 +224,9 @@ fn term_mul(
     ensures { λ r. ⌜ Kept (lent (wk .entry) (wi .entry) (wn .entry) (wr .entry) (wm .entry)) (lent (wk .exit) (wi .exit) (wn .exit) (wr .exit) (wm .exit)) p (p + 64) ⌝ }
     ensures { λ r. ⌜ ((t v s : Sum) → Lies (lent (wk .entry) (wi .entry) (wn .entry) (wr .entry) (wm .entry)) i (i + x .inside) left t → Lies (lent (wk .entry) (wi .entry) (wn .entry) (wr .entry) (wm .entry)) j (j + y .inside) left v → Lies (lent (wk .entry) (wi .entry) (wn .entry) (wr .entry) (wm .entry)) p (p + n) 4 s → Agrees r (lent (wk .exit) (wi .exit) (wn .exit) (wr .exit) (wm .exit)) p (mulTerm x (λ u. mulInto t u none) y v s)) ⌝ }
 {
+    let code = terms::product_code(x.kind, y.kind);
     let c = x.coef.mul(y.coef);
-    if x.kind == trees::X {
+    if code == terms::ADD_POWERS {
         let head = Entry {
             kind: trees::X,
             inside: 0,

@@ -8,6 +8,7 @@ use lib.Dec.{T, eqb}
 use lib.Ieee.{Float, eq, neg, binary64, fits}
 use lib.Ieee.Scale.{finite}
 use lib.Ieee.Fits.{and-r, mul-fits, div-fits}
+use Rattle.numbers.specs.Constants.{half64, two64}
 use Rattle.numbers.specs.Signs.{zero64, one64}
 use Rattle.numbers.specs.Ops.{_⊗_}
 use Rattle.complex.specs.declared.Complex.{Complex}
@@ -18,6 +19,7 @@ use Rattle.trees.specs.Kinds as kinds
 use Rattle.trees.specs.Sums.{Sum, none, and}
 use Rattle.trees.specs.Good as good
 use Rattle.trees.proofs.Keeps.{Fits}
+use Rattle.terms.specs.Powers.{coefAt}
 use Rattle.terms.proofs.Goodness.{fits-times, fits-bits}
 use Rattle.formats.specs.declared.record.Primitive.{Primitive}
 use Rattle.formats.specs.declared.record.Verdict.the-variants.{Good}
@@ -26,7 +28,8 @@ use Rattle.formats.specs.Tree.{Nodes, end, encode}
 use Rattle.formats.specs.Rules.{verdict}
 use Rattle.drafts.specs.Writing.{does, append, one, Written, wrote, refused, andThen, numberRecord, canWrite, ifCan}
 use Rattle.drafts.proofs.Fine.{Fine, fine-more, fine-end, fine-say, fine-good, plain-does, plain-number}
-use Rattle.inverse.specs.Inverse.{Word, num, act, spell, half64, two64, minusFour64, minusOne64, coefOf, low, others, lessConstant, overFactor, unpower, isInt, simpleQuadratic, fullQuadratic, linear, ofQuadratic, ofOthers, inverse}
+use Rattle.inverse.proofs.Searching.{coef-first}
+use Rattle.inverse.specs.Inverse.{Word, num, act, spell, minusFour64, minusOne64, coefOf, low, others, lessConstant, overFactor, unpower, isInt, simpleQuadratic, fullQuadratic, linear, ofQuadratic, ofOthers, inverse}
 
 -- ---- words
 
@@ -134,9 +137,9 @@ fit-sum (suc left) (and k p i c r) g =
     (and-r (finite p) (fits binary64 p) (e .number), record { re = and-r (finite (c .re)) (fits binary64 (c .re)) (e .re); im = and-r (finite (c .im)) (fits binary64 (c .im)) (e .im) }, fit-sum (suc left) r (g .3))
 
 fit-coef : (q : Float) (s : Sum) → FitSum s → Fits (coefOf q s)
-unfolding coefOf
+unfolding coefOf coefAt
 fit-coef q none f = fits-bits 0
-fit-coef q (and k p i c r) f = pick (eqb k kinds.X && eq p q) (fit-coef q r (f .2))
+fit-coef q (and k p i c r) f = rw (coef-first q k p i c r) (pick (eqb k kinds.X && eq p q) (fit-coef q r (f .2)))
   where
     pick : (t : Bool) → Fits (coefOf q r) → Fits (cond t c (coefOf q r))
     pick true g = f .1

@@ -6,6 +6,7 @@ use mathlib.Core.Bool.{Bool, true, false, _&&_, cond}
 use lib.Dec.{eqb}
 use borrow.Author.Tests.{eq-eqb, ne-eqb}
 use lib.Ieee.{Float, eq}
+use Rattle.numbers.specs.Constants.{two64}
 use Rattle.numbers.specs.Signs.{zero64, one64}
 use Rattle.complex.specs.declared.Complex.{Complex}
 use Rattle.complex.specs.Arith as complex
@@ -15,10 +16,12 @@ use Rattle.cells.specs.Book as book
 use Rattle.limits.specs.declared.Refusal.the-variants.{TooComplex}
 use Rattle.trees.specs.Kinds as kinds
 use Rattle.trees.specs.Sums.{Sum, none, and}
+use Rattle.trees.specs.Map.{at}
+use Rattle.terms.specs.Powers.{coefAt}
 use Rattle.sums.specs.Contract.Lies.{Lies, Held}
 use Rattle.sums.proofs.Walk.{Next, next, lies-none}
 use Rattle.drafts.specs.Writing.{refused}
-use Rattle.inverse.specs.Inverse.{coefOf, low, others, ofPower, ofOthers, inverse, two64}
+use Rattle.inverse.specs.Inverse.{found, coefOf, low, others, ofPower, ofOthers, inverse}
 use Rattle.inverse.specs.Contract.Steps.{oneMore, nextOther, othersOf, byOthers}
 use Rattle.inverse.specs.declared.Others.{Others}
 use Rattle.inverse.specs.declared.Others.the-variants.{Nothing, Power, TooMuch}
@@ -38,6 +41,14 @@ module _ (b : Book) (j m i : ℕ) (h : i < j + m) {x : Entry} (r : x ≡ book.at
 
 -- ---- the coefficient of x to the q
 
+pub coef-first : (q : Float) (k : ℕ) (p : Float) (i : Sum) (c : Complex) (r : Sum) → coefOf q (and k p i c r) ≡ cond (eqb k kinds.X && eq p q) c (coefOf q r)
+unfolding coefOf coefAt
+coef-first q k p i c r = by (eqb k kinds.X && eq p q)
+  where
+    by : (b : Bool) → found (cond b (at c) (coefAt q r)) ≡ cond b c (found (coefAt q r))
+    by true = refl
+    by false = refl
+
 abbrev pub Seeking : Book → ℕ → ℕ → Float → ℕ → Type 0
 Seeking b j m q i = (s : Sum) → Lies b j (j + m) 4 s → (s′ : Sum) × Lies b i (j + m) 4 s′ × (coefOf q s ≡ coefOf q s′)
 
@@ -46,13 +57,12 @@ module _ (b : Book) (j m : ℕ) (q : Float) where
   seek-start s l = (s, l, refl)
 
   pub seek-end : (i : ℕ) → Seeking b j m q i → j + m ≤ i → (s : Sum) → Lies b j (j + m) 4 s → complex.zero ≡ coefOf q s
-  unfolding coefOf
+  unfolding coefOf coefAt
   seek-end i g e s l = let w = g s l in sym (w .2 ∙ ap (coefOf q) (lies-none b i (j + m) 4 (w .0) (w .1) e))
 
   module _ (i : ℕ) (g : Seeking b j m q i) (h : i < j + m) {x : Entry} (r : x ≡ book.at b i) where
     seek-first : (s : Sum) (l : Lies b j (j + m) 4 s) → coefOf q s ≡ cond (eqb (x .kind) kinds.X && eq (x .num) q) (x .coef) (coefOf q (opened b j m i h r (g s l .0) (g s l .1) .rest))
-    unfolding coefOf
-    seek-first s l = g s l .2 ∙ ap (coefOf q) (opened b j m i h r (g s l .0) (g s l .1) .is)
+    seek-first s l = g s l .2 ∙ ap (coefOf q) (opened b j m i h r (g s l .0) (g s l .1) .is) ∙ coef-first q _ _ _ _ _
 
     pub seek-found : eqb (x .kind) kinds.X && eq (x .num) q ≡ true → (s : Sum) → Lies b j (j + m) 4 s → x .coef ≡ coefOf q s
     seek-found t s l = sym (seek-first s l ∙ ap (λ (u : Bool). cond u (x .coef) (coefOf q (opened b j m i h r (g s l .0) (g s l .1) .rest))) t)

@@ -4,6 +4,7 @@ use mathlib.Core.List.{List, [], _∷_, _++_}
 use lib.Dec.{eqb}
 use lib.Ieee.{Float, eq, binary64, ofBits}
 use Prim.Native.Nat.{ℕ}
+use Rattle.numbers.specs.Constants.{half64, two64}
 use Rattle.numbers.specs.Numbers.{isWhole}
 use Rattle.numbers.specs.Signs.{zero64, one64}
 use Rattle.complex.specs.declared.Complex.{Complex}
@@ -11,6 +12,8 @@ use Rattle.complex.specs.Arith as complex
 use Rattle.limits.specs.declared.Refusal.the-variants.{TooComplex, NeedsMath}
 use Rattle.trees.specs.Kinds as kinds
 use Rattle.trees.specs.Sums.{Sum, none, and}
+use Rattle.trees.specs.Map.{Found, at, absent}
+use Rattle.terms.specs.Powers.{coefAt}
 use Rattle.formats.specs.declared.record.Primitive.{Primitive}
 use Rattle.formats.specs.declared.record.Primitive.the-variants as prim
 use Rattle.formats.specs.Tree.{Nodes, end}
@@ -30,22 +33,20 @@ spell flag (act p ∷ ws) ns = spell flag ws (append ns (one (does p)))
 
 -- ---- the parts of the sum
 
-abbrev pub half64 : Float
-half64 = ofBits binary64 0x3fe0000000000000
-
-abbrev pub two64 : Float
-two64 = ofBits binary64 0x4000000000000000
-
 abbrev pub minusFour64 : Float
 minusFour64 = ofBits binary64 0xc010000000000000
 
 abbrev pub minusOne64 : Float
 minusOne64 = ofBits binary64 0xbff0000000000000
 
--- the coefficient of x to the q; +0 where there is none
+-- the coefficient that was found; +0 where there is none
+abbrev pub found : Found → Complex
+found absent = complex.zero
+found (at c) = c
+
+-- the coefficient of x to the q
 unfoldable pub coefOf : Float → Sum → Complex
-coefOf q none = complex.zero
-coefOf q (and k p i c r) = cond (eqb k kinds.X && eq p q) c (coefOf q r)
+coefOf q s = found (coefAt q s)
 
 -- x to the 0, 1 or 2
 abbrev pub low : ℕ → Float → Bool

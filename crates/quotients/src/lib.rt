@@ -113,9 +113,9 @@ fn div_term(
     requires { ⌜ (1 ≤ x .kind) × (x .kind ≤ 8) × ((v : Sum) × Divisor (lent ak ai an ar am) y j v) × Work (lent wk wi wn wr wm) n ⌝ }
     ensures { λ r. ⌜ ((s v : Sum) → Lies (lent (wk .entry) (wi .entry) (wn .entry) (wr .entry) (wm .entry)) 0 n 4 s → Divisor (lent (ak .entry) (ai .entry) (an .entry) (ar .entry) (am .entry)) y j v → Agrees r (lent (wk .exit) (wi .exit) (wn .exit) (wr .exit) (wm .exit)) 0 (divTerm y v x s)) ⌝ }
 {
+    let code = terms::quotient_code(x.kind, y.kind);
     let c = x.coef.div(y.coef);
     let c1 = c.mul(Complex::ONE);
-    let code = terms::quotient_code(x.kind, y.kind);
     if code == terms::X_BY_DIV {
         return divisors::over_div(
             x,

@@ -7,12 +7,13 @@ use lib.Ieee.{Float}
 use mir.Val.{boolByte}
 use Rattle.running.specs.declared.RunAnswer.{RunAnswer}
 use Rattle.running.specs.declared.RunNumbers.{RunNumbers}
-use Rattle.running.specs.Running.{runList, numbersOf}
+use Rattle.running.specs.Running.{numbersOf}
 use Rattle.answers.specs.declared.Answer.{Answer}
 use Rattle.answers.specs.declared.Numbers.{Numbers}
 use Rattle.answers.specs.Making.{answerNumbers}
 use Rattle.algebra.specs.declared.ReadAnswer.{ReadAnswer}
 use Rattle.algebra.specs.Reading.{readNumbers}
+use Rattle.algebra.specs.Replies as entry
 use Rattle.algebra.specs.Replies.{Entry, Promised, ofRead, ofAnswer, ofRun}
 use Rattle.uplink.specs.Told.{Told, Ran, withCount, withFlag}
 
@@ -26,5 +27,5 @@ told-count e a i p = record { reply = ofAnswer a; promised = p; returned = ap (�
 pub told-flag : (e : Entry) {l out out′ : List ℕ} (a : ReadAnswer) {n : Numbers} → n ≡ readNumbers a → Promised e l out out′ (ofRead a) → Told e withFlag l out out′ (n .number) (n .place ∷ n .count ∷ boolByte (n .flag) ∷ [])
 told-flag e a {n} i p = record { reply = ofRead a; promised = p; returned = ap (λ z. z .number) i; told = ap (λ z. n .place ∷ n .count ∷ z ∷ []) (as-number (n .flag)) ∙ ap (λ z. z .place ∷ z .count ∷ cond (z .flag) 1 0 ∷ []) i }
 
-pub told-run : {x : Float} {l : List ℕ} {n : RunNumbers} (a : RunAnswer) → a ≡ runList l x → n ≡ numbersOf a → Ran x l (n .number) (n .value) (n .place ∷ n .steps ∷ n .peak ∷ [])
-told-run a r i = record { reply = ofRun a; promised = (ap ofRun r, refl); returned = ap (λ z. z .number) i; valued = ap (λ z. z .value) i; told = ap (λ z. z .place ∷ z .steps ∷ z .peak ∷ []) i }
+pub told-run : {x : Float} {l : List ℕ} {n : RunNumbers} (a : RunAnswer) → Promised (entry.run x) l [] [] (ofRun a) → n ≡ numbersOf a → Ran x l (n .number) (n .value) (n .place ∷ n .steps ∷ n .peak ∷ [])
+told-run a p i = record { reply = ofRun a; promised = p; returned = ap (λ z. z .number) i; valued = ap (λ z. z .value) i; told = ap (λ z. z .place ∷ z .steps ∷ z .peak ∷ []) i }

@@ -3,6 +3,7 @@ use Prim.Native.Nat.{ℕ}
 use mathlib.Core.Path.{_≡_, refl}
 use mathlib.Core.Bool.{true, false}
 use lib.Ieee.{Float, binary64, ofBits, eq, lt}
+use Rattle.numbers.specs.Constants.{half64, two64}
 use Rattle.numbers.specs.Numbers.{belowEpsilon}
 use Rattle.numbers.specs.Signs.{zero64, one64}
 use Rattle.complex.specs.declared.Complex.{Complex}
@@ -13,7 +14,7 @@ use Rattle.trees.specs.Sums.{Sum, none, and}
 use Rattle.formats.specs.declared.record.Primitive.the-variants as prim
 use Rattle.formats.specs.Tree.{end, rec, size}
 use Rattle.drafts.specs.Writing.{push, pushPair, does, on, body, append, one, two, wrote, refused}
-use Rattle.writer.specs.ToNodes.{half64, two64, form, write, toNodes}
+use Rattle.writer.specs.ToNodes.{form, write, toNodes}
 
 abbrev three64 : Float
 three64 = ofBits binary64 0x4008000000000000

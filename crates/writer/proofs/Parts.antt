@@ -8,6 +8,7 @@ use borrow.Author.Tests.{eq-eqb, ne-eqb}
 use lib.Dec.{T, eqb}
 use lib.Ieee.{Float, eq, ofBits}
 use lib.Ieee.Scale.{finite}
+use Rattle.numbers.specs.Constants.{half64, two64}
 use Rattle.numbers.specs.Signs.{zero64, one64}
 use Rattle.numbers.proofs.Order.{eq-transitive}
 use Rattle.complex.specs.declared.Complex.{Complex}
@@ -24,7 +25,7 @@ use Rattle.drafts.specs.Contract.Lying.{Lying, SaidAs}
 use Rattle.drafts.specs.Contract.Growing.{Drawn, Spoken}
 use Rattle.drafts.proofs.Laws.{append-two, append-three}
 use Rattle.drafts.proofs.Growing.{drawn-none, drawn-as, drawn-drawn, spoken-none, spoken-as, spoken-more}
-use Rattle.writer.specs.ToNodes.{half64, two64, Form, constant, root, bare, square, power, form, isBare, isConstant, primitiveFor, over, functionOf, isEmpty, before, writePower, timesCoef, plus, close}
+use Rattle.writer.specs.ToNodes.{Form, constant, root, bare, square, power, form, isBare, isConstant, primitiveFor, over, functionOf, isEmpty, before, writePower, timesCoef, plus, close}
 
 -- ---- steps that look at what lies there
 

@@ -3,6 +3,7 @@ use mathlib.Core.Bool.{Bool, true, false, not, _&&_, _||_}
 use Prim.Native.Nat.{ℕ}
 use lib.Dec.{eqb}
 use lib.Ieee.{Float, eq, binary64, ofBits}
+use Rattle.numbers.specs.Constants.{half64, two64}
 use Rattle.numbers.specs.Signs.{zero64, one64}
 use Rattle.complex.specs.declared.Complex.{Complex}
 use Rattle.complex.specs.Arith as complex
@@ -15,12 +16,6 @@ use Rattle.formats.specs.Tree.{Nodes, end, rec}
 use Rattle.drafts.specs.Writing.{push, does, append, one, two, wrapped, Written, wrote, andThen, number}
 
 -- ---- powers of x
-
-abbrev pub half64 : Float
-half64 = ofBits binary64 0x3fe0000000000000
-
-abbrev pub two64 : Float
-two64 = ofBits binary64 0x4000000000000000
 
 -- the arms of the Rust's match on a power, which are compared as numbers
 pub data Form : Type 0 where

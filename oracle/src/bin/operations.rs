@@ -5,7 +5,7 @@ use std::{fs, io, path::Path};
 use oracle::operations::{Case, select};
 
 fn main() -> io::Result<()> {
-    let file = Path::new(env!("CARGO_MANIFEST_DIR")).join("../crates/operations/stdin");
+    let file = Path::new(env!("CARGO_MANIFEST_DIR")).join("../crates/replay_arithmetic/stdin");
     let cases = select();
     let text: String = cases.iter().map(Case::line).collect();
     println!("{} cases, {} bytes", cases.len(), text.len());

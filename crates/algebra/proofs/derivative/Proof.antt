@@ -1,4 +1,5 @@
 -- A refusal of reading is handed on; the derivative of what was read is written. Assumes nothing.
+use mathlib.Core.Path.{refl}
 use borrow.Author.Needs.{needs}
 use Rattle.formats.specs.Tree.{recordsIn}
 use Rattle.answers.specs.Making.{deriveAndWrite}
@@ -16,11 +17,11 @@ returns : tie.Need-returns
 unfolding derivative
 returns c =
     let start = c .before .before .before .before .before .before .before .before .before .before .before .before .before .before .before .before in
-    after-refused recordsIn (readList (start .args .list .now)) deriveAndWrite _ _ (start .args .out .now) (c .before .«data» .given .1) (c .before .before .before .before .before .before .before .before .read-sum .ensures)
+    (_, refl, after-refused recordsIn (readList (start .args .list .now)) deriveAndWrite _ _ (start .args .out .now) (c .before .«data» .given .1) (c .before .before .before .before .before .before .before .before .read-sum .ensures))
 
 returns-2 : tie.Need-returns-2
 unfolding derivative
-returns-2 c = after-made recordsIn (readList (c .before .before .before .before .before .before .before .before .before .before .before .before .before .before .before .before .before .before .before .before .before .before .before .before .before .args .list .now)) deriveAndWrite _ _ (c .before .before .before .before .before .before .before .before .before .before .data2 .given .1) (c .before .before .before .before .before .before .before .before .before .before .before .before .before .before .before .before .before .read-sum .ensures) (c .before .before .derive-and-write .ensures)
+returns-2 c = (_, refl, after-made recordsIn (readList (c .before .before .before .before .before .before .before .before .before .before .before .before .before .before .before .before .before .before .before .before .before .before .before .before .before .args .list .now)) deriveAndWrite _ _ (c .before .before .before .before .before .before .before .before .before .before .data2 .given .1) (c .before .before .before .before .before .before .before .before .before .before .before .before .before .before .before .before .before .read-sum .ensures) (c .before .before .derive-and-write .ensures))
 
 pub derivative-spec : {M : Type 1} → statement M
 derivative-spec =

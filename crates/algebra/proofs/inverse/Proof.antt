@@ -1,4 +1,5 @@
 -- A refusal of reading may become 10; what was read is undone. Assumes nothing.
+use mathlib.Core.Path.{refl}
 use borrow.Author.Needs.{needs}
 use Rattle.algebra.specs.Reading.{readList}
 use Rattle.algebra.specs.Entries.{inverse}
@@ -14,11 +15,11 @@ returns : tie.Need-returns
 unfolding inverse
 returns c =
     let start = c .before .before .before .before .before .before .before .before .before .before .before .before .before .before .before .before .before in
-    inverse-refused (readList (start .args .list .now)) _ _ (start .args .out .now) (c .before .before .«data» .given .1) (c .before .before .before .before .before .before .before .before .before .read-sum .ensures) (c .refuse-inverse .ensures)
+    (_, refl, inverse-refused (readList (start .args .list .now)) _ _ (start .args .out .now) (c .before .before .«data» .given .1) (c .before .before .before .before .before .before .before .before .before .read-sum .ensures) (c .refuse-inverse .ensures))
 
 returns-2 : tie.Need-returns-2
 unfolding inverse
-returns-2 c = inverse-made (readList (c .before .before .before .before .before .before .before .before .before .before .before .before .before .before .before .before .before .before .before .before .before .before .before .before .before .args .list .now)) _ _ (c .before .before .before .before .before .before .before .before .before .before .data2 .given .1) (c .before .before .before .before .before .before .before .before .before .before .before .before .before .before .before .before .before .read-sum .ensures) (c .before .before .invert-read .ensures)
+returns-2 c = (_, refl, inverse-made (readList (c .before .before .before .before .before .before .before .before .before .before .before .before .before .before .before .before .before .before .before .before .before .before .before .before .before .args .list .now)) _ _ (c .before .before .before .before .before .before .before .before .before .before .data2 .given .1) (c .before .before .before .before .before .before .before .before .before .before .before .before .before .before .before .before .before .read-sum .ensures) (c .before .before .invert-read .ensures))
 
 pub inverse-spec : {M : Type 1} → statement M
 inverse-spec =

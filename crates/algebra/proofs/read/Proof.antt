@@ -1,4 +1,5 @@
 -- A refusal is handed on; a sum is written. Assumes nothing.
+use mathlib.Core.Path.{refl}
 use borrow.Author.Needs.{needs}
 use Rattle.algebra.specs.Reading.{readList}
 use Rattle.algebra.proofs.Reading.{gave-held, read-refused, read-sum}
@@ -13,12 +14,12 @@ put-read-requires c κs =
 returns : tie.Need-returns
 returns c =
     let start = c .before .before .before .before .before .before .before .before .before .before .before .before .before .before .before .before in
-    read-refused (readList (start .args .list .now)) _ _ _ (c .before .«data» .given .1) (c .before .before .before .before .before .before .before .before .read-sum .ensures)
+    (_, refl, read-refused (readList (start .args .list .now)) _ _ _ (c .before .«data» .given .1) (c .before .before .before .before .before .before .before .before .read-sum .ensures))
 
 returns-2 : tie.Need-returns-2
 returns-2 c =
     let start = c .before .before .before .before .before .before .before .before .before .before .before .before .before .before .before .before .before .before .before .before .before .before .before .before .before in
-    read-sum (readList (start .args .list .now)) _ _ (c .before .before .before .before .before .before .before .before .before .before .data2 .given .1) (c .before .before .before .before .before .before .before .before .before .before .before .before .before .before .before .before .before .read-sum .ensures) (c .before .before .put-read .ensures)
+    (_, refl, read-sum (readList (start .args .list .now)) _ _ (c .before .before .before .before .before .before .before .before .before .before .data2 .given .1) (c .before .before .before .before .before .before .before .before .before .before .before .before .before .before .before .before .before .read-sum .ensures) (c .before .before .put-read .ensures))
 
 pub read-spec : {M : Type 1} → statement M
 read-spec =

@@ -1,6 +1,7 @@
 -- The arena starts as 1,024 zeros with x in its first cell; the whole list is walked, and one sum must be left. Assumes nothing.
 use borrow.Author.Needs.{needs}
 use mathlib.Core.Bool.{false}
+use Rattle.arena.proofs.Laws.{space-fresh}
 use Rattle.rounds.proofs.Laws.{does-told}
 use Rattle.env.proofs.Ends.{all-records, read-stop, read-ready, read-went}
 use Rattle.env.proofs.nodes_expr.Statement.{statement}
@@ -35,7 +36,7 @@ nodes-expr-spec =
     (λ c. search needs)
     (λ c. search needs)
     (λ c. search needs)
-    (λ c κs. search needs)
+    (λ c κs. space-fresh 1024)
     (λ c κs. search needs)
     (λ c. search needs)
     (λ c. search needs)

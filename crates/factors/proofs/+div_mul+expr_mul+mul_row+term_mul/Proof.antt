@@ -23,7 +23,7 @@ use Rattle.sums.proofs.Walk.{Next, next-at, lies-empty}
 use Rattle.factors.proofs.Shapes.{row-and, sum-and}
 use Rattle.factors.proofs.Lying.{lies-apart, apart-rest, Agreed, agreed-done}
 use Rattle.factors.proofs.Folding.{Folding, outset, here, onward, stopped, ended}
-use Rattle.factors.proofs.Laws.{rowOf, mul-each, insides, first-copy, second-copy, copies, made-some, next-pair, next-row, x-head, div-head, pair-x, pair-div, div-done, div-refused}
+use Rattle.factors.proofs.Laws.{rowOf, mul-each, by-powers, by-insides, insides, first-copy, second-copy, copies, made-some, next-pair, next-row, x-head, div-head, pair-x, pair-div, div-done, div-refused}
 use Rattle.factors.proofs.div_mul.Reads as div-mul
 use Rattle.factors.proofs.div_mul.Kinds as div-mul-kinds
 use Rattle.factors.proofs.+div_mul+expr_mul+mul_row+term_mul.Lts-div_mul as div-mul-lts
@@ -33,6 +33,7 @@ use Rattle.factors.proofs.+div_mul+expr_mul+mul_row+term_mul.Lts-expr_m
 use Rattle.factors.proofs.mul_row.Reads as mul-row
 use Rattle.factors.proofs.mul_row.Kinds as mul-row-kinds
 use Rattle.factors.proofs.+div_mul+expr_mul+mul_row+term_mul.Lts-mul_row as mul-row-lts
+use Rattle.terms.proofs.product_code.Reads as product-code-reads
 use Rattle.factors.proofs.term_mul.Reads as term-mul
 use Rattle.factors.proofs.term_mul.Kinds as term-mul-kinds
 use Rattle.factors.proofs.+div_mul+expr_mul+mul_row+term_mul.Lts-term_mul as term-mul-lts
@@ -90,7 +91,7 @@ abbrev mul-row-claims : ℕ → mul-row-lts.Claims
 mul-row-claims t = (load-reads.Asked, load-reads.Learnt, term-mul-below t, term-mul.Post)
 
 abbrev term-mul-claims : ℕ → term-mul-lts.Claims
-term-mul-claims t = (mul-reads.Asked, mul-reads.Learnt, put-block-reads.Asked, put-block-reads.Learnt, div-mul-below t, div-mul.Post)
+term-mul-claims t = (product-code-reads.Asked, product-code-reads.Learnt, mul-reads.Asked, mul-reads.Learnt, put-block-reads.Asked, put-block-reads.Learnt, div-mul-below t, div-mul.Post)
 
 -- ---- div_mul
 
@@ -546,6 +547,7 @@ pub +div-mul+expr-mul+mul-row+term-mul-spec : {M : Type 1} → statement M
     (a .loop .inv .2, λ u v s lu lv ls. ended (mulTerm x (λ w. mulInto u w none)) (rowable (x .kind) (mulable u)) (R-W t a) _ _ _ _ _ s v (a .loop .inv .3 u v s lu lv ls) (a .loop .inv .0) (c .loop-test .left))))
     (λ t.
     term-mul-lts.spec (term-mul-claims t) (term-mul-at t) term-mul.Post
+    (λ c κs. let w = c .before .before .before .before .before .pre .1 .0 in (w .first .good .least, w .first .good .most, w .second .good .least, w .second .good .most))
     (λ c κs. tt)
     (λ c. search needs)
     (λ c. search needs)
@@ -563,12 +565,13 @@ pub +div-mul+expr-mul+mul-row+term-mul-spec : {M : Type 1} → statement M
     (λ c.
     let d = c .before .before .before .before .before .before .before .before .before .before in
     let st = t-x t d in
-    (d .put-block .ensures .0, λ u v s lu lv ls. pair-x (T-W′ t d) (st .args .p) (st .args .x) (st .args .y) (λ w. mulInto u w none) v s _ _ (d .put-block .result) (d .before .before .before .before .before .before .before .before .before .before .before .before .before .if1 .taken) refl (d .before .before .before .before .before .before .before .before .before .before .before .before .before .before .before .mul .ensures) (d .put-block .ensures .1 s none ls (lies-empty _ 0 4 (record { kinds = omega arith; insides = omega arith; nums = omega arith; res = omega arith; ims = omega arith })))))
+    (d .put-block .ensures .0, λ u v s lu lv ls. pair-x (T-W′ t d) (st .args .p) (st .args .x) (st .args .y) (λ w. mulInto u w none) v s _ _ (d .put-block .result) (by-powers (st .args .x .kind) (st .args .y .kind) (d .before .before .before .before .before .before .before .before .before .before .before .before .before .before .before .product-code .ensures) (d .before .before .before .before .before .before .before .before .before .before .before .before .before .if1 .taken)) refl (d .before .before .before .before .before .before .before .before .before .before .before .before .before .before .mul .ensures) (d .put-block .ensures .1 s none ls (lies-empty _ 0 4 (record { kinds = omega arith; insides = omega arith; nums = omega arith; res = omega arith; ims = omega arith })))))
     (λ c. search needs)
     (λ c. search needs)
     (λ c κs.
     let st = c .before .before .before .before .before .before .before .before .before .before .before .before .before .before .before in
-    let w = insides (st .pre .1 .0) (c .before .before .before .before .before .before .before .if1 .left) in
+    let asked = c .before .before .before .before .before .before .before in
+    let w = insides (st .pre .1 .0) (by-insides (st .args .x .kind) (st .args .y .kind) (mulable (st .pre .1 .0 .t)) (st .pre .1 .0 .v) (st .pre .1 .0 .able) (asked .before .before .product-code .ensures) (asked .if1 .left)) in
     (omega (arith, st .pre .0), ((w .some-first, w .some-second, w .sums), st .pre .1 .1)))
     (λ c. c .before .before .before .before .before .before .before .before .before .before .div-mul .ensures .0 .long .kinds)
     (λ c. c .before .before .before .before .before .before .before .before .before .before .div-mul .ensures .0 .long .insides)
@@ -578,4 +581,4 @@ pub +div-mul+expr-mul+mul-row+term-mul-spec : {M : Type 1} → statement M
     (λ c.
     let d = c .before .before .before .before .before .before .before .before .before .before in
     let st = t-div t d in
-    (d .div-mul .ensures .0, λ u v s lu lv ls. pair-div (T-V′ t d) (st .args .p) (st .args .x) (st .args .y) (λ w. mulInto u w none) v s _ (d .div-mul .result) (d .before .before .before .before .before .before .before .before .if1 .left) (d .before .before .before .before .before .before .before .before .before .before .mul .ensures) (d .div-mul .ensures .1 u v s lu lv ls))))
+    (d .div-mul .ensures .0, λ u v s lu lv ls. pair-div (T-V′ t d) (st .args .p) (st .args .x) (st .args .y) (λ w. mulInto u w none) v s _ (d .div-mul .result) (by-insides (st .args .x .kind) (st .args .y .kind) (mulable (st .pre .1 .0 .t)) (st .pre .1 .0 .v) (st .pre .1 .0 .able) (d .before .before .before .before .before .before .before .before .before .before .product-code .ensures) (d .before .before .before .before .before .before .before .before .if1 .left)) (d .before .before .before .before .before .before .before .before .before .mul .ensures) (d .div-mul .ensures .1 u v s lu lv ls))))

@@ -20,24 +20,24 @@ use Rattle.quotients.proofs.Terms.{overDiv, by-div, by-power}
 use Rattle.quotients.proofs.div_term.Statement.{statement}
 use Rattle.quotients.proofs.div_term.Tie as tie
 
-abbrev start : tie.After-quotient-code → tie.Start
+abbrev start : tie.After-mul → tie.Start
 start c = c .before .before .before .before .before .before .before .before .before .before .before .before .before
 
 -- the two terms, their code, and the coefficients
-abbrev X : tie.After-quotient-code → Entry
+abbrev X : tie.After-mul → Entry
 X c = start c .args .x
 
-abbrev Y : tie.After-quotient-code → Entry
+abbrev Y : tie.After-mul → Entry
 Y c = start c .args .y
 
-code : (c : tie.After-quotient-code) → quotientCode (X c .kind) (Y c .kind) ≡ c .quotient-code .result
-code c = sym (c .quotient-code .ensures)
+code : (c : tie.After-mul) → quotientCode (X c .kind) (Y c .kind) ≡ c .before .before .quotient-code .result
+code c = sym (c .before .before .quotient-code .ensures)
 
-coef : (c : tie.After-quotient-code) → c .before .before .div .result ≡ ratio (X c) (Y c)
-coef c = c .before .before .div .ensures
+coef : (c : tie.After-mul) → c .before .div .result ≡ ratio (X c) (Y c)
+coef c = c .before .div .ensures
 
-coef-one : (c : tie.After-quotient-code) → c .before .mul .result ≡ ratioOne (X c) (Y c)
-coef-one c = c .before .mul .ensures ∙ ap (λ (d : Complex). complex.times d complex.one) (coef c)
+coef-one : (c : tie.After-mul) → c .mul .result ≡ ratioOne (X c) (Y c)
+coef-one c = c .mul .ensures ∙ ap (λ (d : Complex). complex.times d complex.one) (coef c)
 
 -- the book of each answer
 abbrev W-div : tie.After-over-div → Book
@@ -59,9 +59,9 @@ pub div-term-spec : {M : Type 1} → statement M
 div-term-spec =
     tie.close
     (tie.spec
+    (λ c κs. let st = c .before .before .before .before .before .before .before .before .before .before in let d = st .pre .2 .1 .good in (st .pre .0, st .pre .1, d .least, d .most))
     (λ c κs. tt)
     (λ c κs. tt)
-    (λ c κs. let st = c .before .before .before .before .before .before .before .before .before .before .before .before in let d = st .pre .2 .1 .good in (st .pre .0, st .pre .1, d .least, d .most))
     -- X by Div
     (λ c. search needs)
     (λ c κs. let pre = start (c .before .before .before .before .before .before .before) .pre in ((pre .2 .0, lies-more (pre .2 .1 .lies)), pre .3))

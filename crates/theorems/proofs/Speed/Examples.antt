@@ -6,6 +6,7 @@ use mathlib.Core.Option.{none, some}
 use lib.Dec.{lit≤}
 use lib.IntN.{pos}
 use lib.Ieee.{Float, fin, binary64, ofBits, toBits, eq, lt, add, mul, fits}
+use Rattle.numbers.specs.Constants.{two64}
 use Rattle.numbers.specs.Signs.{zero64, one64}
 use Rattle.numbers.specs.Numbers.{smallWhole, belowEpsilon}
 use Rattle.complex.specs.Arith as complex
@@ -17,7 +18,7 @@ use Rattle.trees.specs.Good.{Good}
 use Rattle.formats.specs.Names.{kindOf, primitiveOf}
 use Rattle.formats.specs.Tree.{Nodes, size, count}
 use Rattle.drafts.specs.Writing.{append, Written, wrote, refused}
-use Rattle.writer.specs.ToNodes.{two64, form, write, toNodes}
+use Rattle.writer.specs.ToNodes.{form, write, toNodes}
 use Rattle.writer.specs.Count.{cost, costs, recordsFor}
 use Rattle.theorems.specs.Contract.Reals.{RealSum}
 use Rattle.running.specs.declared.RunAnswer.{RunAnswer}

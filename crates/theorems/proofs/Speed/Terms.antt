@@ -13,6 +13,7 @@ use lib.Ieee.{Float, fin, binary64, up, down, eq, lt, ofBits, fits}
 use lib.Ieee.Bits.{is-true}
 use lib.Ieee.Fits.{and-r, down-pos, eq→eqb}
 use lib.Ieee.Scale.{finite}
+use Rattle.numbers.specs.Constants.{half64, two64}
 use Rattle.numbers.specs.Signs.{zero64, one64, Zero}
 use Rattle.numbers.specs.Ops.{_⊕_, _⊗_}
 use Rattle.numbers.specs.Numbers.{smallWhole, belowEpsilon}
@@ -34,7 +35,7 @@ use Rattle.formats.specs.Tree.{Nodes, end, size}
 use Rattle.drafts.specs.Writing.{push, does, append, one, two, Written, andThen, canWrite}
 use Rattle.drafts.proofs.Laws.{append-end, append-join, size-append}
 use Rattle.drafts.proofs.Fine.{Fine, fine-more, fine-end, fine-append, fine-two, plain-does, plain-push}
-use Rattle.writer.specs.ToNodes.{Form, half64, two64, form, isBare, isConstant, isEmpty, before, plus, writePower, timesCoef, write}
+use Rattle.writer.specs.ToNodes.{Form, form, isBare, isConstant, isEmpty, before, plus, writePower, timesCoef, write}
 use Rattle.writer.specs.Count.{cost}
 use Rattle.running.specs.Primitives.{times}
 use Rattle.theorems.specs.Value.{termValue, timesUnless}

@@ -1,5 +1,4 @@
 -- The entry's answer, told. Assumes nothing.
-use mathlib.Core.Path.{refl}
 use borrow.Author.Needs.{needs}
 use Rattle.algebra.specs.Replies as entry
 use Rattle.uplink.proofs.Telling.{told-count}
@@ -7,7 +6,7 @@ use Rattle.uplink.proofs.uplink_derivative.Statement.{statement}
 use Rattle.uplink.proofs.uplink_derivative.Tie as tie
 
 returns : tie.Need-returns
-returns c = told-count entry.derivative (c .before .before .before .before .derivative .result) (c .before .answer-numbers .ensures) (c .before .before .before .before .derivative .result, refl, c .before .before .before .before .derivative .ensures)
+returns c = told-count entry.derivative (c .before .before .before .before .derivative .result) (c .before .answer-numbers .ensures) (c .before .before .before .before .derivative .ensures)
 
 pub uplink-derivative-spec : {M : Type 1} → statement M
 uplink-derivative-spec = tie.close (tie.spec (λ c κs. search needs) (λ c κs. search needs) (λ c. search needs) returns)
