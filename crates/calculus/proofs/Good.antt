@@ -13,6 +13,7 @@ use Rattle.numbers.specs.Ops.{_⊕_, _⊖_}
 use Rattle.numbers.specs.Signs.{zero64, one64}
 use Rattle.complex.specs.declared.Complex.{Complex}
 use Rattle.complex.specs.Arith as complex
+use Rattle.cells.specs.declared.Entry.{Entry}
 use Rattle.trees.specs.declared.Merge.{Merge}
 use Rattle.trees.specs.declared.Merge.the-variants.{Add, Take, Store}
 use Rattle.limits.specs.declared.Refusal.the-variants.{TooComplex}
@@ -41,6 +42,27 @@ fits-timesReal c p = record { re = mul-fits binary64 _ _; im = mul-fits binary64
 pub fits-overReal : (c : Complex) (p : Float) → Fits (complex.overReal c p)
 fits-overReal c p = record { re = div-fits binary64 _ _; im = div-fits binary64 _ _ }
 
+-- ---- terms of another kind
+
+-- a term of a kind without a number, with a good inside, was formed in s
+pub record Turned (s r : Sum) : Type 0 where
+  pub how : Merge
+  pub head : Entry
+  pub inside : Sum
+  pub fit : GoodHead head inside
+  pub numberless : kinds.hasNumber (head .kind) ≡ false
+  pub good : Good 4 inside
+  pub is : formed how head inside s ≡ sum r
+
+turned : (k n : ℕ) (c : Complex) (m : Merge) (s r : Sum) → 1 ≤ k → k ≤ 8 → kinds.hasNumber k ≡ false → (i : Sum) → isEmpty i ≡ false → Good 4 i → Fits c
+    → formed m (entry k n zero64 c) i s ≡ sum r → Turned s r
+turned k n c m s r a b l i e g f h =
+    record { how = m; head = entry k n zero64 c; inside = i; fit = over-head k n i c a b l e f; numberless = l; good = g; is = h }
+
+-- it leaves a good sum
+pub good-turned : {s r : Sum} → Good 4 s → Turned s r → GoodSum r
+good-turned {s} {r} g t = good-formed (t .how) (t .head) (t .inside) s r (t .fit) (t .good) g (t .is)
+
 -- ---- derivatives
 
 -- a good sum as it is built, which may still be empty
@@ -50,52 +72,58 @@ Kept s = Good 4 s × (size s ≤ 64)
 kept : {r : Sum} → GoodSum r → Kept r
 kept g = (g .good, g .room)
 
-by-prime : (f : Complex → Outcome) (v : Found) (r : Sum) → ((d : Complex) → f d ≡ sum r → GoodSum r) → byPrime v f ≡ sum r → GoodSum r
-by-prime f absent r k h = never h
-by-prime f (at d) r k h = k d h
+by-prime : (P : Sum → Type 0) (f : Complex → Outcome) (v : Found) (r : Sum) → ((d : Complex) → f d ≡ sum r → P r) → byPrime v f ≡ sum r → P r
+by-prime P f absent r k h = never h
+by-prime P f (at d) r k h = k d h
 
-by-ln : (f : Float → Outcome) (l : Ln) (r : Sum) → ((v : Float) → f v ≡ sum r → GoodSum r) → byLn l f ≡ sum r → GoodSum r
-by-ln f (Is v) r k h = k v h
-by-ln f Other r k h = never h
+by-ln : (P : Sum → Type 0) (f : Float → Outcome) (l : Ln) (r : Sum) → ((v : Float) → f v ≡ sum r → P r) → byLn l f ≡ sum r → P r
+by-ln P f (Is v) r k h = k v h
+by-ln P f Other r k h = never h
 
-module _ (l : ℕ) (q : Float) (j : Sum) (d : Complex) (s r : Sum) (gs : Good 4 s) where
-  -- a term of another kind of the same inside
-  turned-good : (k : ℕ) (c : Complex) (m : Merge) → 1 ≤ k → k ≤ 8 → kinds.hasNumber k ≡ false → (i : Sum) → isEmpty i ≡ false → Good 4 i → Fits c → turnedTo k c i m s ≡ sum r → GoodSum r
-  turned-good k c m a b n i e g f h = good-formed m (entry k (size i) zero64 c) i s r (over-head k (size i) i c a b n e f) g gs h
+-- a power of x
+pub derive-is-x : (k n : ℕ) (p : Float) (c : Complex) (j s : Sum) → eqb k kinds.X ≡ true → deriveInto (entry k n p c) j s ≡ deriveX (entry k n p c) s
+unfolding deriveInto
+derive-is-x k n p c j s e = rw e
 
+module _ (l : ℕ) (q : Float) (j : Sum) (d : Complex) (s r : Sum) where
   x-good : Kept s → deriveX (entry l (size j) q d) s ≡ sum r → Kept r
   x-good ks h =
       either Kept (vanishes q d) (sum s) (formed Add (entry kinds.X 0 (q ⊖ one64) (slope q d)) none s) r
       (λ e. subst Kept (sum-is e) ks)
-      (λ e. kept (good-formed Add (entry kinds.X 0 (q ⊖ one64) (slope q d)) none s r (x-head 0 (q ⊖ one64) (slope q d) (sub-fits binary64 q one64) (fits-timesReal d q)) none-good gs e))
+      (λ e. kept (good-formed Add (entry kinds.X 0 (q ⊖ one64) (slope q d)) none s r (x-head 0 (q ⊖ one64) (slope q d) (sub-fits binary64 q one64) (fits-timesReal d q)) none-good (ks .0) e))
       h
 
   module _ (gj : GoodSum j) where
-    div-good : deriveDiv (entry l (size j) q d) j s ≡ sum r → Fits d → GoodSum r
-    div-good h f =
+    -- a term of another kind of the same inside
+    same-turned : (k : ℕ) (c : Complex) (m : Merge) → 1 ≤ k → k ≤ 8 → kinds.hasNumber k ≡ false → Fits c → turnedTo k c j m s ≡ sum r → Turned s r
+    same-turned k c m a b n f h = turned k (size j) c m s r a b n j (gj .some) (gj .good) f h
+
+    div-turned : Fits d → deriveDiv (entry l (size j) q d) j s ≡ sum r → Turned s r
+    div-turned f h =
         let w = then-sum (product j j) (λ w. turnedTo kinds.Div d w Add s) r h in
         let v = good-product gj gj (w .1) in
-        turned-good kinds.Div d Add (omega arith) (omega arith) refl (w .0) (v .some) (v .good) f (w .2)
+        turned kinds.Div (size (w .0)) d Add s r (omega arith) (omega arith) refl (w .0) (v .some) (v .good) f (w .2)
 
-    exp-good : deriveExp (entry l (size j) q d) j s ≡ sum r → GoodSum r
-    exp-good h =
-        turned-good kinds.Exp (complex.times d (firstCoef j)) Add (omega arith) (omega arith) refl j (gj .some) (gj .good) (fits-times d (firstCoef j))
+    exp-turned : deriveExp (entry l (size j) q d) j s ≡ sum r → Turned s r
+    exp-turned h =
+        same-turned kinds.Exp (complex.times d (firstCoef j)) Add (omega arith) (omega arith) refl (fits-times d (firstCoef j))
         (unless-sum (isX j) TooComplex (turnedTo kinds.Exp (complex.times d (firstCoef j)) j Add s) r h .1)
 
-    by-good : (k : ℕ) (m : Merge) → 1 ≤ k → k ≤ 8 → kinds.hasNumber k ≡ false → deriveBy k m (entry l (size j) q d) j s ≡ sum r → GoodSum r
-    by-good k m a b n h =
-        by-prime (λ v. turnedTo k (complex.times d v) j m s) (prime j) r (λ v e. turned-good k (complex.times d v) m a b n j (gj .some) (gj .good) (fits-times d v) e) h
+    by-turned : (k : ℕ) (m : Merge) → 1 ≤ k → k ≤ 8 → kinds.hasNumber k ≡ false → deriveBy k m (entry l (size j) q d) j s ≡ sum r → Turned s r
+    by-turned k m a b n h =
+        by-prime (Turned s) (λ v. turnedTo k (complex.times d v) j m s) (prime j) r (λ v e. same-turned k (complex.times d v) m a b n (fits-times d v) e) h
 
-    log-good : deriveLog (entry l (size j) q d) j s ≡ sum r → GoodSum r
-    log-good h =
-        by-prime (λ v. byLn (lnOf q) (λ w. turnedTo kinds.Div (complex.overReal (complex.times d v) w) j Add s)) (prime j) r
-        (λ v e. by-ln (λ w. turnedTo kinds.Div (complex.overReal (complex.times d v) w) j Add s) (lnOf q) r
-        (λ w o. turned-good kinds.Div (complex.overReal (complex.times d v) w) Add (omega arith) (omega arith) refl j (gj .some) (gj .good) (fits-overReal (complex.times d v) w) o) e)
+    log-turned : deriveLog (entry l (size j) q d) j s ≡ sum r → Turned s r
+    log-turned h =
+        by-prime (Turned s) (λ v. byLn (lnOf q) (λ w. turnedTo kinds.Div (complex.overReal (complex.times d v) w) j Add s)) (prime j) r
+        (λ v e. by-ln (Turned s) (λ w. turnedTo kinds.Div (complex.overReal (complex.times d v) w) j Add s) (lnOf q) r
+        (λ w o. same-turned kinds.Div (complex.overReal (complex.times d v) w) Add (omega arith) (omega arith) refl (fits-overReal (complex.times d v) w) o) e)
         h
 
-  into-good : GoodEntry l q j d → Good 4 j → size j ≤ 64 → Kept s → deriveInto (entry l (size j) q d) j s ≡ sum r → Kept r
+  -- any other term becomes one of a kind without a number
+  pub derive-turned : eqb l kinds.X ≡ false → GoodEntry l q j d → Good 4 j → size j ≤ 64 → deriveInto (entry l (size j) q d) j s ≡ sum r → Turned s r
   unfolding deriveInto
-  into-good e gj n ks h = go (eqb l kinds.X) refl h
+  derive-turned z e gj n h = others (rw z at h)
     where
       o3 : Outcome
       o3 = cond (eqb l kinds.SinH) (deriveBy kinds.CosH Add (entry l (size j) q d) j s) (deriveBy kinds.SinH Add (entry l (size j) q d) j s)
@@ -112,27 +140,33 @@ module _ (l : ℕ) (q : Float) (j : Sum) (d : Complex) (s r : Sum) (gs : Good 4 
       o7 : Outcome
       o7 = cond (eqb l kinds.Log) (deriveLog (entry l (size j) q d) j s) o6
 
-      others : GoodSum j → cond (eqb l kinds.Div) (deriveDiv (entry l (size j) q d) j s) o7 ≡ sum r → GoodSum r
-      others g h =
-          either GoodSum (eqb l kinds.Div) (deriveDiv (entry l (size j) q d) j s) o7 r (λ z. div-good g z (good-head l (size j) q j d e .coef))
-          (either GoodSum (eqb l kinds.Log) (deriveLog (entry l (size j) q d) j s) o6 r (log-good g)
-          (either GoodSum (eqb l kinds.Exp) (deriveExp (entry l (size j) q d) j s) o5 r (exp-good g)
-          (either GoodSum (eqb l kinds.Sin) (deriveBy kinds.Cos Add (entry l (size j) q d) j s) o4 r (by-good g kinds.Cos Add (omega arith) (omega arith) refl)
-          (either GoodSum (eqb l kinds.Cos) (deriveBy kinds.Sin Take (entry l (size j) q d) j s) o3 r (by-good g kinds.Sin Take (omega arith) (omega arith) refl)
-          (either GoodSum (eqb l kinds.SinH) (deriveBy kinds.CosH Add (entry l (size j) q d) j s) (deriveBy kinds.SinH Add (entry l (size j) q d) j s) r
-          (by-good g kinds.CosH Add (omega arith) (omega arith) refl) (by-good g kinds.SinH Add (omega arith) (omega arith) refl))))))
+      g : GoodSum j
+      g = record { good = gj; room = n; some = e .inside ∙ z }
+
+      others : cond (eqb l kinds.Div) (deriveDiv (entry l (size j) q d) j s) o7 ≡ sum r → Turned s r
+      others h =
+          either (Turned s) (eqb l kinds.Div) (deriveDiv (entry l (size j) q d) j s) o7 r (div-turned g (good-head l (size j) q j d e .coef))
+          (either (Turned s) (eqb l kinds.Log) (deriveLog (entry l (size j) q d) j s) o6 r (log-turned g)
+          (either (Turned s) (eqb l kinds.Exp) (deriveExp (entry l (size j) q d) j s) o5 r (exp-turned g)
+          (either (Turned s) (eqb l kinds.Sin) (deriveBy kinds.Cos Add (entry l (size j) q d) j s) o4 r (by-turned g kinds.Cos Add (omega arith) (omega arith) refl)
+          (either (Turned s) (eqb l kinds.Cos) (deriveBy kinds.Sin Take (entry l (size j) q d) j s) o3 r (by-turned g kinds.Sin Take (omega arith) (omega arith) refl)
+          (either (Turned s) (eqb l kinds.SinH) (deriveBy kinds.CosH Add (entry l (size j) q d) j s) (deriveBy kinds.SinH Add (entry l (size j) q d) j s) r
+          (by-turned g kinds.CosH Add (omega arith) (omega arith) refl) (by-turned g kinds.SinH Add (omega arith) (omega arith) refl))))))
           h
 
-      go : (b : Bool) → eqb l kinds.X ≡ b → cond b (deriveX (entry l (size j) q d) s) (cond (eqb l kinds.Div) (deriveDiv (entry l (size j) q d) j s) o7) ≡ sum r → Kept r
-      go true z h = x-good ks h
-      go false z h = kept (others (record { good = gj; room = n; some = e .inside ∙ z }) h)
+  into-good : GoodEntry l q j d → Good 4 j → size j ≤ 64 → Kept s → deriveInto (entry l (size j) q d) j s ≡ sum r → Kept r
+  into-good e gj n ks h = go (eqb l kinds.X) refl
+    where
+      go : (b : Bool) → eqb l kinds.X ≡ b → Kept r
+      go true z = x-good ks (sym (derive-is-x l (size j) q d j s z) ∙ h)
+      go false z = kept (good-turned (ks .0) (derive-turned z e gj n h))
 
 each-kept : (t s r : Sum) → Good 4 t → size t ≤ 64 → Kept s → eachInto deriveInto s t ≡ sum r → Kept r
 unfolding eachInto Good size
 each-kept none s r g n k h = subst Kept (sum-is h) k
 each-kept (and l q j d t) s r g n k h =
     let w = then-sum (deriveInto (entry l (size j) q d) j s) (λ u. eachInto deriveInto u t) r h in
-    each-kept t (w .0) r (g .3) (omega arith) (into-good l q j d s (w .0) (k .0) (g .0) (good-more 3 j (g .1)) (omega arith) k (w .1)) (w .2)
+    each-kept t (w .0) r (g .3) (omega arith) (into-good l q j d s (w .0) (g .0) (good-more 3 j (g .1)) (omega arith) k (w .1)) (w .2)
 
 none-kept : Kept none
 unfolding size
@@ -167,33 +201,35 @@ x-is-good = good-xTo one64 complex.one one-number one-number zero-number
 pub log-head-good : (c : Complex) → Fits c → GoodHead (entry kinds.Log 1 euler c) x
 log-head-good c f = record { least = omega arith; most = omega arith; number = ofBits-fits binary64 0x4005bf0a8b145769; none-else = λ z. differ z; coef = f; inside = refl }
 
-module _ (l : ℕ) (q : Float) (j : Sum) (d : Complex) (s r : Sum) (e : GoodEntry l q j d) (gs : Good 4 s) where
+-- a power of x
+pub integrate-is-x : (k n : ℕ) (p : Float) (c : Complex) (j s : Sum) → eqb k kinds.X ≡ true → integrateInto (entry k n p c) j s ≡ integrateX (entry k n p c) s
+unfolding integrateInto
+integrate-is-x k n p c j s e = rw e
+
+module _ (l : ℕ) (q : Float) (j : Sum) (d : Complex) (s r : Sum) (e : GoodEntry l q j d) where
   fits-d : Fits d
   fits-d = good-head l (size j) q j d e .coef
 
-  stored-good : (k : ℕ) (c : Complex) → 1 ≤ k → k ≤ 8 → kinds.hasNumber k ≡ false → Fits c → stored k zero64 c s ≡ sum r → GoodSum r
-  stored-good k c a b n f h = good-formed Store (entry k 1 zero64 c) x s r (over-head k 1 x c a b n refl f) (x-is-good .good) gs h
-
-  int-x-good : integrateX (entry l (size j) q d) s ≡ sum r → GoodSum r
-  int-x-good h =
+  int-x-good : Good 4 s → integrateX (entry l (size j) q d) s ≡ sum r → GoodSum r
+  int-x-good gs h =
       either GoodSum (eq (q ⊕ one64) zero64) (stored kinds.Log euler d s) (formed Store (entry kinds.X 0 (q ⊕ one64) (complex.overReal d (q ⊕ one64))) none s) r
       (good-formed Store (entry kinds.Log 1 euler d) x s r (log-head-good d fits-d) (x-is-good .good) gs)
       (good-formed Store (entry kinds.X 0 (q ⊕ one64) (complex.overReal d (q ⊕ one64))) none s r
       (x-head 0 (q ⊕ one64) (complex.overReal d (q ⊕ one64)) (add-fits binary64 q one64) (fits-overReal d (q ⊕ one64))) none-good gs)
       h
 
-  int-by-good : (k : ℕ) (c : Complex) → 1 ≤ k → k ≤ 8 → kinds.hasNumber k ≡ false → Fits c → integrateBy k c j s ≡ sum r → GoodSum r
-  int-by-good k c a b n f h = stored-good k c a b n f (unless-sum (sameSum j x) TooComplex (stored k zero64 c s) r h .1)
+  int-by-turned : (k : ℕ) (c : Complex) → 1 ≤ k → k ≤ 8 → kinds.hasNumber k ≡ false → Fits c → integrateBy k c j s ≡ sum r → Turned s r
+  int-by-turned k c a b n f h = turned k 1 c Store s r a b n x refl (x-is-good .good) f (unless-sum (sameSum j x) TooComplex (stored k zero64 c s) r h .1)
 
-  int-good : integrateInto (entry l (size j) q d) j s ≡ sum r → GoodSum r
+  -- any other term becomes one of a kind without a number
+  pub integrate-turned : eqb l kinds.X ≡ false → integrateInto (entry l (size j) q d) j s ≡ sum r → Turned s r
   unfolding integrateInto
-  int-good h =
-      either GoodSum (eqb l kinds.X) (integrateX (entry l (size j) q d) s) o4 r int-x-good
-      (either GoodSum (eqb l kinds.Sin) (integrateBy kinds.Cos (complex.negated d) j s) o3 r (int-by-good kinds.Cos (complex.negated d) (omega arith) (omega arith) refl (fits-negated fits-d))
-      (either GoodSum (eqb l kinds.Cos) (integrateBy kinds.Sin d j s) o2 r (int-by-good kinds.Sin d (omega arith) (omega arith) refl fits-d)
-      (either GoodSum (eqb l kinds.SinH) (integrateBy kinds.CosH d j s) o1 r (int-by-good kinds.CosH d (omega arith) (omega arith) refl fits-d)
-      (either GoodSum (eqb l kinds.CosH) (integrateBy kinds.SinH d j s) (refused TooComplex) r (int-by-good kinds.SinH d (omega arith) (omega arith) refl fits-d) (λ z. never z)))))
-      h
+  integrate-turned z h =
+      either (Turned s) (eqb l kinds.Sin) (integrateBy kinds.Cos (complex.negated d) j s) o3 r (int-by-turned kinds.Cos (complex.negated d) (omega arith) (omega arith) refl (fits-negated fits-d))
+      (either (Turned s) (eqb l kinds.Cos) (integrateBy kinds.Sin d j s) o2 r (int-by-turned kinds.Sin d (omega arith) (omega arith) refl fits-d)
+      (either (Turned s) (eqb l kinds.SinH) (integrateBy kinds.CosH d j s) o1 r (int-by-turned kinds.CosH d (omega arith) (omega arith) refl fits-d)
+      (either (Turned s) (eqb l kinds.CosH) (integrateBy kinds.SinH d j s) (refused TooComplex) r (int-by-turned kinds.SinH d (omega arith) (omega arith) refl fits-d) (λ z. never z))))
+      (rw z at h)
     where
       o1 : Outcome
       o1 = cond (eqb l kinds.CosH) (integrateBy kinds.SinH d j s) (refused TooComplex)
@@ -204,8 +240,12 @@ module _ (l : ℕ) (q : Float) (j : Sum) (d : Complex) (s r : Sum) (e : GoodEntr
       o3 : Outcome
       o3 = cond (eqb l kinds.Cos) (integrateBy kinds.Sin d j s) o2
 
-      o4 : Outcome
-      o4 = cond (eqb l kinds.Sin) (integrateBy kinds.Cos (complex.negated d) j s) o3
+  int-good : Good 4 s → integrateInto (entry l (size j) q d) j s ≡ sum r → GoodSum r
+  int-good gs h = go (eqb l kinds.X) refl
+    where
+      go : (b : Bool) → eqb l kinds.X ≡ b → GoodSum r
+      go true z = int-x-good gs (sym (integrate-is-x l (size j) q d j s z) ∙ h)
+      go false z = good-turned gs (integrate-turned z h)
 
 -- the integral of a good sum
 pub integrate-good : (s : Sum) {r : Sum} → GoodSum s → integrate s ≡ sum r → GoodSum r
