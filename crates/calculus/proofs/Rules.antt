@@ -1,4 +1,4 @@
--- Calculus in IEEE operations: the coefficients of the derivative and of the integral of a sum of powers of x. Assumes nothing.
+-- Calculus in IEEE operations: the coefficients that the derivative and the integral of a sum have at the powers of x. Assumes nothing.
 use Prim.Native.Nat.{ℕ, _≤_}
 use native.Mathlib.Omega.{arith}
 use mathlib.Core.Path.{_≡_, refl, sym, ap, subst, _∙_}
@@ -10,15 +10,16 @@ use lib.IntN.{ℤ}
 use lib.Ieee.{Float, eq, binary64, fits, ofBits}
 use lib.Ieee.Fits.{add-fits, sub-fits}
 use lib.Ieee.Scale.{finite}
-use borrow.Author.Tests.{eq-eqb}
+use borrow.Author.Tests.{eqb-true, eq-eqb}
 use Rattle.numbers.specs.Constants.{euler}
 use Rattle.numbers.specs.Ops.{_⊕_, _⊖_}
+use Rattle.numbers.specs.Order.{cmpNum}
 use Rattle.numbers.specs.Signs.{zero64, one64}
 use Rattle.numbers.specs.Wholes.{Means, Near, NearUp}
 use Rattle.numbers.specs.declared.Ordering.{Ordering}
 use Rattle.numbers.specs.declared.Ordering.the-variants.{Less, Equal, Greater}
 use Rattle.numbers.proofs.Bools.{T-of}
-use Rattle.numbers.proofs.Order.{eq-symmetric, eq-transitive}
+use Rattle.numbers.proofs.Order.{eq-symmetric, eq-transitive, then-equal-both}
 use Rattle.numbers.proofs.Wholes.{means-finite, less-1, less-1-eq, more-1, more-1-eq}
 use Rattle.numbers.proofs.Zeros.{eq-self}
 use Rattle.complex.specs.declared.Complex.{Complex}
@@ -27,31 +28,49 @@ use Rattle.cells.specs.declared.Entry.{Entry}
 use Rattle.trees.specs.declared.Merge.the-variants.{Add, Store}
 use Rattle.trees.specs.Kinds as kinds
 use Rattle.trees.specs.Sums.{Sum, none, and, size, entry}
-use Rattle.trees.specs.Order.{cmpTerm}
+use Rattle.trees.specs.Order.{cmpNat, cmpHead, cmpSum, cmpTerm}
 use Rattle.trees.specs.Same.{sameSum}
-use Rattle.trees.specs.Good.{isEmpty, Good}
+use Rattle.trees.specs.Good.{isEmpty, GoodEntry, Good}
 use Rattle.trees.specs.Map.{byOrder, sum, Found, at, absent, formed, eachInto, lookup}
-use Rattle.trees.proofs.Order.{Finite, Key, good-finite, good-key, term-self}
-use Rattle.trees.proofs.Keeps.{Fits, Formed, formed-sum, good-head}
+use Rattle.trees.proofs.Order.{Finite, Key, good-finite, good-key, nat-equal, term-self}
+use Rattle.trees.proofs.Keeps.{Fits, Formed, formed-sum, good-head, good-more}
 use Rattle.trees.proofs.Lookup.{lookup-other, lookup-before, Has, here, there}
 use Rattle.trees.proofs.Same.{alone-same}
 use Rattle.terms.specs.Singles.{GoodSum, constant}
 use Rattle.terms.specs.Powers.{PowerSum, coefAt, where-is, totalAt}
-use Rattle.terms.proofs.Steps.{never, differ, sum-is, then-sum, and-both}
+use Rattle.terms.proofs.Steps.{never, differ, sum-is, then-sum, either, and-both}
 use Rattle.terms.proofs.Goodness.{x-head, none-good, good-formed}
 use Rattle.terms.proofs.Agree.{Fine, then-fine, formed-fine}
-use Rattle.terms.proofs.Calculus.{xKey, coef-found, put-found, gained-total, Gained, gained-none, gained-then, gained-x, put-powers}
+use Rattle.terms.proofs.Calculus.{xKey, coef-found, put-found, gained, gained-total, gained-x, put-powers}
 use Rattle.calculus.specs.Derivative.{slope, vanishes, deriveX, deriveInto, orZero, derive}
 use Rattle.calculus.specs.Integral.{x, stored, integrateX, integrateInto, integrate}
-use Rattle.calculus.specs.Rules.{slopeAt, slopesAt, allVanish, NearSum, later, dividedAt, lastAt, lastLog, logKey, NearUpSum}
-use Rattle.calculus.proofs.Good.{fits-timesReal, fits-overReal, x-is-good, log-head-good}
+use Rattle.calculus.specs.Rules.{WholePowers, slopeAt, slopesAt, allVanish, later, dividedAt, lastAt, lastLog, logKey}
+use Rattle.calculus.proofs.Good.{fits-timesReal, fits-overReal, Turned, good-turned, derive-is-x, derive-turned, x-is-good, log-head-good, integrate-is-x, integrate-turned}
+
+-- ---- terms of other kinds
+
+key-x : (n : ℕ) (q : Float) (c : Complex) → T (finite q) → Key (entry kinds.X n q c) none
+unfolding Finite
+key-x n q c f = record { num = f; inside = tt }
+
+-- they leave the powers of x and the logarithms as they were
+turned-found : {s r : Sum} → Good 4 s → Turned s r → (y : Entry) (u : Sum) → Key y u → kinds.hasNumber (y .kind) ≡ true → lookup y u r ≡ lookup y u s
+turned-found {s} {r} g t y u k e =
+    let f = formed-sum (t .how) (t .head) (t .inside) s r (t .is) in
+    let own : Key (t .head) (t .inside) = record { num = T-of (f .num); inside = good-finite 4 (t .inside) (t .good) } in
+    rw (f .is) (lookup-other (t .how) (t .head) (t .inside) y u s own k (good-finite 4 s g) apart)
+  where
+    apart : cmpTerm y u (t .head) (t .inside) ≡ Equal → ⊥
+    apart h =
+        let a = then-equal-both (cmpHead y (t .head)) (cmpSum u (t .inside)) h in
+        let b = then-equal-both (cmpNat (y .kind) (t .head .kind)) (cmpNum (y .num) (t .head .num)) (a .0) in
+        differ (sym e ∙ ap kinds.hasNumber (nat-equal (y .kind) (t .head .kind) (b .0)) ∙ t .numberless)
+
+turned-coef : {s r : Sum} → Good 4 s → Turned s r → (q : Float) → T (finite q) → coefAt q r ≡ coefAt q s
+turned-coef {s} {r} g t q f =
+    coef-found 3 q r f (good-turned g t .good) ∙ turned-found g t (xKey q) none (key-x 0 q complex.zero f) refl ∙ sym (coef-found 3 q s f g)
 
 -- ---- derivatives
-
--- the derivative of the power sum t put into s gives r
-record Derived (t s r : Sum) : Type 0 where
-  gains : Gained s r (λ q. slopesAt q t)
-  empty : isEmpty r ≡ isEmpty s && allVanish t
 
 and-id : (a : Bool) → a ≡ a && true
 and-id true = refl
@@ -65,57 +84,80 @@ and-three : (a b c : Bool) → (a && b) && c ≡ a && (b && c)
 and-three true b c = refl
 and-three false b c = refl
 
+-- one term put into s gives u: at each finite power q the numbers l q are added, and u is empty where s is and nothing was put in
+record Added (s u : Sum) (l : Float → List Complex) (nothing : Bool) : Type 0 where
+  good : Good 4 u
+  coef : (q : Float) → T (finite q) → (m : List Complex) → gained (coefAt q u) m ≡ gained (coefAt q s) (l q ++ m)
+  empty : isEmpty u ≡ isEmpty s && nothing
+
 -- a power of x
-derive-is-x : (k n : ℕ) (p : Float) (c : Complex) (j s : Sum) → eqb k kinds.X ≡ true → deriveInto (entry k n p c) j s ≡ deriveX (entry k n p c) s
-unfolding deriveInto
-derive-is-x k n p c j s e = rw e
+x-added : (k n : ℕ) (p : Float) (c : Complex) (s u : Sum) → Good 4 s → deriveX (entry k n p c) s ≡ sum u → Added s u (λ q. slopeAt q p c) (vanishes p c)
+x-added k n p c s u g h = go (vanishes p c) h
+  where
+    y : Entry
+    y = entry kinds.X 0 (p ⊖ one64) (slope p c)
 
-module _ (k n : ℕ) (p : Float) (c : Complex) (s u : Sum) (g : Good 4 s) where
-  x-gained : deriveX (entry k n p c) s ≡ sum u → Gained s u (λ q. slopeAt q p c)
-  x-gained h = go (vanishes p c) h
-    where
-      go : (b : Bool) → cond b (sum s) (formed Add (entry kinds.X 0 (p ⊖ one64) (slope p c)) none s) ≡ sum u → Gained s u (λ q. cond b [] (where-is q (p ⊖ one64) (slope p c)))
-      go true h = gained-none s u g h
-      go false h = gained-x (p ⊖ one64) (slope p c) s u (sub-fits binary64 p one64) (fits-timesReal c p) g h
+    one : (f : Found) (m : List Complex) (b : Bool) → gained (gained f (cond b (slope p c ∷ []) [])) m ≡ gained f (cond b (slope p c ∷ []) [] ++ m)
+    one f m true = refl
+    one f m false = refl
 
-  x-empty : deriveX (entry k n p c) s ≡ sum u → isEmpty u ≡ isEmpty s && vanishes p c
-  x-empty h = go (vanishes p c) h
-    where
-      go : (b : Bool) → cond b (sum s) (formed Add (entry kinds.X 0 (p ⊖ one64) (slope p c)) none s) ≡ sum u → isEmpty u ≡ isEmpty s && b
-      go true h = ap isEmpty (sym (sum-is h)) ∙ and-id (isEmpty s)
-      go false h =
-          good-formed Add (entry kinds.X 0 (p ⊖ one64) (slope p c)) none s u (x-head 0 (p ⊖ one64) (slope p c) (sub-fits binary64 p one64) (fits-timesReal c p)) none-good g h .some
-          ∙ and-no (isEmpty s)
+    go : (b : Bool) → cond b (sum s) (formed Add y none s) ≡ sum u → Added s u (λ q. cond b [] (where-is q (p ⊖ one64) (slope p c))) b
+    go true h = subst (λ (v : Sum). Added s v (λ q. []) true) (sum-is h) (record { good = g; coef = λ q f m. refl; empty = and-id (isEmpty s) })
+    go false h =
+        let w = gained-x (p ⊖ one64) (slope p c) s u (sub-fits binary64 p one64) (fits-timesReal c p) g h in
+        let v = good-formed Add y none s u (x-head 0 (p ⊖ one64) (slope p c) (sub-fits binary64 p one64) (fits-timesReal c p)) none-good g h in
+        record {
+          good = w .good;
+          coef = λ q f m. ap (λ (o : Found). gained o m) (w .coef q f) ∙ one (coefAt q s) m (eq (p ⊖ one64) q);
+          empty = v .some ∙ and-no (isEmpty s);
+        }
 
-derived : (t s r : Sum) → PowerSum t → Good 4 s → eachInto deriveInto s t ≡ sum r → Derived t s r
-unfolding eachInto PowerSum slopesAt allVanish
-derived none s r p g h = record { gains = gained-none s r g h; empty = ap isEmpty (sym (sum-is h)) ∙ and-id (isEmpty s) }
-derived (and l v j d t) s r p g h =
+-- any term
+term-added : (l : ℕ) (v : Float) (j : Sum) (d : Complex) (s u : Sum) → GoodEntry l v j d → Good 4 j → size j ≤ 64 → Good 4 s
+    → deriveInto (entry l (size j) v d) j s ≡ sum u
+    → Added s u (λ q. cond (eqb l kinds.X) (slopeAt q v d) []) (eqb l kinds.X && vanishes v d)
+term-added l v j d s u e gj n g h = go (eqb l kinds.X) refl
+  where
+    go : (b : Bool) → eqb l kinds.X ≡ b → Added s u (λ q. cond b (slopeAt q v d) []) (b && vanishes v d)
+    go true z = x-added l (size j) v d s u g (sym (derive-is-x l (size j) v d j s z) ∙ h)
+    go false z =
+        let w = derive-turned l v j d s u z e gj n h in
+        let o = good-turned g w in
+        record { good = o .good; coef = λ q f m. ap (λ (v : Found). gained v m) (turned-coef g w q f); empty = o .some ∙ and-no (isEmpty s) }
+
+-- the derivative of the sum t put into s gives r
+record Derived (t s r : Sum) : Type 0 where
+  coef : (q : Float) → T (finite q) → coefAt q r ≡ gained (coefAt q s) (slopesAt q t)
+  empty : isEmpty r ≡ isEmpty s && allVanish t
+
+derived : (t s r : Sum) → Good 4 t → size t ≤ 64 → Good 4 s → eachInto deriveInto s t ≡ sum r → Derived t s r
+unfolding eachInto slopesAt allVanish Good size
+derived none s r gt n g h = record { coef = λ q f. ap (coefAt q) (sym (sum-is h)); empty = ap isEmpty (sym (sum-is h)) ∙ and-id (isEmpty s) }
+derived (and l v j d t) s r gt n g h =
     let w = then-sum (deriveInto (entry l (size j) v d) j s) (λ u. eachInto deriveInto u t) r h in
-    let e = sym (derive-is-x l (size j) v d j s (eq-eqb l kinds.X (p .0))) ∙ w .1 in
-    let y = x-gained l (size j) v d s (w .0) g e in
-    let z = derived t (w .0) r (p .1) (y .good) (w .2) in
+    let y = term-added l v j d s (w .0) (gt .0) (good-more 3 j (gt .1)) (omega arith) g (w .1) in
+    let z = derived t (w .0) r (gt .3) (omega arith) (y .good) (w .2) in
     record {
-      gains = gained-then y (z .gains);
-      empty = z .empty ∙ ap (λ (b : Bool). b && allVanish t) (x-empty l (size j) v d s (w .0) g e) ∙ and-three (isEmpty s) (vanishes v d) (allVanish t);
+      coef = λ q f. z .coef q f ∙ y .coef q f (slopesAt q t);
+      empty = z .empty ∙ ap (λ (b : Bool). b && allVanish t) (y .empty) ∙ and-three (isEmpty s) (eqb l kinds.X && vanishes v d) (allVanish t);
     }
 
-module _ (s r : Sum) (ps : PowerSum s) (h : derive s ≡ sum r) where
+module _ (s r : Sum) (gs : GoodSum s) (h : derive s ≡ sum r) where
   -- before constant 0 is put for nothing
   built : (u : Sum) × Derived s none u × (orZero u ≡ sum r)
   unfolding derive
-  built = let w = then-sum (eachInto deriveInto none s) orZero r h in (w .0, derived s none (w .0) ps none-good (w .1), w .2)
+  built = let w = then-sum (eachInto deriveInto none s) orZero r h in (w .0, derived s none (w .0) (gs .good) (gs .room) none-good (w .1), w .2)
 
-  -- where some slope isn't 0, the coefficient at each power is the total of the slopes at it
+  -- where some term is no power of x or has a slope that isn't 0, the coefficient at each power is the total of the slopes at it
   pub derive-coef : allVanish s ≡ false → (q : Float) → T (finite q) → coefAt q r ≡ totalAt (slopesAt q s)
   unfolding coefAt
   derive-coef n q f = go (built .0) (built .1) (built .2)
     where
       go : (u : Sum) → Derived s none u → orZero u ≡ sum r → coefAt q r ≡ totalAt (slopesAt q s)
       go none d e = differ (d .empty ∙ n)
-      go (and l v j c t) d e = ap (coefAt q) (sym (sum-is e)) ∙ d .gains .coef q f ∙ gained-total (slopesAt q s)
+      go (and l v j c t) d e = ap (coefAt q) (sym (sum-is e)) ∙ d .coef q f ∙ gained-total (slopesAt q s)
 
-  -- where every slope is 0, the derivative is constant 0
+  -- and where there is none, the derivative is constant 0
   pub derive-zero : allVanish s ≡ true → r ≡ constant complex.zero
   derive-zero n = go (built .0) (built .1) (built .2)
     where
@@ -123,20 +165,31 @@ module _ (s r : Sum) (ps : PowerSum s) (h : derive s ≡ sum r) where
       go none d e = sym (sum-is e)
       go (and l v j c t) d e = differ (sym (d .empty ∙ n))
 
-  -- the derivative is a sum of powers
-  pub derive-powers : PowerSum r
-  unfolding PowerSum
-  derive-powers = go (built .0) (built .1) (built .2)
-    where
-      go : (u : Sum) → Derived s none u → orZero u ≡ sum r → PowerSum r
-      go none d e = subst PowerSum (sum-is e) (refl, tt)
-      go (and l v j c t) d e = subst PowerSum (sum-is e) (d .gains .powers tt)
+x-powers : (k n : ℕ) (p : Float) (c : Complex) (s u : Sum) → PowerSum s → deriveX (entry k n p c) s ≡ sum u → PowerSum u
+x-powers k n p c s u w h =
+    let y = entry kinds.X 0 (p ⊖ one64) (slope p c) in
+    either PowerSum (vanishes p c) (sum s) (formed Add y none s) u
+    (λ e. subst PowerSum (sum-is e) w)
+    (λ e. rw (formed-sum Add y none s u e .is) (put-powers Add y none s refl w))
+    h
+
+each-powers : (t s r : Sum) → PowerSum t → PowerSum s → eachInto deriveInto s t ≡ sum r → PowerSum r
+unfolding eachInto PowerSum
+each-powers none s r p q h = subst PowerSum (sum-is h) q
+each-powers (and l v j d t) s r p q h =
+    let w = then-sum (deriveInto (entry l (size j) v d) j s) (λ u. eachInto deriveInto u t) r h in
+    each-powers t (w .0) r (p .1) (x-powers l (size j) v d s (w .0) q (sym (derive-is-x l (size j) v d j s (eq-eqb l kinds.X (p .0))) ∙ w .1)) (w .2)
+
+-- the derivative of a sum of powers is a sum of powers
+pub derive-powers : (s r : Sum) → PowerSum s → derive s ≡ sum r → PowerSum r
+unfolding derive PowerSum
+derive-powers s r p h = let w = then-sum (eachInto deriveInto none s) orZero r h in go (w .0) (each-powers s none (w .0) p tt (w .1)) (w .2)
+  where
+    go : (u : Sum) → PowerSum u → orZero u ≡ sum r → PowerSum r
+    go none q e = subst PowerSum (sum-is e) (refl, tt)
+    go (and l v j c t) q e = subst PowerSum (sum-is e) q
 
 -- ---- whole powers don't run together
-
-key-x : (n : ℕ) (q : Float) (c : Complex) → T (finite q) → Key (entry kinds.X n q c) none
-unfolding Finite
-key-x n q c f = record { num = f; inside = tt }
 
 empty-is : (s : Sum) → isEmpty s ≡ true → s ≡ none
 empty-is none h = refl
@@ -145,6 +198,67 @@ empty-is (and k p i c r) h = differ (sym h)
 own-equal : (k n : ℕ) (p : Float) (i : Sum) (c : Complex) → k ≡ kinds.X → isEmpty i ≡ eqb k kinds.X → cmpTerm (xKey p) none (entry k n p c) i ≡ Equal
 own-equal k n p i c e h = rw (e, empty-is i (h ∙ eq-eqb k kinds.X e)) (term-self (xKey p) none)
 
+-- a power of x that is first in a good sum is not in the rest
+first-gone : (k : ℕ) (p : Float) (i : Sum) (c : Complex) (r : Sum) → k ≡ kinds.X → Good 4 (and k p i c r) → coefAt p r ≡ absent
+unfolding Good
+first-gone k p i c r e g =
+    let y = good-key 3 k (size i) p i c (g .0) (g .1) in
+    coef-found 3 p r (y .num) (g .3) ∙ lookup-before (xKey p) none (entry k (size i) p c) i r (key-x 0 p complex.zero (y .num)) y (good-finite 4 r (g .3)) (g .2) not-greater
+  where
+    not-greater : cmpTerm (xKey p) none (entry k (size i) p c) i ≡ Greater → ⊥
+    not-greater h = let w : Equal ≡ Greater = sym (own-equal k (size i) p i c e (g .0 .inside)) ∙ h in let z : _≡_ {A = ℕ} 0 1 = cc in omega arith
+
+never-absent : {A : Type 0} {c : Complex} → at c ≡ absent → A
+never-absent h = absurd (let z : _≡_ {A = ℕ} 0 1 = cc in omega arith)
+
+not-here : (b : Bool) (c : Complex) (v : Found) → cond b (at c) v ≡ absent → (b ≡ false) × (v ≡ absent)
+not-here true c v h = never-absent h
+not-here false c v h = (refl, h)
+
+-- a power of x in a sum that has none at v isn't at v
+has-apart : (p : Float) (i : Sum) (c : Complex) (v : Float) {s : Sum} → Has kinds.X p i c s → coefAt v s ≡ absent → eq p v ≡ false
+unfolding coefAt
+has-apart p i c v (here {r = r}) h = not-here (eq p v) c (coefAt v r) h .0
+has-apart p i c v (there {l = l} {q = q} {d = d} {r = r} w) h = has-apart p i c v w (not-here (eqb l kinds.X && eq q v) d (coefAt v r) h .1)
+
+-- g takes no power of x in the sum to q
+Misses : (Float → Float) → Float → Sum → Type 0
+Misses g q none = Unit {0}
+Misses g q (and k p i c r) = (k ≡ kinds.X → eq (g p) q ≡ false) × Misses g q r
+
+-- a whole number of which near holds
+abbrev Whole : (ℤ → Type 0) → Float → Type 0
+Whole near p = (z : ℤ) × Means p z × near z
+
+-- where g keeps whole powers apart, it takes none but p to where it takes p
+module _ (g : Float → Float) (near : ℤ → Type 0) (stays : (p : Float) → Whole near p → T (finite (g p)))
+    (keeps : (p v : Float) → Whole near p → Whole near v → eq (g p) (g v) ≡ eq p v) where
+  rest-misses : (p q : Float) → Whole near p → T (finite q) → eq (g p) q ≡ true → (r : Sum) → WholePowers near r → coefAt p r ≡ absent → Misses g q r
+  unfolding WholePowers coefAt Misses
+  rest-misses p q m f e none n h = tt
+  rest-misses p q m f e (and k v i c r) n h = (apart, rest-misses p q m f e r (n .1) (o .1))
+    where
+      o : (eqb k kinds.X && eq v p ≡ false) × (coefAt p r ≡ absent)
+      o = not-here (eqb k kinds.X && eq v p) c (coefAt p r) h
+
+      apart : k ≡ kinds.X → eq (g v) q ≡ false
+      apart l =
+          eq-symmetric (g v) q ∙ sym (eq-transitive (g p) q (g v) (stays p m) f (stays v (n .0 l)) e)
+          ∙ keeps p v m (n .0 l) ∙ eq-symmetric p v ∙ (rw (eq-eqb k kinds.X l) at (o .0))
+
+-- one less, and one more
+less-finite : (p : Float) → Whole Near p → T (finite (p ⊖ one64))
+less-finite p m = means-finite (less-1 (m .1) (m .2))
+
+less-apart : (p v : Float) → Whole Near p → Whole Near v → eq (p ⊖ one64) (v ⊖ one64) ≡ eq p v
+less-apart p v m n = less-1-eq (m .1) (n .1) (m .2) (n .2)
+
+more-finite : (p : Float) → Whole NearUp p → T (finite (p ⊕ one64))
+more-finite p m = means-finite (more-1 (m .1) (m .2))
+
+more-apart : (p v : Float) → Whole NearUp p → Whole NearUp v → eq (p ⊕ one64) (v ⊕ one64) ≡ eq p v
+more-apart p v m n = more-1-eq (m .1) (n .1) (m .2) (n .2)
+
 no-slope : (q p : Float) (c : Complex) → eq (p ⊖ one64) q ≡ false → slopeAt q p c ≡ []
 no-slope q p c e = rw e (go (vanishes p c))
   where
@@ -152,88 +266,66 @@ no-slope q p c e = rw e (go (vanishes p c))
     go true = refl
     go false = refl
 
--- powers that aren't p are not one more than q, where p is
-none-left : (p q : Float) (z : ℤ) → Means p z → Near z → T (finite q) → eq (p ⊖ one64) q ≡ true → (r : Sum) → PowerSum r → NearSum r → coefAt p r ≡ absent → slopesAt q r ≡ []
-unfolding PowerSum NearSum coefAt slopesAt
-none-left p q z m n f e none pr nr h = refl
-none-left p q z m n f e (and k v i c r) pr nr h = go (eq v p) refl (rw (pr .0) at h) (none-left p q z m n f e r (pr .1) (nr .1))
+no-slopes : (q : Float) (r : Sum) → Misses (λ v. v ⊖ one64) q r → slopesAt q r ≡ []
+unfolding Misses slopesAt
+no-slopes q none h = refl
+no-slopes q (and k p i c r) h = go (eqb k kinds.X) refl (no-slopes q r (h .1))
   where
-    apart : eq v p ≡ false → eq (v ⊖ one64) q ≡ false
-    apart o =
-        let w = nr .0 in
-        eq-symmetric (v ⊖ one64) q
-        ∙ sym (eq-transitive (p ⊖ one64) q (v ⊖ one64) (means-finite (less-1 m n)) f (means-finite (less-1 (w .1) (w .2))) e)
-        ∙ less-1-eq m (w .1) n (w .2) ∙ eq-symmetric p v ∙ o
+    go : (b : Bool) → eqb k kinds.X ≡ b → slopesAt q r ≡ [] → cond b (slopeAt q p c) [] ++ slopesAt q r ≡ []
+    go true e ih = rw (no-slope q p c (h .0 (eqb-true k kinds.X e))) ih
+    go false e ih = ih
 
-    go : (b : Bool) → eq v p ≡ b → cond b (at c) (coefAt p r) ≡ absent → (coefAt p r ≡ absent → slopesAt q r ≡ []) → slopeAt q v c ++ slopesAt q r ≡ []
-    go true o h ih = absurd (let z : _≡_ {A = ℕ} 0 1 = cc in omega arith)
-    go false o h ih = rw (no-slope q v c (apart o)) (ih h)
-
--- the first power of a good sum of powers is not in the rest
-first-gone : (k : ℕ) (p : Float) (i : Sum) (c : Complex) (r : Sum) → PowerSum (and k p i c r) → Good 4 (and k p i c r) → coefAt p r ≡ absent
-unfolding PowerSum Good
-first-gone k p i c r ps g =
-    let y = good-key 3 k (size i) p i c (g .0) (g .1) in
-    coef-found 3 p r (y .num) (g .3) ∙ lookup-before (xKey p) none (entry k (size i) p c) i r (key-x 0 p complex.zero (y .num)) y (good-finite 4 r (g .3)) (g .2) not-greater
-  where
-    not-greater : cmpTerm (xKey p) none (entry k (size i) p c) i ≡ Greater → ⊥
-    not-greater h = let w : Equal ≡ Greater = sym (own-equal k (size i) p i c (ps .0) (g .0 .inside)) ∙ h in let z : _≡_ {A = ℕ} 0 1 = cc in omega arith
+-- nothing more comes to where the first power of x comes
+rest-slopes : (k : ℕ) (p : Float) (i : Sum) (c : Complex) (r : Sum) (q : Float) → k ≡ kinds.X → Good 4 (and k p i c r) → WholePowers Near (and k p i c r)
+    → T (finite q) → eq (p ⊖ one64) q ≡ true → slopesAt q r ≡ []
+unfolding WholePowers
+rest-slopes k p i c r q o g n f e =
+    no-slopes q r (rest-misses (λ v. v ⊖ one64) Near less-finite less-apart p q (n .0 o) f e r (n .1) (first-gone k p i c r o g))
 
 -- at most one term comes to each power
-pub slopes-apart : (q : Float) → T (finite q) → (s : Sum) → PowerSum s → Good 4 s → NearSum s → length (slopesAt q s) ≤ 1
-unfolding PowerSum NearSum slopesAt Good
-slopes-apart q f none ps g ns = omega arith
-slopes-apart q f (and k p i c r) ps g ns = go (vanishes p c) (eq (p ⊖ one64) q) refl (slopes-apart q f r (ps .1) (g .3) (ns .1))
+pub slopes-apart : (q : Float) → T (finite q) → (s : Sum) → Good 4 s → WholePowers Near s → length (slopesAt q s) ≤ 1
+unfolding WholePowers slopesAt Good
+slopes-apart q f none g n = omega arith
+slopes-apart q f (and k p i c r) g n = go (eqb k kinds.X) (vanishes p c) (eq (p ⊖ one64) q) refl refl (slopes-apart q f r (g .3) (n .1))
   where
-    go : (a b : Bool) → eq (p ⊖ one64) q ≡ b → length (slopesAt q r) ≤ 1 → length (cond a [] (cond b (slope p c ∷ []) []) ++ slopesAt q r) ≤ 1
-    go true b e h = h
-    go false false e h = h
-    go false true e h = rw (none-left p q (ns .0 .0) (ns .0 .1) (ns .0 .2) f e r (ps .1) (ns .1) (first-gone k p i c r ps g)) (omega arith)
+    go : (x a b : Bool) → eqb k kinds.X ≡ x → eq (p ⊖ one64) q ≡ b → length (slopesAt q r) ≤ 1
+        → length (cond x (cond a [] (cond b (slope p c ∷ []) [])) [] ++ slopesAt q r) ≤ 1
+    go false a b o e h = h
+    go true true b o e h = h
+    go true false false o e h = h
+    go true false true o e h = rw (rest-slopes k p i c r q (eqb-true k kinds.X o) g n f e) (omega arith)
 
--- a term of a sum that has no term at v isn't at v
-has-apart : (k : ℕ) (p : Float) (i : Sum) (c : Complex) (v : Float) {s : Sum} → Has k p i c s → PowerSum s → coefAt v s ≡ absent → eq p v ≡ false
-unfolding PowerSum coefAt
-has-apart k p i c v (here {r = r}) ps h = go (eq p v) (rw (ps .0) at h)
-  where
-    go : (b : Bool) → cond b (at c) (coefAt v r) ≡ absent → b ≡ false
-    go true h = absurd (let z : _≡_ {A = ℕ} 0 1 = cc in omega arith)
-    go false h = refl
-has-apart k p i c v (there {l = l} {q = q} {j = j} {d = d} {r = r} w) ps h = has-apart k p i c v w (ps .1) (go (eqb l kinds.X && eq q v) h)
-  where
-    go : (b : Bool) → cond b (at d) (coefAt v r) ≡ absent → coefAt v r ≡ absent
-    go true h = absurd (let z : _≡_ {A = ℕ} 0 1 = cc in omega arith)
-    go false h = h
+module _ (p : Float) (i : Sum) (c : Complex) where
+  has-whole : {near : ℤ → Type 0} {s : Sum} → Has kinds.X p i c s → WholePowers near s → Whole near p
+  unfolding WholePowers
+  has-whole here n = n .0 refl
+  has-whole (there h) n = has-whole h (n .1)
 
-module _ (k : ℕ) (p : Float) (i : Sum) (c : Complex) where
-  has-near : {s : Sum} → Has k p i c s → NearSum s → (z : ℤ) × Means p z × Near z
-  unfolding NearSum
-  has-near here n = n .0
-  has-near (there h) n = has-near h (n .1)
-
-  has-slope : {s : Sum} → Has k p i c s → vanishes p c ≡ false → allVanish s ≡ false
+  has-slope : {s : Sum} → Has kinds.X p i c s → vanishes p c ≡ false → allVanish s ≡ false
   unfolding allVanish
   has-slope here e = rw e
-  has-slope (there {q = q} {d = d} {r = r} h) e = rw (has-slope h e) (sym (and-no (vanishes q d)))
+  has-slope (there {l = l} {q = q} {d = d} {r = r} h) e = rw (has-slope h e) (sym (and-no (eqb l kinds.X && vanishes q d)))
 
   -- a term's own slope is all that comes to one less than its power
-  pub slopes-own : {s : Sum} → Has k p i c s → PowerSum s → Good 4 s → NearSum s → vanishes p c ≡ false → slopesAt (p ⊖ one64) s ≡ slope p c ∷ []
-  unfolding PowerSum NearSum slopesAt Good
-  slopes-own (here {r = r}) ps g ns e =
-      let m = ns .0 in
-      let f = means-finite (less-1 (m .1) (m .2)) in
+  pub slopes-own : {s : Sum} → Has kinds.X p i c s → Good 4 s → WholePowers Near s → vanishes p c ≡ false → slopesAt (p ⊖ one64) s ≡ slope p c ∷ []
+  unfolding WholePowers slopesAt Good
+  slopes-own (here {r = r}) g n e =
+      let f = less-finite p (n .0 refl) in
       let o = eq-self (p ⊖ one64) f in
-      rw (e, o, none-left p (p ⊖ one64) (m .0) (m .1) (m .2) f o r (ps .1) (ns .1) (first-gone k p i c r ps g))
-  slopes-own (there {l = l} {q = q} {j = j} {d = d} {r = r} h) ps g ns e =
-      let m = ns .0 in
-      let w = has-near h (ns .1) in
-      let o = less-1-eq (m .1) (w .1) (m .2) (w .2) ∙ eq-symmetric q p ∙ has-apart k p i c q h (ps .1) (first-gone l q j d r ps g) in
-      rw (no-slope (p ⊖ one64) q d o) (slopes-own h (ps .1) (g .3) (ns .1) e)
+      rw (e, o, rest-slopes kinds.X p i c r (p ⊖ one64) refl g n f o)
+  slopes-own (there {l = l} {q = q} {j = j} {d = d} {r = r} h) g n e = go (eqb l kinds.X) refl (slopes-own h (g .3) (n .1) e)
+    where
+      apart : l ≡ kinds.X → eq (q ⊖ one64) (p ⊖ one64) ≡ false
+      apart o = less-apart q p (n .0 o) (has-whole h (n .1)) ∙ eq-symmetric q p ∙ has-apart p i c q h (first-gone l q j d r o g)
+
+      go : (b : Bool) → eqb l kinds.X ≡ b → slopesAt (p ⊖ one64) r ≡ slope p c ∷ [] → cond b (slopeAt (p ⊖ one64) q d) [] ++ slopesAt (p ⊖ one64) r ≡ slope p c ∷ []
+      go true o ih = rw (no-slope (p ⊖ one64) q d (apart (eqb-true l kinds.X o))) ih
+      go false o ih = ih
 
   -- so the derivative has it there, added to +0
-  pub derive-term : {s r : Sum} → Has k p i c s → PowerSum s → GoodSum s → NearSum s → derive s ≡ sum r → vanishes p c ≡ false → coefAt (p ⊖ one64) r ≡ at (complex.plus complex.zero (slope p c))
-  derive-term {s} {r} h ps gs ns o e =
-      let m = has-near h ns in
-      derive-coef s r ps o (has-slope h e) (p ⊖ one64) (means-finite (less-1 (m .1) (m .2))) ∙ ap totalAt (slopes-own h ps (gs .good) ns e)
+  pub derive-term : {s r : Sum} → Has kinds.X p i c s → GoodSum s → WholePowers Near s → derive s ≡ sum r → vanishes p c ≡ false
+      → coefAt (p ⊖ one64) r ≡ at (complex.plus complex.zero (slope p c))
+  derive-term {s} {r} h gs n o e = derive-coef s r gs o (has-slope h e) (p ⊖ one64) (less-finite p (has-whole h n)) ∙ ap totalAt (slopes-own h (gs .good) n e)
 
 -- ---- integrals
 
@@ -245,9 +337,6 @@ later-three : (a b c : Found) → later a (later b c) ≡ later (later a b) c
 later-three absent b c = refl
 later-three (at d) b c = refl
 
-never-absent : {A : Type 0} {c : Complex} → at c ≡ absent → A
-never-absent h = absurd (let z : _≡_ {A = ℕ} 0 1 = cc in omega arith)
-
 later-absent : (a b : Found) → later a b ≡ absent → (a ≡ absent) × (b ≡ absent)
 later-absent absent b h = (refl, h)
 later-absent (at c) b h = never-absent h
@@ -257,7 +346,6 @@ record Stored (s r : Sum) (l : Float → Found) (n : Found) : Type 0 where
   good : Good 4 r
   coef : (q : Float) → T (finite q) → coefAt q r ≡ later (l q) (coefAt q s)
   log : lookup logKey x r ≡ later n (lookup logKey x s)
-  powers : n ≡ absent → PowerSum s → PowerSum r
 
 euler-finite : T (finite euler)
 unfolding ofBits
@@ -281,7 +369,7 @@ x-same p q c fp fq =
 
 -- a power of x stored
 stored-x : (p : Float) (c : Complex) (s r : Sum) → T (fits binary64 p) → Fits c → Good 4 s → formed Store (entry kinds.X 0 p c) none s ≡ sum r → Stored s r (λ q. cond (eq p q) (at c) absent) absent
-stored-x p c s r fp fc g h = record { good = good; coef = coef; log = rw (f .is) (lookup-other Store y none logKey x s kp (key-log complex.zero) (good-finite 4 s g) (log-above-x p c)); powers = λ z w. rw (f .is) (put-powers Store y none s refl w) }
+stored-x p c s r fp fc g h = record { good = good; coef = coef; log = rw (f .is) (lookup-other Store y none logKey x s kp (key-log complex.zero) (good-finite 4 s g) (log-above-x p c)) }
   where
     y : Entry
     y = entry kinds.X 0 p c
@@ -312,7 +400,7 @@ stored-x p c s r fp fc g h = record { good = good; coef = coef; log = rw (f .is)
 
 -- the natural logarithm of x stored
 stored-log : (c : Complex) (s r : Sum) → Fits c → Good 4 s → stored kinds.Log euler c s ≡ sum r → Stored s r (λ q. absent) (at c)
-stored-log c s r fc g h = record { good = good; coef = coef; log = log; powers = λ z. never-absent z }
+stored-log c s r fc g h = record { good = good; coef = coef; log = log }
   where
     y : Entry
     y = entry kinds.Log 1 euler c
@@ -339,10 +427,6 @@ stored-log c s r fc g h = record { good = good; coef = coef; log = log; powers =
         ∙ by-equal (cmpTerm logKey x y x) (lookup logKey x s) equal)
 
 module _ (k n : ℕ) (p : Float) (c : Complex) where
-  integrate-is-x : (j s : Sum) → eqb k kinds.X ≡ true → integrateInto (entry k n p c) j s ≡ integrateX (entry k n p c) s
-  unfolding integrateInto
-  integrate-is-x j s e = rw e
-
   x-stored : (s u : Sum) → Fits c → Good 4 s → integrateX (entry k n p c) s ≡ sum u → Stored s u (λ q. dividedAt q p c) (cond (eq (p ⊕ one64) zero64) (at c) absent)
   x-stored s u fc g h = go (eq (p ⊕ one64) zero64) h
     where
@@ -356,84 +440,121 @@ stored-then {s} {l = l} {m = m} {a = a} {b = b} v w = record {
   good = w .good;
   coef = λ q f. w .coef q f ∙ ap (later (m q)) (v .coef q f) ∙ later-three (m q) (l q) (coefAt q s);
   log = w .log ∙ ap (later b) (v .log) ∙ later-three b a (lookup logKey x s);
-  powers = λ z o. w .powers (later-absent b a z .0) (v .powers (later-absent b a z .1) o);
 }
 
-each-stored : (t s r : Sum) → PowerSum t → Good 4 t → Good 4 s → eachInto integrateInto s t ≡ sum r → Stored s r (λ q. lastAt q t) (lastLog t)
-unfolding eachInto PowerSum lastAt lastLog Good
-each-stored none s r p gt g h = subst (λ (u : Sum). Stored s u (λ q. absent) absent) (sum-is h) (record { good = g; coef = λ q f. refl; log = refl; powers = λ z o. o })
-each-stored (and l v j d t) s r p gt g h =
-    let w = then-sum (integrateInto (entry l (size j) v d) j s) (λ u. eachInto integrateInto u t) r h in
-    let y = x-stored l (size j) v d s (w .0) (good-head l (size j) v j d (gt .0) .coef) g (sym (integrate-is-x l (size j) v d j s (eq-eqb l kinds.X (p .0))) ∙ w .1) in
-    stored-then y (each-stored t (w .0) r (p .1) (gt .3) (y .good) (w .2))
+-- any term
+term-stored : (l : ℕ) (v : Float) (j : Sum) (d : Complex) (s u : Sum) → GoodEntry l v j d → Good 4 s → integrateInto (entry l (size j) v d) j s ≡ sum u
+    → Stored s u (λ q. cond (eqb l kinds.X) (dividedAt q v d) absent) (cond (eqb l kinds.X && eq (v ⊕ one64) zero64) (at d) absent)
+term-stored l v j d s u e g h = go (eqb l kinds.X) refl
+  where
+    go : (b : Bool) → eqb l kinds.X ≡ b → Stored s u (λ q. cond b (dividedAt q v d) absent) (cond (b && eq (v ⊕ one64) zero64) (at d) absent)
+    go true z = x-stored l (size j) v d s u (good-head l (size j) v j d e .coef) g (sym (integrate-is-x l (size j) v d j s z) ∙ h)
+    go false z =
+        let w = integrate-turned l v j d s u e z h in
+        record { good = good-turned g w .good; coef = turned-coef g w; log = turned-found g w logKey x (key-log complex.zero) refl }
 
-module _ (s r : Sum) (ps : PowerSum s) (gs : GoodSum s) (h : integrate s ≡ sum r) where
+each-stored : (t s r : Sum) → Good 4 t → Good 4 s → eachInto integrateInto s t ≡ sum r → Stored s r (λ q. lastAt q t) (lastLog t)
+unfolding eachInto lastAt lastLog Good
+each-stored none s r gt g h = subst (λ (u : Sum). Stored s u (λ q. absent) absent) (sum-is h) (record { good = g; coef = λ q f. refl; log = refl })
+each-stored (and l v j d t) s r gt g h =
+    let w = then-sum (integrateInto (entry l (size j) v d) j s) (λ u. eachInto integrateInto u t) r h in
+    let y = term-stored l v j d s (w .0) (gt .0) g (w .1) in
+    stored-then y (each-stored t (w .0) r (gt .3) (y .good) (w .2))
+
+module _ (s r : Sum) (gs : GoodSum s) (h : integrate s ≡ sum r) where
   whole-stored : Stored none r (λ q. lastAt q s) (lastLog s)
   unfolding integrate
-  whole-stored = each-stored s none r ps (gs .good) none-good h
+  whole-stored = each-stored s none r (gs .good) none-good h
 
-  -- the coefficient at each power is that of the last term for it, divided
+  -- the coefficient at each power is that of the last power of x for it, divided
   pub integrate-coef : (q : Float) → T (finite q) → coefAt q r ≡ lastAt q s
   unfolding coefAt
   integrate-coef q f = whole-stored .coef q f ∙ later-none (lastAt q s)
 
-  -- that of the natural logarithm of x is the coefficient of the last term for it
+  -- that of the natural logarithm of x is the coefficient of the last power of x for it
   pub integrate-log : lookup logKey x r ≡ lastLog s
   unfolding lookup
   integrate-log = whole-stored .log ∙ later-none (lastLog s)
 
-  -- where there is no such term, the integral is a sum of powers
-  pub integrate-powers : lastLog s ≡ absent → PowerSum r
-  unfolding PowerSum
-  integrate-powers e = whole-stored .powers e tt
+x-stored-powers : (k n : ℕ) (p : Float) (c : Complex) (s u : Sum) → cond (eq (p ⊕ one64) zero64) (at c) absent ≡ absent → PowerSum s
+    → integrateX (entry k n p c) s ≡ sum u → PowerSum u
+x-stored-powers k n p c s u z w h = go (eq (p ⊕ one64) zero64) z h
+  where
+    y : Entry
+    y = entry kinds.X 0 (p ⊕ one64) (complex.overReal c (p ⊕ one64))
+
+    go : (b : Bool) → cond b (at c) absent ≡ absent → cond b (stored kinds.Log euler c s) (formed Store y none s) ≡ sum u → PowerSum u
+    go true z h = never-absent z
+    go false z h = rw (formed-sum Store y none s u h .is) (put-powers Store y none s refl w)
+
+each-stored-powers : (t s r : Sum) → PowerSum t → lastLog t ≡ absent → PowerSum s → eachInto integrateInto s t ≡ sum r → PowerSum r
+unfolding eachInto PowerSum lastLog
+each-stored-powers none s r p z q h = subst PowerSum (sum-is h) q
+each-stored-powers (and l v j d t) s r p z q h =
+    let w = then-sum (integrateInto (entry l (size j) v d) j s) (λ u. eachInto integrateInto u t) r h in
+    let e = eq-eqb l kinds.X (p .0) in
+    let a = later-absent (lastLog t) (cond (eq (v ⊕ one64) zero64) (at d) absent) (rw e at z) in
+    each-stored-powers t (w .0) r (p .1) (a .0) (x-stored-powers l (size j) v d s (w .0) (a .1) q (sym (integrate-is-x l (size j) v d j s e) ∙ w .1)) (w .2)
+
+-- the integral of a sum of powers of which none is for the logarithm is a sum of powers
+pub integrate-powers : (s r : Sum) → PowerSum s → lastLog s ≡ absent → integrate s ≡ sum r → PowerSum r
+unfolding integrate PowerSum
+integrate-powers s r p z h = each-stored-powers s none r p z tt h
 
 -- ---- whole powers don't run together
 
-not-divided : (q p : Float) (c : Complex) → eq (p ⊕ one64) q ≡ false → dividedAt q p c ≡ absent
-not-divided q p c e = rw e (go (eq (p ⊕ one64) zero64))
+no-last : (q : Float) (r : Sum) → Misses (λ v. v ⊕ one64) q r → lastAt q r ≡ absent
+unfolding Misses lastAt
+no-last q none h = refl
+no-last q (and k p i c r) h = rw (no-last q r (h .1)) (go (eqb k kinds.X) refl)
   where
-    go : (b : Bool) → _≡_ {A = Found} (cond b absent absent) absent
-    go true = refl
-    go false = refl
+    divided : (a b : Bool) → b ≡ false → cond a absent (cond b (at (complex.overReal c (p ⊕ one64))) absent) ≡ absent
+    divided true b e = refl
+    divided false b e = rw e
 
--- powers that aren't p are not one less than q, where p is
-none-last : (p q : Float) (z : ℤ) → Means p z → NearUp z → T (finite q) → eq (p ⊕ one64) q ≡ true → (r : Sum) → PowerSum r → NearUpSum r → coefAt p r ≡ absent → lastAt q r ≡ absent
-unfolding PowerSum NearUpSum coefAt lastAt
-none-last p q z m n f e none pr nr h = refl
-none-last p q z m n f e (and k v i c r) pr nr h = go (eq v p) refl (rw (pr .0) at h) (none-last p q z m n f e r (pr .1) (nr .1))
+    go : (b : Bool) → eqb k kinds.X ≡ b → cond b (dividedAt q p c) absent ≡ absent
+    go true e = divided (eq (p ⊕ one64) zero64) (eq (p ⊕ one64) q) (h .0 (eqb-true k kinds.X e))
+    go false e = refl
+
+no-log : (r : Sum) → Misses (λ v. v ⊕ one64) zero64 r → lastLog r ≡ absent
+unfolding Misses lastLog
+no-log none h = refl
+no-log (and k p i c r) h = rw (no-log r (h .1)) (go (eqb k kinds.X) refl)
   where
-    apart : eq v p ≡ false → eq (v ⊕ one64) q ≡ false
-    apart o =
-        let w = nr .0 in
-        eq-symmetric (v ⊕ one64) q
-        ∙ sym (eq-transitive (p ⊕ one64) q (v ⊕ one64) (means-finite (more-1 m n)) f (means-finite (more-1 (w .1) (w .2))) e)
-        ∙ more-1-eq m (w .1) n (w .2) ∙ eq-symmetric p v ∙ o
+    go : (b : Bool) → eqb k kinds.X ≡ b → cond (b && eq (p ⊕ one64) zero64) (at c) absent ≡ absent
+    go true e = rw (h .0 (eqb-true k kinds.X e))
+    go false e = refl
 
-    go : (b : Bool) → eq v p ≡ b → cond b (at c) (coefAt p r) ≡ absent → (coefAt p r ≡ absent → lastAt q r ≡ absent) → later (lastAt q r) (dividedAt q v c) ≡ absent
-    go true o h ih = never-absent h
-    go false o h ih = rw (not-divided q v c (apart o), ih h)
+module _ (p : Float) (i : Sum) (c : Complex) where
+  -- nothing more comes to where the first power of x comes
+  rest-up : (r : Sum) (q : Float) → Good 4 (and kinds.X p i c r) → WholePowers NearUp (and kinds.X p i c r) → T (finite q) → eq (p ⊕ one64) q ≡ true
+      → Misses (λ v. v ⊕ one64) q r
+  unfolding WholePowers
+  rest-up r q g n f e = rest-misses (λ v. v ⊕ one64) NearUp more-finite more-apart p q (n .0 refl) f e r (n .1) (first-gone kinds.X p i c r refl g)
 
-module _ (k : ℕ) (p : Float) (i : Sum) (c : Complex) where
-  has-near-up : {s : Sum} → Has k p i c s → NearUpSum s → (z : ℤ) × Means p z × NearUp z
-  unfolding NearUpSum
-  has-near-up here n = n .0
-  has-near-up (there h) n = has-near-up h (n .1)
-
-  -- each term is the last, and the only one, at one more than its power
-  pub last-own : {s : Sum} → Has k p i c s → PowerSum s → Good 4 s → NearUpSum s → eq (p ⊕ one64) zero64 ≡ false → lastAt (p ⊕ one64) s ≡ at (complex.overReal c (p ⊕ one64))
-  unfolding PowerSum NearUpSum lastAt Good
-  last-own (here {r = r}) ps g ns e =
-      let m = ns .0 in
-      let f = means-finite (more-1 (m .1) (m .2)) in
+  -- each power of x is the last, and the only one, at one more than its power
+  pub last-own : {s : Sum} → Has kinds.X p i c s → Good 4 s → WholePowers NearUp s → eq (p ⊕ one64) zero64 ≡ false → lastAt (p ⊕ one64) s ≡ at (complex.overReal c (p ⊕ one64))
+  unfolding WholePowers lastAt Good
+  last-own (here {r = r}) g n e =
+      let f = more-finite p (n .0 refl) in
       let o = eq-self (p ⊕ one64) f in
-      rw (none-last p (p ⊕ one64) (m .0) (m .1) (m .2) f o r (ps .1) (ns .1) (first-gone k p i c r ps g), e, o)
-  last-own (there h) ps g ns e = rw (last-own h (ps .1) (g .3) (ns .1) e)
+      rw (no-last (p ⊕ one64) r (rest-up r (p ⊕ one64) g n f o), e, o)
+  last-own (there h) g n e = rw (last-own h (g .3) (n .1) e)
 
-  -- so the integral has it there, divided
-  pub integrate-term : {s r : Sum} → Has k p i c s → PowerSum s → GoodSum s → NearUpSum s → integrate s ≡ sum r → eq (p ⊕ one64) zero64 ≡ false → coefAt (p ⊕ one64) r ≡ at (complex.overReal c (p ⊕ one64))
-  integrate-term {s} {r} h ps gs ns o e =
-      let m = has-near-up h ns in
-      integrate-coef s r ps gs o (p ⊕ one64) (means-finite (more-1 (m .1) (m .2))) ∙ last-own h ps (gs .good) ns e
+  -- or at the logarithm
+  pub log-own : {s : Sum} → Has kinds.X p i c s → Good 4 s → WholePowers NearUp s → eq (p ⊕ one64) zero64 ≡ true → lastLog s ≡ at c
+  unfolding WholePowers lastLog Good ofBits
+  log-own (here {r = r}) g n e = rw (no-log r (rest-up r zero64 g n tt e), e)
+  log-own (there h) g n e = rw (log-own h (g .3) (n .1) e)
+
+  module _ {s r : Sum} (h : Has kinds.X p i c s) (gs : GoodSum s) (n : WholePowers NearUp s) (o : integrate s ≡ sum r) where
+    -- so the integral has it there, divided
+    pub integrate-term : eq (p ⊕ one64) zero64 ≡ false → coefAt (p ⊕ one64) r ≡ at (complex.overReal c (p ⊕ one64))
+    integrate-term e = integrate-coef s r gs o (p ⊕ one64) (more-finite p (has-whole p i c h n)) ∙ last-own h (gs .good) n e
+
+    -- or at the logarithm, as it was
+    pub integrate-log-term : eq (p ⊕ one64) zero64 ≡ true → lookup logKey x r ≡ at c
+    integrate-log-term e = integrate-log s r gs o ∙ log-own h (gs .good) n e
 
 -- ---- sums of powers are never TooComplex
 
