@@ -5,3 +5,4 @@ pub mod Good
 pub mod Rules
 pub mod Eaching
 pub mod Deriving
+pub mod Examples
