@@ -5,6 +5,10 @@
  * or one refusal, and nothing is asked of the caller but that each pointer be good for the length
  * that goes with it. A length of 0 is fine; its pointer is not read through.
  *
+ * A result can be a long time coming: the modifier Both runs its body twice, so 127 records of nested
+ * Both take 2^63 steps to read, and nothing refuses them. A program that reads lists from strangers
+ * should turn such nesting away first.
+ *
  * Each function returns UPLINK_DONE or the number of a refusal. On a refusal the counts are zero
  * and no byte of `sum` or `out` is changed; on success bytes past what was written stay as they
  * were. Input and output must not overlap.
