@@ -31,16 +31,16 @@ use Rattle.trees.specs.Sums.{Sum, none, and, size, entry}
 use Rattle.trees.specs.Order.{cmpNat, cmpHead, cmpSum, cmpTerm}
 use Rattle.trees.specs.Same.{sameSum}
 use Rattle.trees.specs.Good.{isEmpty, GoodEntry, Good}
-use Rattle.trees.specs.Map.{byOrder, sum, Found, at, absent, formed, eachInto, lookup}
+use Rattle.trees.specs.Map.{byOrder, sum, Found, at, absent, formed, eachInto, lookup, Has, here, there}
 use Rattle.trees.proofs.Order.{Finite, Key, good-finite, good-key, nat-equal, term-self}
 use Rattle.trees.proofs.Keeps.{Fits, Formed, formed-sum, good-head, good-more}
-use Rattle.trees.proofs.Lookup.{lookup-other, lookup-before, Has, here, there}
+use Rattle.trees.proofs.Lookup.{lookup-other, lookup-before}
 use Rattle.trees.proofs.Same.{alone-same}
-use Rattle.terms.specs.Singles.{GoodSum, constant}
+use Rattle.terms.specs.Singles.{GoodSum, constant, Expressible}
 use Rattle.terms.specs.Powers.{PowerSum, coefAt, where-is, totalAt}
 use Rattle.terms.proofs.Steps.{never, differ, sum-is, then-sum, either, and-both}
 use Rattle.terms.proofs.Goodness.{x-head, none-good, good-formed}
-use Rattle.terms.proofs.Agree.{Fine, then-fine, formed-fine}
+use Rattle.terms.proofs.Agree.{then-fine, formed-fine}
 use Rattle.terms.proofs.Calculus.{xKey, coef-found, put-found, gained, gained-total, gained-x, put-powers}
 use Rattle.calculus.specs.Derivative.{slope, vanishes, deriveX, deriveInto, orZero, derive}
 use Rattle.calculus.specs.Integral.{x, stored, integrateX, integrateInto, integrate}
@@ -558,37 +558,37 @@ module _ (p : Float) (i : Sum) (c : Complex) where
 
 -- ---- sums of powers are never TooComplex
 
-x-derive-fine : (k n : ℕ) (p : Float) (c : Complex) (s : Sum) → Fine (deriveX (entry k n p c) s)
+x-derive-fine : (k n : ℕ) (p : Float) (c : Complex) (s : Sum) → Expressible (deriveX (entry k n p c) s)
 x-derive-fine k n p c s h = go (vanishes p c) h
   where
-    go : (b : Bool) → Fine (cond b (sum s) (formed Add (entry kinds.X 0 (p ⊖ one64) (slope p c)) none s))
+    go : (b : Bool) → Expressible (cond b (sum s) (formed Add (entry kinds.X 0 (p ⊖ one64) (slope p c)) none s))
     go true h = never (sym h)
     go false h = formed-fine Add (entry kinds.X 0 (p ⊖ one64) (slope p c)) none s h
 
-each-derive-fine : (t s : Sum) → PowerSum t → Fine (eachInto deriveInto s t)
+each-derive-fine : (t s : Sum) → PowerSum t → Expressible (eachInto deriveInto s t)
 unfolding eachInto PowerSum
 each-derive-fine none s p h = never (sym h)
 each-derive-fine (and l v j d t) s p h =
     then-fine (deriveInto (entry l (size j) v d) j s) (λ u. eachInto deriveInto u t) (λ o. x-derive-fine l (size j) v d s (sym (derive-is-x l (size j) v d j s (eq-eqb l kinds.X (p .0))) ∙ o))
     (λ u. each-derive-fine t u (p .1)) h
 
-zero-fine : (u : Sum) → Fine (orZero u)
+zero-fine : (u : Sum) → Expressible (orZero u)
 zero-fine none h = never (sym h)
 zero-fine (and k p i c r) h = never (sym h)
 
 -- the derivative
-pub derive-fine : (s : Sum) → PowerSum s → Fine (derive s)
+pub derive-fine : (s : Sum) → PowerSum s → Expressible (derive s)
 unfolding derive
 derive-fine s p h = then-fine (eachInto deriveInto none s) orZero (each-derive-fine s none p) zero-fine h
 
-x-integrate-fine : (k n : ℕ) (p : Float) (c : Complex) (s : Sum) → Fine (integrateX (entry k n p c) s)
+x-integrate-fine : (k n : ℕ) (p : Float) (c : Complex) (s : Sum) → Expressible (integrateX (entry k n p c) s)
 x-integrate-fine k n p c s h = go (eq (p ⊕ one64) zero64) h
   where
-    go : (b : Bool) → Fine (cond b (stored kinds.Log euler c s) (formed Store (entry kinds.X 0 (p ⊕ one64) (complex.overReal c (p ⊕ one64))) none s))
+    go : (b : Bool) → Expressible (cond b (stored kinds.Log euler c s) (formed Store (entry kinds.X 0 (p ⊕ one64) (complex.overReal c (p ⊕ one64))) none s))
     go true h = formed-fine Store (entry kinds.Log 1 euler c) x s h
     go false h = formed-fine Store (entry kinds.X 0 (p ⊕ one64) (complex.overReal c (p ⊕ one64))) none s h
 
-each-integrate-fine : (t s : Sum) → PowerSum t → Fine (eachInto integrateInto s t)
+each-integrate-fine : (t s : Sum) → PowerSum t → Expressible (eachInto integrateInto s t)
 unfolding eachInto PowerSum
 each-integrate-fine none s p h = never (sym h)
 each-integrate-fine (and l v j d t) s p h =
@@ -596,6 +596,6 @@ each-integrate-fine (and l v j d t) s p h =
     (λ u. each-integrate-fine t u (p .1)) h
 
 -- and the integral
-pub integrate-fine : (s : Sum) → PowerSum s → Fine (integrate s)
+pub integrate-fine : (s : Sum) → PowerSum s → Expressible (integrate s)
 unfolding integrate
 integrate-fine s p h = each-integrate-fine s none p h

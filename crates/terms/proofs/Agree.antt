@@ -27,7 +27,7 @@ use Rattle.trees.specs.Good.{isEmpty, GoodEntry, Good}
 use Rattle.trees.specs.Map.{byOrder, coefIn, putIn, Outcome, sum, refused, at, absent, andThenSum, unless, formed, eachInto}
 use Rattle.trees.proofs.Keeps.{formed-sum}
 use Rattle.terms.specs.Outcomes.{productCode, noProduct, addPowers, mulInsides, quotientCode, noQuotient, xByX, xByDiv, xByOther, alike}
-use Rattle.terms.specs.Singles.{isOne, single, alone, asConstant, isX, isComplex}
+use Rattle.terms.specs.Singles.{isOne, single, alone, asConstant, isX, isComplex, Expressible}
 use Rattle.terms.specs.Product.{pairable, rowable, mulable, mulTerm, mulInto, product}
 use Rattle.terms.specs.Quotient.{xTo, divable, allDivable, addTimes, divTerm, divBySeveral, quotient}
 use Rattle.terms.specs.Power.{raised, rootable, unitCoefs, rootOfOne, rooted}
@@ -317,21 +317,17 @@ module _ (k : ℕ) (p : Float) (i : Sum) (c : Complex) (r : Sum) where
 
 -- ---- where TooComplex comes from
 
--- an outcome that isn't TooComplex
-abbrev pub Fine : Outcome → Type 0
-Fine o = o ≡ refused TooComplex → ⊥
-
-unless-fine : (b : Bool) (e : Refusal) (o : Outcome) → (e ≡ TooComplex → ⊥) → Fine o → Fine (unless b e o)
+unless-fine : (b : Bool) (e : Refusal) (o : Outcome) → (e ≡ TooComplex → ⊥) → Expressible o → Expressible (unless b e o)
 unless-fine true e o n f h = f h
 unless-fine false e o n f h = n (cc)
 
 -- two steps
-pub then-fine : (o : Outcome) (f : Sum → Outcome) → Fine o → ((u : Sum) → Fine (f u)) → Fine (andThenSum o f)
+pub then-fine : (o : Outcome) (f : Sum → Outcome) → Expressible o → ((u : Sum) → Expressible (f u)) → Expressible (andThenSum o f)
 then-fine (sum u) f n m h = m u h
 then-fine (refused e) f n m h = n h
 
 -- an entry formed
-pub formed-fine : (m : Merge) (x : Entry) (t s : Sum) → Fine (formed m x t s)
+pub formed-fine : (m : Merge) (x : Entry) (t s : Sum) → Expressible (formed m x t s)
 unfolding formed
 formed-fine m x t s =
     let room : Outcome = unless (leb (size (putIn m x t s)) 64) NoRoom (sum (putIn m x t s)) in
@@ -343,26 +339,26 @@ formed-fine m x t s =
     (unless-fine (leb (size (putIn m x t s)) 64) NoRoom (sum (putIn m x t s)) (λ e. let z : _≡_ {A = ℕ} 0 1 = cc in omega arith) (λ e. never (sym e)))))
 
 -- a step for each entry
-pub each-fine : (f : Entry → Sum → Sum → Outcome) → ((x : Entry) (j s : Sum) → Fine (f x j s)) → (t s : Sum) → Fine (eachInto f s t)
+pub each-fine : (f : Entry → Sum → Sum → Outcome) → ((x : Entry) (j s : Sum) → Expressible (f x j s)) → (t s : Sum) → Expressible (eachInto f s t)
 unfolding eachInto
 each-fine f g none s h = never (sym h)
 each-fine f g (and l q j d t) s h = then-fine (f (entry l (size j) q d) j s) (λ (u : Sum). eachInto f u t) (g (entry l (size j) q d) j s) (λ u. each-fine f g t u) h
 
 -- forming the products never gives it
-pub into-fine : (a b s : Sum) → Fine (mulInto a b s)
+pub into-fine : (a b s : Sum) → Expressible (mulInto a b s)
 unfolding mulInto
 into-fine none b s h = never (sym h)
 into-fine (and k p i c a) b s h =
     then-fine (eachInto (mulTerm (entry k (size i) p c) (λ v. mulInto i v none)) s b) (λ u. mulInto a b u)
     (each-fine (mulTerm (entry k (size i) p c) (λ v. mulInto i v none)) (λ y v s. term (eqb k X) y v s (into-fine i v none)) b s) (λ u. into-fine a b u) h
   where
-    term : (x : Bool) (y : Entry) (v s : Sum) → Fine (mulInto i v none)
-        → Fine (cond x (formed Add (entry X 0 (p ⊕ y .num) (complex.times c (y .coef))) none s) (andThenSum (mulInto i v none) (λ w. formed Add (entry Div (size w) zero64 (complex.times c (y .coef))) w s)))
+    term : (x : Bool) (y : Entry) (v s : Sum) → Expressible (mulInto i v none)
+        → Expressible (cond x (formed Add (entry X 0 (p ⊕ y .num) (complex.times c (y .coef))) none s) (andThenSum (mulInto i v none) (λ w. formed Add (entry Div (size w) zero64 (complex.times c (y .coef))) w s)))
     term true y v s n = formed-fine Add (entry X 0 (p ⊕ y .num) (complex.times c (y .coef))) none s
     term false y v s n = then-fine (mulInto i v none) (λ w. formed Add (entry Div (size w) zero64 (complex.times c (y .coef))) w s) n (λ w. formed-fine Add (entry Div (size w) zero64 (complex.times c (y .coef))) w s)
 
 -- so where there is a product TooComplex isn't given
-pub product-fine : (a b : Sum) → mulable a b ≡ true → Fine (product a b)
+pub product-fine : (a b : Sum) → mulable a b ≡ true → Expressible (product a b)
 product-fine a b e h = into-fine a b none (sym (product-is a b e) ∙ h)
 
 -- ---- what has a product with a sum stays so when it is multiplied by what has one too
@@ -450,11 +446,11 @@ unfolding product mulable
 mulable-kept a b r c e f h = into-kept a b none r c e f refl (unless-sum (mulable a b) TooComplex (mulInto a b none) r h .1)
 
 -- so in a whole power TooComplex can come from the first product alone
-pub raised-fine : (n : ℕ) (acc s : Sum) → mulable s s ≡ true → mulable acc s ≡ true → Fine (raised n acc s)
+pub raised-fine : (n : ℕ) (acc s : Sum) → mulable s s ≡ true → mulable acc s ≡ true → Expressible (raised n acc s)
 unfolding raised
 raised-fine zero acc s e f h = never (sym h)
 raised-fine (suc n) acc s e f h = go (product acc s) refl h (λ u. raised-fine n u s e)
   where
-    go : (o : Outcome) → product acc s ≡ o → andThenSum o (λ u. raised n u s) ≡ refused TooComplex → ((u : Sum) → mulable u s ≡ true → Fine (raised n u s)) → ⊥
+    go : (o : Outcome) → product acc s ≡ o → andThenSum o (λ u. raised n u s) ≡ refused TooComplex → ((u : Sum) → mulable u s ≡ true → Expressible (raised n u s)) → ⊥
     go (sum u) o h ih = ih u (mulable-kept acc s u s f e o) h
     go (refused v) o h ih = product-fine acc s f (o ∙ h)

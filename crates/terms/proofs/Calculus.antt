@@ -29,12 +29,12 @@ use Rattle.trees.specs.Map.{byOrder, merged, putIn, Outcome, sum, Found, at, ab
 use Rattle.trees.proofs.Order.{Finite, Key, good-finite, good-key, nat-equal}
 use Rattle.trees.proofs.Keeps.{Fits, Formed, formed-sum, good-head, good-more}
 use Rattle.trees.proofs.Lookup.{orZero, lookup-put, coef-lookup, lookup-equal, lookup-other, lookup-before}
-use Rattle.terms.specs.Singles.{GoodSum, withCoef}
+use Rattle.terms.specs.Singles.{GoodSum, withCoef, Expressible}
 use Rattle.terms.specs.Adding.{addSums, subSums}
 use Rattle.terms.specs.Product.{pairable, rowable, mulable, mulTerm, mulInto, product}
 use Rattle.terms.specs.Powers.{PowerSum, coefAt, where-is, rowAt, pairsAt, totalFrom, totalAt, powers, plusEach, plusPairs, occurs, plusFound, negFound}
 use Rattle.terms.proofs.Steps.{differ, and-both, sum-is, then-sum, unless-sum}
-use Rattle.terms.proofs.Agree.{term-powers, Fine, product-fine}
+use Rattle.terms.proofs.Agree.{term-powers, product-fine}
 use Rattle.terms.proofs.Goodness.{x-head, head-with, fits-negated, fits-times, none-good, good-formed, good-add, good-sub}
 
 -- ---- looking up a power of x
@@ -223,7 +223,7 @@ product-mulable none t p q = refl
 product-mulable (and k v i c s) t p q = and-true₂ (row-powers k (λ v. mulable i v) t (p .0) q) (product-mulable s t (p .1) q)
 
 -- so it isn't TooComplex
-pub powers-fine : (s t : Sum) → PowerSum s → PowerSum t → Fine (product s t)
+pub powers-fine : (s t : Sum) → PowerSum s → PowerSum t → Expressible (product s t)
 powers-fine s t p q = product-fine s t (product-mulable s t p q)
 
 -- ---- the powers of a product

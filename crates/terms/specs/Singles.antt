@@ -8,11 +8,12 @@ use Rattle.numbers.specs.Signs.{zero64, one64}
 use Rattle.complex.specs.declared.Complex.{Complex}
 use Rattle.complex.specs.Arith as complex
 use Rattle.cells.specs.declared.Entry.{Entry}
+use Rattle.limits.specs.declared.Refusal.the-variants.{TooComplex}
 use Rattle.trees.specs.declared.Merge.the-variants.{Store}
 use Rattle.trees.specs.Kinds.{X}
 use Rattle.trees.specs.Sums.{Sum, none, and, size, entry}
 use Rattle.trees.specs.Good.{isEmpty, Good}
-use Rattle.trees.specs.Map.{Outcome, sum, Found, at, absent, formed}
+use Rattle.trees.specs.Map.{Outcome, sum, refused, Found, at, absent, formed}
 
 -- a sum as it may lie on the stack: good, with no entry inside more than 3 others, of 1 to 64 entries
 pub record GoodSum (s : Sum) : Type 0 where
@@ -54,3 +55,7 @@ withCoef x c = entry (x .kind) (x .inside) (x .num) c
 unfoldable pub isComplex : Sum → Bool
 isComplex none = false
 isComplex (and k p i c r) = cond (eqb k X) (not (eq p zero64) && not (eq p one64)) (isComplex i) || isComplex r
+
+-- it isn't refused with 7
+abbrev pub Expressible : Outcome → Type 0
+Expressible o = o ≡ refused TooComplex → ⊥

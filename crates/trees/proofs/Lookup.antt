@@ -16,7 +16,7 @@ use Rattle.trees.specs.declared.Merge.{Merge}
 use Rattle.trees.specs.Sums.{Sum, none, and, size, len, entry}
 use Rattle.trees.specs.Order.{cmpTerm}
 use Rattle.trees.specs.Good.{GoodEntry, Before, Good}
-use Rattle.trees.specs.Map.{byOrder, merged, coefIn, putIn, Found, at, absent, lookup}
+use Rattle.trees.specs.Map.{byOrder, merged, coefIn, putIn, Found, at, absent, lookup, Has, here, there}
 use Rattle.trees.proofs.Keeps.{putBy}
 use Rattle.trees.proofs.Order.{Finite, Key, good-finite, good-key, term-self, term-flip, term-chain, greater-less}
 
@@ -109,11 +109,6 @@ pub lookup-before : (x : Entry) (t : Sum) (y : Entry) (i s : Sum) → Key x t �
 unfolding lookup
 lookup-before x t y i none f g h b n = refl
 lookup-before x t y i (and l q j d r) f g h b n = rw (not-after (term-chain x t y i (entry l (size j) q d) j f g (first-key l (size j) q j d r h)) n b)
-
--- an outermost entry of the sum
-pub data Has (k : ℕ) (p : Float) (i : Sum) (c : Complex) : Sum → Type 0 where
-  here : {r : Sum} → Has k p i c (and k p i c r)
-  there : {l : ℕ} {q : Float} {j : Sum} {d : Complex} {r : Sum} → Has k p i c r → Has k p i c (and l q j d r)
 
 -- the first key finds the first coefficient
 lookup-first : (k : ℕ) (p : Float) (i : Sum) (c : Complex) (r : Sum) → lookup (entry k (size i) p c) i (and k p i c r) ≡ at c

@@ -77,3 +77,8 @@ pub data Found : Type 0 where
 unfoldable pub lookup : Entry → Sum → Sum → Found
 lookup x t none = absent
 lookup x t (and l q j d r) = byOrder (cmpTerm x t (entry l (size j) q d) j) absent (at d) (lookup x t r)
+
+-- an outermost entry of the sum
+pub data Has (k : ℕ) (p : Float) (i : Sum) (c : Complex) : Sum → Type 0 where
+  here : {r : Sum} → Has k p i c (and k p i c r)
+  there : {l : ℕ} {q : Float} {j : Sum} {d : Complex} {r : Sum} → Has k p i c r → Has k p i c (and l q j d r)

@@ -16,7 +16,7 @@ use Rattle.formats.specs.declared.record.Primitive.the-variants as prim
 use Rattle.formats.specs.Tree.{Nodes, end, rec, size}
 use Rattle.drafts.specs.Writing.{push, does, on, body, append, one, two, Written, wrote, andThen, number, numberRecord, canWrite}
 use Rattle.writer.specs.ToNodes.{Form, constant, root, bare, square, power, form, isBare, isConstant, isEmpty, before, writePower, timesCoef, plus, write}
-use Rattle.writer.specs.Count.{Shape, shape, cost, costs, bareX, recordsFor, Powers, nothing, zero, term}
+use Rattle.writer.specs.Count.{Shape, shape, cost, costs, bareX, recordsFor, Powers, nothing, zero, term, Counted}
 use Rattle.drafts.proofs.Laws.{append-end, append-join, size-append}
 
 and-false : (b : Bool) → (b && false) ≡ false
@@ -84,12 +84,6 @@ step-term flag p i c r id ns z e =
     rw z (part-is flag c (λ m. write flag r (id || isBare (form p)) (plus (not id && isEmpty ns) m)) e (form p) (complex.same c complex.one) p (before (not id && isEmpty ns) ns))
 
 -- ---- all of them
-
--- so many records are written
-pub record Counted (flag : Bool) (s : Sum) (id : Bool) (ns : Nodes) (n : ℕ) : Type 0 where
-  pub list : Nodes
-  pub written : write flag s id ns ≡ wrote list
-  pub counted : size list ≡ n
 
 more : {flag : Bool} {s : Sum} {ts : List Shape} → Powers flag s ts → (id : Bool) (a : Record) (i m : Nodes) → Counted flag s id (rec a i m) (size (rec a i m) + (costs ts + 3 * length ts))
 unfolding write costs append size

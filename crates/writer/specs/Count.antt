@@ -9,8 +9,9 @@ use Rattle.complex.specs.declared.Complex.{Complex}
 use Rattle.complex.specs.Arith as complex
 use Rattle.trees.specs.Kinds as kinds
 use Rattle.trees.specs.Sums.{Sum, none, and}
-use Rattle.drafts.specs.Writing.{canWrite}
-use Rattle.writer.specs.ToNodes.{Form, constant, root, bare, square, power, form}
+use Rattle.formats.specs.Tree.{Nodes, size}
+use Rattle.drafts.specs.Writing.{canWrite, wrote}
+use Rattle.writer.specs.ToNodes.{Form, constant, root, bare, square, power, form, write}
 
 -- a term that isn't zero: which arm of the match its power takes, and whether its coefficient is 1
 pub data Shape : Type 0 where
@@ -50,3 +51,9 @@ pub data Powers (flag : Bool) : Sum → List Shape → Type 0 where
   term : {p : Float} {j : Sum} {c : Complex} {r : Sum} {ts : List Shape}
       → complex.same c complex.zero ≡ false → canWrite flag c ≡ true → Powers flag r ts
       → Powers flag (and kinds.X p j c r) (shape (form p) (complex.same c complex.one) ∷ ts)
+
+-- the sum, written after the list so far, makes a list of n records; id says whether x alone was met
+pub record Counted (flag : Bool) (s : Sum) (id : Bool) (ns : Nodes) (n : ℕ) : Type 0 where
+  pub list : Nodes
+  pub written : write flag s id ns ≡ wrote list
+  pub counted : size list ≡ n
