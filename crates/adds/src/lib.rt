@@ -1,10 +1,11 @@
 // Sums negated, added and taken away. Operands lie in one book, the result is formed from the first cell of
-// another on, which has room for 64.
+// another on, which has room for SUM_ENTRIES.
 use cells::Entry;
 use sums::Formed;
 use terms::Change;
 use trees::Merge;
 ghost use Prim.Native.Nat.{_+_, _≤_};
+ghost use Rattle.limits.specs.Limits.{sumEntries, sumLevels};
 ghost use Rattle.cells.specs.Book.{lent, Room};
 ghost use Rattle.trees.specs.Sums.{Sum};
 ghost use Rattle.trees.specs.Map.{formed};
@@ -29,9 +30,9 @@ pub fn add_each(
     wm: &mut [u64],
     n: usize,
 ) -> Formed
-    requires { ⌜ Held (lent ak ai an ar am) j (j + m) 4 ⌝ }
+    requires { ⌜ Held (lent ak ai an ar am) j (j + m) sumLevels ⌝ }
     requires { ⌜ Work (lent wk wi wn wr wm) n ⌝ }
-    ensures { λ r. ⌜ ((s t : Sum) → Lies (lent (wk .entry) (wi .entry) (wn .entry) (wr .entry) (wm .entry)) 0 n 4 s → Lies (lent (ak .entry) (ai .entry) (an .entry) (ar .entry) (am .entry)) j (j + m) 4 t → Agrees r (lent (wk .exit) (wi .exit) (wn .exit) (wr .exit) (wm .exit)) 0 (addEach how s t)) ⌝ }
+    ensures { λ r. ⌜ ((s t : Sum) → Lies (lent (wk .entry) (wi .entry) (wn .entry) (wr .entry) (wm .entry)) 0 n sumLevels s → Lies (lent (ak .entry) (ai .entry) (an .entry) (ar .entry) (am .entry)) j (j + m) sumLevels t → Agrees r (lent (wk .exit) (wi .exit) (wn .exit) (wr .exit) (wm .exit)) 0 (addEach how s t)) ⌝ }
 {
     let end = j + m;
     let mut q = j;
@@ -88,8 +89,8 @@ pub fn expr_add(
     wr: &mut [u64],
     wm: &mut [u64],
 ) -> Formed
-    requires { ⌜ (n ≤ 64) × Held (lent ak ai an ar am) i (i + n) 4 × Held (lent ak ai an ar am) j (j + m) 4 × Room (lent wk wi wn wr wm) 64 ⌝ }
-    ensures { λ r. ⌜ ((s t : Sum) → Lies (lent (ak .entry) (ai .entry) (an .entry) (ar .entry) (am .entry)) i (i + n) 4 s → Lies (lent (ak .entry) (ai .entry) (an .entry) (ar .entry) (am .entry)) j (j + m) 4 t → Agrees r (lent (wk .exit) (wi .exit) (wn .exit) (wr .exit) (wm .exit)) 0 (addEach how s t)) ⌝ }
+    requires { ⌜ (n ≤ sumEntries) × Held (lent ak ai an ar am) i (i + n) sumLevels × Held (lent ak ai an ar am) j (j + m) sumLevels × Room (lent wk wi wn wr wm) sumEntries ⌝ }
+    ensures { λ r. ⌜ ((s t : Sum) → Lies (lent (ak .entry) (ai .entry) (an .entry) (ar .entry) (am .entry)) i (i + n) sumLevels s → Lies (lent (ak .entry) (ai .entry) (an .entry) (ar .entry) (am .entry)) j (j + m) sumLevels t → Agrees r (lent (wk .exit) (wi .exit) (wn .exit) (wr .exit) (wm .exit)) 0 (addEach how s t)) ⌝ }
 {
     gaps::copy_in(ak, ai, an, ar, am, i, n, wk, wi, wn, wr, wm, 0);
     add_each(how, ak, ai, an, ar, am, j, m, wk, wi, wn, wr, wm, n)
@@ -98,7 +99,7 @@ pub fn expr_add(
 // The coefficient of every outermost entry of the sum of n cells is negated.
 fn neg_each(wk: &mut [u8], wi: &mut [u8], wn: &mut [u64], wr: &mut [u64], wm: &mut [u64], n: usize)
     requires { ⌜ Work (lent wk wi wn wr wm) n ⌝ }
-    ensures { λ _. ⌜ ((s : Sum) → Lies (lent (wk .entry) (wi .entry) (wn .entry) (wr .entry) (wm .entry)) 0 n 4 s → Lies (lent (wk .exit) (wi .exit) (wn .exit) (wr .exit) (wm .exit)) 0 n 4 (negSum s)) ⌝ }
+    ensures { λ _. ⌜ ((s : Sum) → Lies (lent (wk .entry) (wi .entry) (wn .entry) (wr .entry) (wm .entry)) 0 n sumLevels s → Lies (lent (wk .exit) (wi .exit) (wn .exit) (wr .exit) (wm .exit)) 0 n sumLevels (negSum s)) ⌝ }
 {
     let mut k = 0usize;
     while k < n {
@@ -129,8 +130,8 @@ pub fn expr_neg(
     wr: &mut [u64],
     wm: &mut [u64],
 )
-    requires { ⌜ (n ≤ 64) × Held (lent ak ai an ar am) i (i + n) 4 × Room (lent wk wi wn wr wm) 64 ⌝ }
-    ensures { λ _. ⌜ ((s : Sum) → Lies (lent (ak .entry) (ai .entry) (an .entry) (ar .entry) (am .entry)) i (i + n) 4 s → Lies (lent (wk .exit) (wi .exit) (wn .exit) (wr .exit) (wm .exit)) 0 n 4 (negSum s)) ⌝ }
+    requires { ⌜ (n ≤ sumEntries) × Held (lent ak ai an ar am) i (i + n) sumLevels × Room (lent wk wi wn wr wm) sumEntries ⌝ }
+    ensures { λ _. ⌜ ((s : Sum) → Lies (lent (ak .entry) (ai .entry) (an .entry) (ar .entry) (am .entry)) i (i + n) sumLevels s → Lies (lent (wk .exit) (wi .exit) (wn .exit) (wr .exit) (wm .exit)) 0 n sumLevels (negSum s)) ⌝ }
 {
     gaps::copy_in(ak, ai, an, ar, am, i, n, wk, wi, wn, wr, wm, 0);
     neg_each(wk, wi, wn, wr, wm, n);

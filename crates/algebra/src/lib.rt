@@ -5,11 +5,13 @@ use entries::Taken;
 use env::AlgebraData;
 use formats::record::Verdict;
 use limits::Refusal;
+use limits::SUM_ENTRIES;
 use running::RunAnswer;
 ghost use mathlib.Core.Path.{_≡_};
 ghost use Prim.Native.Nat.{_+_, _≤_};
 ghost use mathlib.Core.Bool.{Bool};
 ghost use mathlib.Core.List.{[]};
+ghost use Rattle.limits.specs.Limits.{sumEntries, sumLevels};
 ghost use Rattle.cells.specs.Book.{lent, Room};
 ghost use Rattle.trees.specs.Sums.{Sum};
 ghost use Rattle.sums.specs.Contract.Lies.{Lies, Held};
@@ -63,7 +65,7 @@ fn read_sum(
     wr: &mut [u64],
     wm: &mut [u64],
 ) -> AlgebraData
-    requires { ⌜ Room (lent wk wi wn wr wm) 64 ⌝ }
+    requires { ⌜ Room (lent wk wi wn wr wm) sumEntries ⌝ }
     ensures { λ r. ⌜ DataAs r (lent (wk .exit) (wi .exit) (wn .exit) (wr .exit) (wm .exit)) (readList (now (list .entry))) ⌝ }
 {
     match formats::rules::check(list) {
@@ -93,8 +95,8 @@ fn put_read(
     complex: bool,
     out: &mut [u8],
 ) -> ReadAnswer
-    requires { ⌜ (n ≤ 64) × Held (lent wk wi wn wr wm) 0 (0 + n) 4 ⌝ }
-    ensures { λ r. ⌜ ((s : Sum) (h : Bool) → Lies (lent (wk .entry) (wi .entry) (wn .entry) (wr .entry) (wm .entry)) 0 (0 + n) 4 s → Promise (answerOf (done s complex h)) (bytesOf (done s complex h)) (now (out .entry)) (now (out .exit)) r) ⌝ }
+    requires { ⌜ (n ≤ sumEntries) × Held (lent wk wi wn wr wm) 0 (0 + n) sumLevels ⌝ }
+    ensures { λ r. ⌜ ((s : Sum) (h : Bool) → Lies (lent (wk .entry) (wi .entry) (wn .entry) (wr .entry) (wm .entry)) 0 (0 + n) sumLevels s → Promise (answerOf (done s complex h)) (bytesOf (done s complex h)) (now (out .entry)) (now (out .exit)) r) ⌝ }
 {
     let answer = answers::put_out(wk, wi, wn, wr, wm, n, out);
     flagged(complex, answer)
@@ -104,11 +106,11 @@ fn put_read(
 pub fn read(list: &[u8], out: &mut [u8]) -> ReadAnswer
     ensures { λ r. ⌜ Promised entry.read (now (list .entry)) (now (out .entry)) (now (out .exit)) (ofRead r) ⌝ }
 {
-    let mut wk = [0u8; 64];
-    let mut wi = [0u8; 64];
-    let mut wn = [0u64; 64];
-    let mut wr = [0u64; 64];
-    let mut wm = [0u64; 64];
+    let mut wk = [0u8; SUM_ENTRIES];
+    let mut wi = [0u8; SUM_ENTRIES];
+    let mut wn = [0u64; SUM_ENTRIES];
+    let mut wr = [0u64; SUM_ENTRIES];
+    let mut wm = [0u64; SUM_ENTRIES];
     let data = read_sum(list, &mut wk, &mut wi, &mut wn, &mut wr, &mut wm);
     match data {
         AlgebraData::Refused(q, at, _) => ReadAnswer::Refused(q, at),
@@ -120,11 +122,11 @@ pub fn read(list: &[u8], out: &mut [u8]) -> ReadAnswer
 pub fn derivative(list: &[u8], out: &mut [u8]) -> Answer
     ensures { λ r. ⌜ Promised entry.derivative (now (list .entry)) (now (out .entry)) (now (out .exit)) (ofAnswer r) ⌝ }
 {
-    let mut wk = [0u8; 64];
-    let mut wi = [0u8; 64];
-    let mut wn = [0u64; 64];
-    let mut wr = [0u64; 64];
-    let mut wm = [0u64; 64];
+    let mut wk = [0u8; SUM_ENTRIES];
+    let mut wi = [0u8; SUM_ENTRIES];
+    let mut wn = [0u64; SUM_ENTRIES];
+    let mut wr = [0u64; SUM_ENTRIES];
+    let mut wm = [0u64; SUM_ENTRIES];
     let data = read_sum(list, &mut wk, &mut wi, &mut wn, &mut wr, &mut wm);
     match data {
         AlgebraData::Refused(q, at, _) => Answer::Refused(q, at),
@@ -145,11 +147,11 @@ pub fn derivative(list: &[u8], out: &mut [u8]) -> Answer
 pub fn integral(list: &[u8], out: &mut [u8]) -> Answer
     ensures { λ r. ⌜ Promised entry.integral (now (list .entry)) (now (out .entry)) (now (out .exit)) (ofAnswer r) ⌝ }
 {
-    let mut wk = [0u8; 64];
-    let mut wi = [0u8; 64];
-    let mut wn = [0u64; 64];
-    let mut wr = [0u64; 64];
-    let mut wm = [0u64; 64];
+    let mut wk = [0u8; SUM_ENTRIES];
+    let mut wi = [0u8; SUM_ENTRIES];
+    let mut wn = [0u64; SUM_ENTRIES];
+    let mut wr = [0u64; SUM_ENTRIES];
+    let mut wm = [0u64; SUM_ENTRIES];
     let data = read_sum(list, &mut wk, &mut wi, &mut wn, &mut wr, &mut wm);
     match data {
         AlgebraData::Refused(q, at, _) => Answer::Refused(q, at),
@@ -191,8 +193,8 @@ fn invert_read(
     handled: bool,
     out: &mut [u8],
 ) -> Answer
-    requires { ⌜ (n ≤ 64) × Held (lent wk wi wn wr wm) 0 (0 + n) 4 ⌝ }
-    ensures { λ r. ⌜ ((s : Sum) → Lies (lent (wk .entry) (wi .entry) (wn .entry) (wr .entry) (wm .entry)) 0 (0 + n) 4 s → Gives recordsIn (lists.inverseOf (done s complex handled)) (now (out .entry)) (now (out .exit)) r) ⌝ }
+    requires { ⌜ (n ≤ sumEntries) × Held (lent wk wi wn wr wm) 0 (0 + n) sumLevels ⌝ }
+    ensures { λ r. ⌜ ((s : Sum) → Lies (lent (wk .entry) (wi .entry) (wn .entry) (wr .entry) (wm .entry)) 0 (0 + n) sumLevels s → Gives recordsIn (lists.inverseOf (done s complex handled)) (now (out .entry)) (now (out .exit)) r) ⌝ }
 {
     if !handled {
         return Answer::Refused(Refusal::NotHandled, 0);
@@ -204,11 +206,11 @@ fn invert_read(
 pub fn inverse(list: &[u8], out: &mut [u8]) -> Answer
     ensures { λ r. ⌜ Promised entry.inverse (now (list .entry)) (now (out .entry)) (now (out .exit)) (ofAnswer r) ⌝ }
 {
-    let mut wk = [0u8; 64];
-    let mut wi = [0u8; 64];
-    let mut wn = [0u64; 64];
-    let mut wr = [0u64; 64];
-    let mut wm = [0u64; 64];
+    let mut wk = [0u8; SUM_ENTRIES];
+    let mut wi = [0u8; SUM_ENTRIES];
+    let mut wn = [0u64; SUM_ENTRIES];
+    let mut wr = [0u64; SUM_ENTRIES];
+    let mut wm = [0u64; SUM_ENTRIES];
     let data = read_sum(list, &mut wk, &mut wi, &mut wn, &mut wr, &mut wm);
     match data {
         AlgebraData::Refused(q, at, handled) => refuse_inverse(q, at, handled),
@@ -224,11 +226,11 @@ pub fn inverse(list: &[u8], out: &mut [u8]) -> Answer
 pub fn derive(sum: &[u8], out: &mut [u8]) -> Answer
     ensures { λ r. ⌜ Promised entry.derive (now (sum .entry)) (now (out .entry)) (now (out .exit)) (ofAnswer r) ⌝ }
 {
-    let mut ak = [0u8; 64];
-    let mut ai = [0u8; 64];
-    let mut an = [0u64; 64];
-    let mut ar = [0u64; 64];
-    let mut am = [0u64; 64];
+    let mut ak = [0u8; SUM_ENTRIES];
+    let mut ai = [0u8; SUM_ENTRIES];
+    let mut an = [0u64; SUM_ENTRIES];
+    let mut ar = [0u64; SUM_ENTRIES];
+    let mut am = [0u64; SUM_ENTRIES];
     let taken = entries::take_in(sum, &mut ak, &mut ai, &mut an, &mut ar, &mut am);
     match taken {
         Taken::Refused(q) => Answer::Refused(q, 0),
@@ -240,11 +242,11 @@ pub fn derive(sum: &[u8], out: &mut [u8]) -> Answer
 pub fn integrate(sum: &[u8], out: &mut [u8]) -> Answer
     ensures { λ r. ⌜ Promised entry.integrate (now (sum .entry)) (now (out .entry)) (now (out .exit)) (ofAnswer r) ⌝ }
 {
-    let mut ak = [0u8; 64];
-    let mut ai = [0u8; 64];
-    let mut an = [0u64; 64];
-    let mut ar = [0u64; 64];
-    let mut am = [0u64; 64];
+    let mut ak = [0u8; SUM_ENTRIES];
+    let mut ai = [0u8; SUM_ENTRIES];
+    let mut an = [0u64; SUM_ENTRIES];
+    let mut ar = [0u64; SUM_ENTRIES];
+    let mut am = [0u64; SUM_ENTRIES];
     let taken = entries::take_in(sum, &mut ak, &mut ai, &mut an, &mut ar, &mut am);
     match taken {
         Taken::Refused(q) => Answer::Refused(q, 0),
@@ -256,11 +258,11 @@ pub fn integrate(sum: &[u8], out: &mut [u8]) -> Answer
 pub fn write(sum: &[u8], complex: bool, out: &mut [u8]) -> Answer
     ensures { λ r. ⌜ Promised (entry.write complex) (now (sum .entry)) (now (out .entry)) (now (out .exit)) (ofAnswer r) ⌝ }
 {
-    let mut ak = [0u8; 64];
-    let mut ai = [0u8; 64];
-    let mut an = [0u64; 64];
-    let mut ar = [0u64; 64];
-    let mut am = [0u64; 64];
+    let mut ak = [0u8; SUM_ENTRIES];
+    let mut ai = [0u8; SUM_ENTRIES];
+    let mut an = [0u64; SUM_ENTRIES];
+    let mut ar = [0u64; SUM_ENTRIES];
+    let mut am = [0u64; SUM_ENTRIES];
     let taken = entries::take_in(sum, &mut ak, &mut ai, &mut an, &mut ar, &mut am);
     match taken {
         Taken::Refused(q) => Answer::Refused(q, 0),

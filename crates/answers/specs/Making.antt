@@ -5,6 +5,7 @@ use mathlib.Core.Bool.{Bool, false, cond}
 use mathlib.Core.List.{List}
 use lib.Dec.{leb}
 use lib.Seq.{sets}
+use Rattle.limits.specs.Limits.{sumLevels}
 use Rattle.limits.specs.declared.Refusal.{Refusal}
 use Rattle.limits.specs.declared.Refusal.the-variants.{OutputRoom}
 use Rattle.limits.specs.Refusals.{refusalNo}
@@ -91,7 +92,7 @@ pub record OfBytes (room : List ℕ → ℕ) (f : Sum → Made) (l out out′ : 
   pub weight : Taken
   pub weighed : Weighed l weight
   pub refuses : (q : Refusal) → weight ≡ taken.Refused q → Gives room (refusedAt q 0) out out′ r
-  pub takes : (n : ℕ) → weight ≡ taken.Sum n → (s : Sum) → encodeSum s ≡ l → Good 4 s → Gives room (f s) out out′ r
+  pub takes : (n : ℕ) → weight ≡ taken.Sum n → (s : Sum) → encodeSum s ≡ l → Good sumLevels s → Gives room (f s) out out′ r
 
 -- document 01's numbers
 abbrev pub answerNumbers : Answer → Numbers

@@ -1,9 +1,11 @@
 // What is made of a sum that lies in slices: a sum or a list, written where there is room for the whole of it, or a refusal. A refusal changes no byte.
 use drafts::Wrote;
 use limits::Refusal;
+use limits::SUM_ENTRIES;
 use sums::Formed;
 ghost use mathlib.Core.Path.{_≡_};
 ghost use Prim.Native.Nat.{_+_, _≤_};
+ghost use Rattle.limits.specs.Limits.{sumEntries, sumLevels};
 ghost use Rattle.cells.specs.Book.{lent};
 ghost use Rattle.trees.specs.Sums.{Sum};
 ghost use Rattle.sums.specs.Contract.Lies.{Lies, Held};
@@ -65,8 +67,8 @@ pub fn put_out(
     n: usize,
     out: &mut [u8],
 ) -> Answer
-    requires { ⌜ (n ≤ 64) × Held (lent ak ai an ar am) 0 (0 + n) 4 ⌝ }
-    ensures { λ r. ⌜ ((s : Sum) → Lies (lent (ak .entry) (ai .entry) (an .entry) (ar .entry) (am .entry)) 0 (0 + n) 4 s → Gives entriesIn (ofSum s) (now (out .entry)) (now (out .exit)) r) ⌝ }
+    requires { ⌜ (n ≤ sumEntries) × Held (lent ak ai an ar am) 0 (0 + n) sumLevels ⌝ }
+    ensures { λ r. ⌜ ((s : Sum) → Lies (lent (ak .entry) (ai .entry) (an .entry) (ar .entry) (am .entry)) 0 (0 + n) sumLevels s → Gives entriesIn (ofSum s) (now (out .entry)) (now (out .exit)) r) ⌝ }
 {
     let room = entries::count_entries(out);
     if room < n {
@@ -86,14 +88,14 @@ pub fn derive(
     n: usize,
     out: &mut [u8],
 ) -> Answer
-    requires { ⌜ (n ≤ 64) × Held (lent ak ai an ar am) 0 (0 + n) 4 ⌝ }
-    ensures { λ r. ⌜ ((s : Sum) → Lies (lent (ak .entry) (ai .entry) (an .entry) (ar .entry) (am .entry)) 0 (0 + n) 4 s → Gives entriesIn (derive s) (now (out .entry)) (now (out .exit)) r) ⌝ }
+    requires { ⌜ (n ≤ sumEntries) × Held (lent ak ai an ar am) 0 (0 + n) sumLevels ⌝ }
+    ensures { λ r. ⌜ ((s : Sum) → Lies (lent (ak .entry) (ai .entry) (an .entry) (ar .entry) (am .entry)) 0 (0 + n) sumLevels s → Gives entriesIn (derive s) (now (out .entry)) (now (out .exit)) r) ⌝ }
 {
-    let mut wk = [0u8; 64];
-    let mut wi = [0u8; 64];
-    let mut wn = [0u64; 64];
-    let mut wr = [0u64; 64];
-    let mut wm = [0u64; 64];
+    let mut wk = [0u8; SUM_ENTRIES];
+    let mut wi = [0u8; SUM_ENTRIES];
+    let mut wn = [0u64; SUM_ENTRIES];
+    let mut wr = [0u64; SUM_ENTRIES];
+    let mut wm = [0u64; SUM_ENTRIES];
     let formed = derivatives::expr_deriv(
         ak,
         ai,
@@ -124,14 +126,14 @@ pub fn integrate(
     n: usize,
     out: &mut [u8],
 ) -> Answer
-    requires { ⌜ (n ≤ 64) × Held (lent ak ai an ar am) 0 (0 + n) 4 ⌝ }
-    ensures { λ r. ⌜ ((s : Sum) → Lies (lent (ak .entry) (ai .entry) (an .entry) (ar .entry) (am .entry)) 0 (0 + n) 4 s → Gives entriesIn (integrate s) (now (out .entry)) (now (out .exit)) r) ⌝ }
+    requires { ⌜ (n ≤ sumEntries) × Held (lent ak ai an ar am) 0 (0 + n) sumLevels ⌝ }
+    ensures { λ r. ⌜ ((s : Sum) → Lies (lent (ak .entry) (ai .entry) (an .entry) (ar .entry) (am .entry)) 0 (0 + n) sumLevels s → Gives entriesIn (integrate s) (now (out .entry)) (now (out .exit)) r) ⌝ }
 {
-    let mut wk = [0u8; 64];
-    let mut wi = [0u8; 64];
-    let mut wn = [0u64; 64];
-    let mut wr = [0u64; 64];
-    let mut wm = [0u64; 64];
+    let mut wk = [0u8; SUM_ENTRIES];
+    let mut wi = [0u8; SUM_ENTRIES];
+    let mut wn = [0u64; SUM_ENTRIES];
+    let mut wr = [0u64; SUM_ENTRIES];
+    let mut wm = [0u64; SUM_ENTRIES];
     let formed = integrals::expr_integral(
         ak,
         ai,
@@ -163,8 +165,8 @@ pub fn write_sum(
     complex: bool,
     out: &mut [u8],
 ) -> Answer
-    requires { ⌜ (n ≤ 64) × Held (lent ak ai an ar am) 0 (0 + n) 4 ⌝ }
-    ensures { λ r. ⌜ ((s : Sum) → Lies (lent (ak .entry) (ai .entry) (an .entry) (ar .entry) (am .entry)) 0 (0 + n) 4 s → Gives recordsIn (write complex s) (now (out .entry)) (now (out .exit)) r) ⌝ }
+    requires { ⌜ (n ≤ sumEntries) × Held (lent ak ai an ar am) 0 (0 + n) sumLevels ⌝ }
+    ensures { λ r. ⌜ ((s : Sum) → Lies (lent (ak .entry) (ai .entry) (an .entry) (ar .entry) (am .entry)) 0 (0 + n) sumLevels s → Gives recordsIn (write complex s) (now (out .entry)) (now (out .exit)) r) ⌝ }
 {
     let wrote = writer::expr_to_node(ak, ai, an, ar, am, 0, n, complex, out);
     answer_of(wrote)
@@ -181,14 +183,14 @@ pub fn derive_and_write(
     complex: bool,
     out: &mut [u8],
 ) -> Answer
-    requires { ⌜ (n ≤ 64) × Held (lent ak ai an ar am) 0 (0 + n) 4 ⌝ }
-    ensures { λ r. ⌜ ((s : Sum) → Lies (lent (ak .entry) (ai .entry) (an .entry) (ar .entry) (am .entry)) 0 (0 + n) 4 s → Gives recordsIn (deriveAndWrite complex s) (now (out .entry)) (now (out .exit)) r) ⌝ }
+    requires { ⌜ (n ≤ sumEntries) × Held (lent ak ai an ar am) 0 (0 + n) sumLevels ⌝ }
+    ensures { λ r. ⌜ ((s : Sum) → Lies (lent (ak .entry) (ai .entry) (an .entry) (ar .entry) (am .entry)) 0 (0 + n) sumLevels s → Gives recordsIn (deriveAndWrite complex s) (now (out .entry)) (now (out .exit)) r) ⌝ }
 {
-    let mut wk = [0u8; 64];
-    let mut wi = [0u8; 64];
-    let mut wn = [0u64; 64];
-    let mut wr = [0u64; 64];
-    let mut wm = [0u64; 64];
+    let mut wk = [0u8; SUM_ENTRIES];
+    let mut wi = [0u8; SUM_ENTRIES];
+    let mut wn = [0u64; SUM_ENTRIES];
+    let mut wr = [0u64; SUM_ENTRIES];
+    let mut wm = [0u64; SUM_ENTRIES];
     let formed = derivatives::expr_deriv(
         ak,
         ai,
@@ -220,14 +222,14 @@ pub fn integrate_and_write(
     complex: bool,
     out: &mut [u8],
 ) -> Answer
-    requires { ⌜ (n ≤ 64) × Held (lent ak ai an ar am) 0 (0 + n) 4 ⌝ }
-    ensures { λ r. ⌜ ((s : Sum) → Lies (lent (ak .entry) (ai .entry) (an .entry) (ar .entry) (am .entry)) 0 (0 + n) 4 s → Gives recordsIn (integrateAndWrite complex s) (now (out .entry)) (now (out .exit)) r) ⌝ }
+    requires { ⌜ (n ≤ sumEntries) × Held (lent ak ai an ar am) 0 (0 + n) sumLevels ⌝ }
+    ensures { λ r. ⌜ ((s : Sum) → Lies (lent (ak .entry) (ai .entry) (an .entry) (ar .entry) (am .entry)) 0 (0 + n) sumLevels s → Gives recordsIn (integrateAndWrite complex s) (now (out .entry)) (now (out .exit)) r) ⌝ }
 {
-    let mut wk = [0u8; 64];
-    let mut wi = [0u8; 64];
-    let mut wn = [0u64; 64];
-    let mut wr = [0u64; 64];
-    let mut wm = [0u64; 64];
+    let mut wk = [0u8; SUM_ENTRIES];
+    let mut wi = [0u8; SUM_ENTRIES];
+    let mut wn = [0u64; SUM_ENTRIES];
+    let mut wr = [0u64; SUM_ENTRIES];
+    let mut wm = [0u64; SUM_ENTRIES];
     let formed = integrals::expr_integral(
         ak,
         ai,
@@ -259,8 +261,8 @@ pub fn invert(
     complex: bool,
     out: &mut [u8],
 ) -> Answer
-    requires { ⌜ (n ≤ 64) × Held (lent ak ai an ar am) 0 (0 + n) 4 ⌝ }
-    ensures { λ r. ⌜ ((s : Sum) → Lies (lent (ak .entry) (ai .entry) (an .entry) (ar .entry) (am .entry)) 0 (0 + n) 4 s → Gives recordsIn (invert complex s) (now (out .entry)) (now (out .exit)) r) ⌝ }
+    requires { ⌜ (n ≤ sumEntries) × Held (lent ak ai an ar am) 0 (0 + n) sumLevels ⌝ }
+    ensures { λ r. ⌜ ((s : Sum) → Lies (lent (ak .entry) (ai .entry) (an .entry) (ar .entry) (am .entry)) 0 (0 + n) sumLevels s → Gives recordsIn (invert complex s) (now (out .entry)) (now (out .exit)) r) ⌝ }
 {
     let wrote = inverse::algebraic_inverse(ak, ai, an, ar, am, 0, n, complex, out);
     answer_of(wrote)

@@ -3,6 +3,7 @@ ghost use mathlib.Core.Path.{_≡_};
 ghost use mathlib.Core.List.{List, _∷_};
 ghost use Prim.Native.Nat.{ℕ, _+_, _≤_, _<_};
 ghost use lib.ListN.{length};
+ghost use Rattle.limits.specs.Limits.{sumEntries, sumLevels};
 ghost use Rattle.cells.specs.Book.{lent, Room};
 ghost use Rattle.cells.specs.Contract.Moves.{Pasted};
 ghost use Rattle.trees.specs.Sums.{Sum};
@@ -105,9 +106,9 @@ pub fn push_sum(
     az: &mut [u8],
     u: usize,
 )
-    requires { ⌜ (1 ≤ n) × (n ≤ 64) × Room (lent vk vi vn vr vm) n × Space (arena ak ai an ar am az) (u + n) ⌝ }
+    requires { ⌜ (1 ≤ n) × (n ≤ sumEntries) × Room (lent vk vi vn vr vm) n × Space (arena ak ai an ar am az) (u + n) ⌝ }
     ensures { λ _. ⌜ Outside (arena (ak .entry) (ai .entry) (an .entry) (ar .entry) (am .entry) (az .entry)) (arena (ak .exit) (ai .exit) (an .exit) (ar .exit) (am .exit) (az .exit)) u (u + n) ⌝ }
-    ensures { λ _. ⌜ ((s : Sum) → Lies (lent (vk .entry) (vi .entry) (vn .entry) (vr .entry) (vm .entry)) 0 n 4 s → Top (arena (ak .exit) (ai .exit) (an .exit) (ar .exit) (am .exit) (az .exit)) u (u + n) s) ⌝ }
+    ensures { λ _. ⌜ ((s : Sum) → Lies (lent (vk .entry) (vi .entry) (vn .entry) (vr .entry) (vm .entry)) 0 n sumLevels s → Top (arena (ak .exit) (ai .exit) (an .exit) (ar .exit) (am .exit) (az .exit)) u (u + n) s) ⌝ }
 {
     gaps::copy_in(vk, vi, vn, vr, vm, 0, n, ak, ai, an, ar, am, u);
     az[u + n - 1] = n as u8;

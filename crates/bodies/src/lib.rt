@@ -9,6 +9,7 @@ use steps::AlgebraEnv;
 ghost use mathlib.Core.Path.{_≡_};
 ghost use mathlib.Core.Bool.{true, cond};
 ghost use Prim.Native.Nat.{ℕ, _+_, _-_, _≤_, _<_, max};
+ghost use Rattle.limits.specs.Limits.{stackEntries};
 ghost use Rattle.formats.specs.Names.{kindOf};
 ghost use Rattle.formats.specs.declared.record.KindFound.the-variants.{Known};
 ghost use Rattle.formats.specs.Tree.{forest, count};
@@ -297,7 +298,7 @@ fn hold_for(
     env: AlgebraEnv,
 ) -> Begun
     requires { ⌜ Ready (arena ak ai an ar am az) v env ⌝ }
-    ensures { λ r. ⌜ Begins (arena (ak .entry) (ai .entry) (an .entry) (ar .entry) (am .entry) (az .entry)) (arena (ak .exit) (ai .exit) (an .exit) (ar .exit) (am .exit) (az .exit)) v env r (λ st f. holding at (heldBy m n) (lentBy m) (1024 - v) st f) ⌝ }
+    ensures { λ r. ⌜ Begins (arena (ak .entry) (ai .entry) (an .entry) (ar .entry) (am .entry) (az .entry)) (arena (ak .exit) (ai .exit) (an .exit) (ar .exit) (am .exit) (az .exit)) v env r (λ st f. holding at (heldBy m n) (lentBy m) (stackEntries - v) st f) ⌝ }
 {
     let k = held_by(m, n);
     let c = lent_by(m);
@@ -319,7 +320,7 @@ pub fn begin(
     env: AlgebraEnv,
 ) -> Begun
     requires { ⌜ Ready (arena ak ai an ar am az) v env ⌝ }
-    ensures { λ r. ⌜ Begins (arena (ak .entry) (ai .entry) (an .entry) (ar .entry) (am .entry) (az .entry)) (arena (ak .exit) (ai .exit) (an .exit) (ar .exit) (am .exit) (az .exit)) v env r (λ st f. begin (modifierOf code) n at (1024 - v) st f) ⌝ }
+    ensures { λ r. ⌜ Begins (arena (ak .entry) (ai .entry) (an .entry) (ar .entry) (am .entry) (az .entry)) (arena (ak .exit) (ai .exit) (an .exit) (ar .exit) (am .exit) (az .exit)) v env r (λ st f. begin (modifierOf code) n at (stackEntries - v) st f) ⌝ }
 {
     let m = formats::record::modifier_of(code);
     match begins_by(m) {

@@ -6,6 +6,7 @@ use sums::Formed;
 use trees::Merge;
 ghost use mathlib.Core.Path.{_≡_};
 ghost use mathlib.Core.Bool.{false};
+ghost use Rattle.limits.specs.Limits.{sumEntries, sumLevels};
 ghost use Rattle.trees.specs.Kinds.{hasNumber};
 ghost use Prim.Native.Nat.{_+_, _≤_};
 ghost use Rattle.cells.specs.Book.{lent};
@@ -73,8 +74,8 @@ pub fn prime_of(
     i: usize,
     n: usize,
 ) -> Constant
-    requires { ⌜ Held (lent ak ai an ar am) i (i + n) 4 ⌝ }
-    ensures { λ r. ⌜ ((s : Sum) → Lies (lent (ak .entry) (ai .entry) (an .entry) (ar .entry) (am .entry)) i (i + n) 4 s → r ≡ constantOf (prime s)) ⌝ }
+    requires { ⌜ Held (lent ak ai an ar am) i (i + n) sumLevels ⌝ }
+    ensures { λ r. ⌜ ((s : Sum) → Lies (lent (ak .entry) (ai .entry) (an .entry) (ar .entry) (am .entry)) i (i + n) sumLevels s → r ≡ constantOf (prime s)) ⌝ }
 {
     let end = i + n;
     let mut q = i;
@@ -112,7 +113,7 @@ pub fn put_over(
     wm: &mut [u64],
     len: usize,
 ) -> Formed
-    requires { ⌜ Ready (lent wk wi wn wr wm) len (lent ak ai an ar am) i n × (1 ≤ n) × (n ≤ 64) × (2 ≤ kind) × (kind ≤ 8) × (hasNumber kind ≡ false) ⌝ }
+    requires { ⌜ Ready (lent wk wi wn wr wm) len (lent ak ai an ar am) i n × (1 ≤ n) × (n ≤ sumEntries) × (2 ≤ kind) × (kind ≤ 8) × (hasNumber kind ≡ false) ⌝ }
     ensures { λ r. ⌜ Into (lent (wk .entry) (wi .entry) (wn .entry) (wr .entry) (wm .entry)) (lent (wk .exit) (wi .exit) (wn .exit) (wr .exit) (wm .exit)) len (lent (ak .entry) (ai .entry) (an .entry) (ar .entry) (am .entry)) i n r (λ t s. turnedTo kind c t how s) ⌝ }
 {
     let x = Entry {

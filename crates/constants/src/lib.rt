@@ -4,6 +4,7 @@ use steps::AlgebraEnv;
 use steps::Ran;
 ghost use mathlib.Core.Bool.{true};
 ghost use Prim.Native.Nat.{_-_};
+ghost use Rattle.limits.specs.Limits.{stackEntries};
 ghost use Rattle.arena.specs.Contract.Arena.{arena};
 ghost use Rattle.steps.specs.State.{went, andThen, push};
 ghost use Rattle.steps.specs.Steps.{constantOf, flagged};
@@ -24,7 +25,7 @@ pub fn push_number(
     env: AlgebraEnv,
 ) -> Ran
     requires { ⌜ Ready (arena ak ai an ar am az) v env ⌝ }
-    ensures { λ r. ⌜ Does (arena (ak .entry) (ai .entry) (an .entry) (ar .entry) (am .entry) (az .entry)) (arena (ak .exit) (ai .exit) (an .exit) (ar .exit) (am .exit) (az .exit)) v env r (push at (1024 - v) (constantOf re im)) ⌝ }
+    ensures { λ r. ⌜ Does (arena (ak .entry) (ai .entry) (an .entry) (ar .entry) (am .entry) (az .entry)) (arena (ak .exit) (ai .exit) (an .exit) (ar .exit) (am .exit) (az .exit)) v env r (push at (stackEntries - v) (constantOf re im)) ⌝ }
 {
     if !(numbers::finite_bits(re) & numbers::finite_bits(im)) {
         return steps::halt(Refusal::NotFinite, at, ak, ai, an, ar, am, az, env);
@@ -68,7 +69,7 @@ pub fn push_complex(
     env: AlgebraEnv,
 ) -> Ran
     requires { ⌜ Ready (arena ak ai an ar am az) v env ⌝ }
-    ensures { λ r. ⌜ Does (arena (ak .entry) (ai .entry) (an .entry) (ar .entry) (am .entry) (az .entry)) (arena (ak .exit) (ai .exit) (an .exit) (ar .exit) (am .exit) (az .exit)) v env r (λ st. andThen (push at (1024 - v) (constantOf re im) st) (λ st′. went (flagged true st′))) ⌝ }
+    ensures { λ r. ⌜ Does (arena (ak .entry) (ai .entry) (an .entry) (ar .entry) (am .entry) (az .entry)) (arena (ak .exit) (ai .exit) (an .exit) (ar .exit) (am .exit) (az .exit)) v env r (λ st. andThen (push at (stackEntries - v) (constantOf re im) st) (λ st′. went (flagged true st′))) ⌝ }
 {
     let r = push_number(re, im, at, ak, ai, an, ar, am, az, v, env);
     steps::finish(r, false, true)

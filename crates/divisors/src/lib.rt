@@ -1,8 +1,9 @@
 // A power of x by a divisor of one term, added into a sum. The divisor lies in one book, the sum at the start of another, which has room
-// for 64.
+// for SUM_ENTRIES.
 use cells::Entry;
 use complex::Complex;
 use limits::Refusal;
+use limits::SUM_ENTRIES;
 use sums::Formed;
 use terms::Change;
 use trees::Merge;
@@ -11,6 +12,7 @@ ghost use mathlib.Core.Bool.{cond};
 ghost use mathlib.Core.List.{List};
 ghost use Prim.Native.Nat.{ℕ, _+_};
 ghost use lib.Ieee.{Float};
+ghost use Rattle.limits.specs.Limits.{sumEntries, sumLevels};
 ghost use Rattle.numbers.specs.Signs.{zero64};
 ghost use Rattle.complex.specs.Arith.{one};
 ghost use Rattle.cells.specs.Book.{book, lent, Room};
@@ -26,8 +28,8 @@ ghost use Rattle.divisors.specs.Contract.Dividing.{Divisor};
 
 // Whether every outermost term of the sum of m cells from j on is a power of x: then a power of x times it is a sum.
 pub fn all_x(kinds: &[u8], insides: &[u8], j: usize, m: usize) -> bool
-    requires { ⌜ ((n : List ℕ) × (r : List ℕ) × (i : List ℕ) × Held (book (now kinds) (now insides) n r i) j (j + m) 4) ⌝ }
-    ensures { λ r. ⌜ ((n w i : List ℕ) (t : Sum) (p : Float) → Lies (book (now (kinds .entry)) (now (insides .entry)) n w i) j (j + m) 4 t → r ≡ mulable (xTo p) t) ⌝ }
+    requires { ⌜ ((n : List ℕ) × (r : List ℕ) × (i : List ℕ) × Held (book (now kinds) (now insides) n r i) j (j + m) sumLevels) ⌝ }
+    ensures { λ r. ⌜ ((n w i : List ℕ) (t : Sum) (p : Float) → Lies (book (now (kinds .entry)) (now (insides .entry)) n w i) j (j + m) sumLevels t → r ≡ mulable (xTo p) t) ⌝ }
 {
     let end = j + m;
     let mut q = j;
@@ -52,7 +54,7 @@ pub fn put_x(
     n: usize,
 ) -> Formed
     requires { ⌜ Work (lent wk wi wn wr wm) n ⌝ }
-    ensures { λ r. ⌜ ((s : Sum) → Lies (lent (wk .entry) (wi .entry) (wn .entry) (wr .entry) (wm .entry)) 0 n 4 s → Agrees r (lent (wk .exit) (wi .exit) (wn .exit) (wr .exit) (wm .exit)) 0 (formed Merge.Add (entry X 0 p c) none s)) ⌝ }
+    ensures { λ r. ⌜ ((s : Sum) → Lies (lent (wk .entry) (wi .entry) (wn .entry) (wr .entry) (wm .entry)) 0 n sumLevels s → Agrees r (lent (wk .exit) (wi .exit) (wn .exit) (wr .exit) (wm .exit)) 0 (formed Merge.Add (entry X 0 p c) none s)) ⌝ }
 {
     let small = [0u8; 1];
     let large = [0u64; 1];
@@ -97,8 +99,8 @@ fn times_x(
     wr: &mut [u64],
     wm: &mut [u64],
 ) -> Formed
-    requires { ⌜ Held (lent ak ai an ar am) j (j + m) 4 × Room (lent wk wi wn wr wm) 64 ⌝ }
-    ensures { λ r. ⌜ ((t : Sum) → Lies (lent (ak .entry) (ai .entry) (an .entry) (ar .entry) (am .entry)) j (j + m) 4 t → Agrees r (lent (wk .exit) (wi .exit) (wn .exit) (wr .exit) (wm .exit)) 0 (product (xTo p) t)) ⌝ }
+    requires { ⌜ Held (lent ak ai an ar am) j (j + m) sumLevels × Room (lent wk wi wn wr wm) sumEntries ⌝ }
+    ensures { λ r. ⌜ ((t : Sum) → Lies (lent (ak .entry) (ai .entry) (an .entry) (ar .entry) (am .entry)) j (j + m) sumLevels t → Agrees r (lent (wk .exit) (wi .exit) (wn .exit) (wr .exit) (wm .exit)) 0 (product (xTo p) t)) ⌝ }
 {
     if !all_x(ak, ai, j, m) {
         return Formed::Refused(Refusal::TooComplex);
@@ -135,9 +137,9 @@ pub fn over_div(
     wm: &mut [u64],
     n: usize,
 ) -> Formed
-    requires { ⌜ Held (lent ak ai an ar am) j (j + m) 4 ⌝ }
+    requires { ⌜ Held (lent ak ai an ar am) j (j + m) sumLevels ⌝ }
     requires { ⌜ Work (lent wk wi wn wr wm) n ⌝ }
-    ensures { λ r. ⌜ ((s v : Sum) → Lies (lent (wk .entry) (wi .entry) (wn .entry) (wr .entry) (wm .entry)) 0 n 4 s → Lies (lent (ak .entry) (ai .entry) (an .entry) (ar .entry) (am .entry)) j (j + m) 4 v → Agrees r (lent (wk .exit) (wi .exit) (wn .exit) (wr .exit) (wm .exit)) 0 (cond (isOne (x .kind) (x .num)) (addTimes c s v) (andThenSum (product (xTo (x .num)) v) (λ w. addTimes c s w)))) ⌝ }
+    ensures { λ r. ⌜ ((s v : Sum) → Lies (lent (wk .entry) (wi .entry) (wn .entry) (wr .entry) (wm .entry)) 0 n sumLevels s → Lies (lent (ak .entry) (ai .entry) (an .entry) (ar .entry) (am .entry)) j (j + m) sumLevels v → Agrees r (lent (wk .exit) (wi .exit) (wn .exit) (wr .exit) (wm .exit)) 0 (cond (isOne (x .kind) (x .num)) (addTimes c s v) (andThenSum (product (xTo (x .num)) v) (λ w. addTimes c s w)))) ⌝ }
 {
     if monomials::is_one(x) {
         return adds::add_each(
@@ -157,11 +159,11 @@ pub fn over_div(
             n,
         );
     }
-    let mut lk = [0u8; 64];
-    let mut li = [0u8; 64];
-    let mut ln = [0u64; 64];
-    let mut lr = [0u64; 64];
-    let mut lm = [0u64; 64];
+    let mut lk = [0u8; SUM_ENTRIES];
+    let mut li = [0u8; SUM_ENTRIES];
+    let mut ln = [0u64; SUM_ENTRIES];
+    let mut lr = [0u64; SUM_ENTRIES];
+    let mut lm = [0u64; SUM_ENTRIES];
     match times_x(
         x.num,
         ak,
@@ -212,8 +214,8 @@ fn lay_single(
     lr: &mut [u64],
     lm: &mut [u64],
 )
-    requires { ⌜ ((v : Sum) × Divisor (lent ak ai an ar am) y j v) × Room (lent lk li ln lr lm) 64 ⌝ }
-    ensures { λ _. ⌜ ((v : Sum) → Divisor (lent (ak .entry) (ai .entry) (an .entry) (ar .entry) (am .entry)) y j v → Lies (lent (lk .exit) (li .exit) (ln .exit) (lr .exit) (lm .exit)) 0 (y .inside + 1) 4 (single (y .kind) (y .num) v one)) ⌝ }
+    requires { ⌜ ((v : Sum) × Divisor (lent ak ai an ar am) y j v) × Room (lent lk li ln lr lm) sumEntries ⌝ }
+    ensures { λ _. ⌜ ((v : Sum) → Divisor (lent (ak .entry) (ai .entry) (an .entry) (ar .entry) (am .entry)) y j v → Lies (lent (lk .exit) (li .exit) (ln .exit) (lr .exit) (lm .exit)) 0 (y .inside + 1) sumLevels (single (y .kind) (y .num) v one)) ⌝ }
 {
     let head = Entry {
         kind: y.kind,
@@ -257,13 +259,13 @@ pub fn over_other(
     n: usize,
 ) -> Formed
     requires { ⌜ ((v : Sum) × Divisor (lent ak ai an ar am) y j v) × Work (lent wk wi wn wr wm) n ⌝ }
-    ensures { λ r. ⌜ ((s v : Sum) → Lies (lent (wk .entry) (wi .entry) (wn .entry) (wr .entry) (wm .entry)) 0 n 4 s → Divisor (lent (ak .entry) (ai .entry) (an .entry) (ar .entry) (am .entry)) y j v → Agrees r (lent (wk .exit) (wi .exit) (wn .exit) (wr .exit) (wm .exit)) 0 (formed Merge.Add (entry Div (size (single (y .kind) (y .num) v one)) zero64 c) (single (y .kind) (y .num) v one) s)) ⌝ }
+    ensures { λ r. ⌜ ((s v : Sum) → Lies (lent (wk .entry) (wi .entry) (wn .entry) (wr .entry) (wm .entry)) 0 n sumLevels s → Divisor (lent (ak .entry) (ai .entry) (an .entry) (ar .entry) (am .entry)) y j v → Agrees r (lent (wk .exit) (wi .exit) (wn .exit) (wr .exit) (wm .exit)) 0 (formed Merge.Add (entry Div (size (single (y .kind) (y .num) v one)) zero64 c) (single (y .kind) (y .num) v one) s)) ⌝ }
 {
-    let mut lk = [0u8; 64];
-    let mut li = [0u8; 64];
-    let mut ln = [0u64; 64];
-    let mut lr = [0u64; 64];
-    let mut lm = [0u64; 64];
+    let mut lk = [0u8; SUM_ENTRIES];
+    let mut li = [0u8; SUM_ENTRIES];
+    let mut ln = [0u64; SUM_ENTRIES];
+    let mut lr = [0u64; SUM_ENTRIES];
+    let mut lm = [0u64; SUM_ENTRIES];
     lay_single(
         y,
         ak,

@@ -5,6 +5,7 @@ use formats::record::Kind;
 use formats::record::Modifier;
 use formats::record::Primitive;
 use formats::record::Record;
+use limits::RECORD_BYTES;
 use limits::Refusal;
 ghost use mathlib.Core.Path.{_≡_};
 ghost use Prim.Native.Nat.{_+_, _*_, _≤_, _<_};
@@ -206,7 +207,7 @@ pub fn hand_over(b: &[u8], d: Draft, out: &mut [u8]) -> Wrote
     if formats::record::count_records(out) < n {
         return Wrote::Refused(Refusal::OutputRoom);
     }
-    copy_out(b, 24 * d.from, 24 * n, out);
+    copy_out(b, RECORD_BYTES * d.from, RECORD_BYTES * n, out);
     Wrote::List(n)
 }
 

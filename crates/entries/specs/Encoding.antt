@@ -3,6 +3,7 @@
 use mathlib.Core.List.{List, [], _∷_, _++_}
 use Prim.Native.Nat.{ℕ, _/_}
 use lib.ListN.{length}
+use Rattle.limits.specs.Limits.{entryBytes}
 use Rattle.cells.specs.declared.Entry.{Entry}
 use Rattle.cells.specs.Book.{Cell, encoded}
 use Rattle.trees.specs.Sums.{Sum, none, and, size, entry}
@@ -18,7 +19,7 @@ encodeEntry e = encodeCell (encoded e)
 
 -- how many whole entries some bytes have room for
 abbrev pub entriesIn : List ℕ → ℕ
-entriesIn l = length l / 32
+entriesIn l = length l / entryBytes
 
 -- an entry, then its inside, then the next entry
 unfoldable pub encodeSum : Sum → List ℕ

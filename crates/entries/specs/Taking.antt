@@ -1,9 +1,10 @@
--- Which sums may be handed over, and what an answer says of a list of bytes: 11 where they are the bytes of no such sum, then 13 where an entry lies
--- inside more than 3 others.
+-- Which sums may be handed over, and what an answer says of a list of bytes: 11 where they are the bytes of no such sum, then 13 where more
+-- than sumLevels entries lie one inside the other.
 use mathlib.Core.Path.{_≡_}
 use mathlib.Core.Logic.{_↔_}
 use mathlib.Core.List.{List}
 use Prim.Native.Nat.{ℕ, _≤_}
+use Rattle.limits.specs.Limits.{sumEntries, sumLevels}
 use Rattle.cells.specs.Book.{Book}
 use Rattle.trees.specs.Sums.{Sum, size}
 use Rattle.trees.specs.Good.{Good}
@@ -13,20 +14,20 @@ use Rattle.entries.specs.Encoding.{encodeSum}
 use Rattle.entries.specs.declared.Taken.{Taken}
 use Rattle.entries.specs.declared.Taken.the-variants as taken
 
--- a sum of 1 to 64 entries that is good, however deep it goes: 64 entries make at most 64 levels
+-- a sum of 1 to sumEntries entries that is good, however deep it goes: so many entries make at most as many levels
 pub record Handed (s : Sum) : Type 0 where
-  pub good : Good 64 s
+  pub good : Good sumEntries s
   pub some : 1 ≤ size s
-  pub few : size s ≤ 64
+  pub few : size s ≤ sumEntries
 
 -- what an answer says of a list of bytes, in the words of the sums
 pub record Weighed (l : List ℕ) (t : Taken) : Type 0 where
-  pub good : (n : ℕ) → (t ≡ taken.Sum n) ↔ ((s : Sum) × (encodeSum s ≡ l) × Handed s × Good 4 s × (size s ≡ n))
-  pub deep : (t ≡ taken.Refused TooDeep) ↔ ((s : Sum) × (encodeSum s ≡ l) × Handed s × (Good 4 s → ⊥))
+  pub good : (n : ℕ) → (t ≡ taken.Sum n) ↔ ((s : Sum) × (encodeSum s ≡ l) × Handed s × Good sumLevels s × (size s ≡ n))
+  pub deep : (t ≡ taken.Refused TooDeep) ↔ ((s : Sum) × (encodeSum s ≡ l) × Handed s × (Good sumLevels s → ⊥))
   pub bad : (t ≡ taken.Refused BadRecord) ↔ ((s : Sum) → encodeSum s ≡ l → Handed s → ⊥)
 
 -- n entries were taken in, and the sum of these bytes lies in the first n cells
 pub record Laid (l : List ℕ) (b : Book) (n : ℕ) : Type 0 where
-  pub few : n ≤ 64
-  pub some : (s : Sum) × (encodeSum s ≡ l) × Lies b 0 n 4 s
-  pub every : (s : Sum) → encodeSum s ≡ l → Good 4 s → Lies b 0 n 4 s
+  pub few : n ≤ sumEntries
+  pub some : (s : Sum) × (encodeSum s ≡ l) × Lies b 0 n sumLevels s
+  pub every : (s : Sum) → encodeSum s ≡ l → Good sumLevels s → Lies b 0 n sumLevels s

@@ -1,10 +1,13 @@
 // The Rust's AlgebraEnv: a list read on a stack of sums that starts with x, to the one sum that is left.
 use cells::Entry;
 use complex::Complex;
+use limits::LIST_LEVELS;
 use limits::Refusal;
+use limits::STACK_ENTRIES;
 use steps::AlgebraEnv;
 use steps::Ran;
 ghost use mathlib.Core.Path.{_≡_};
+ghost use Rattle.limits.specs.Limits.{sumEntries, stackEntries};
 ghost use Rattle.formats.specs.Tree.{parse};
 ghost use Rattle.formats.specs.Rules.{verdict};
 ghost use Rattle.formats.specs.declared.record.Verdict.the-variants.{Good};
@@ -30,8 +33,8 @@ fn begin_with_x(
     am: &mut [u64],
     az: &mut [u8],
 ) -> AlgebraEnv
-    requires { ⌜ Space (arena ak ai an ar am az) 1024 ⌝ }
-    ensures { λ r. ⌜ Ready (arena (ak .exit) (ai .exit) (an .exit) (ar .exit) (am .exit) (az .exit)) 1024 r × Stands (arena (ak .exit) (ai .exit) (an .exit) (ar .exit) (am .exit) (az .exit)) 1024 r start ⌝ }
+    requires { ⌜ Space (arena ak ai an ar am az) stackEntries ⌝ }
+    ensures { λ r. ⌜ Ready (arena (ak .exit) (ai .exit) (an .exit) (ar .exit) (am .exit) (az .exit)) stackEntries r × Stands (arena (ak .exit) (ai .exit) (an .exit) (ar .exit) (am .exit) (az .exit)) stackEntries r start ⌝ }
 {
     let x = Entry {
         kind: trees::X,
@@ -63,8 +66,8 @@ fn last_of(
     wr: &mut [u64],
     wm: &mut [u64],
 ) -> AlgebraData
-    requires { ⌜ Ready (arena ak ai an ar am az) 1024 env × Room (lent wk wi wn wr wm) 64 ⌝ }
-    ensures { λ r. ⌜ ((st : State) → Stands (arena (ak .entry) (ai .entry) (an .entry) (ar .entry) (am .entry) (az .entry)) 1024 env st → DataAs r (lent (wk .exit) (wi .exit) (wn .exit) (wr .exit) (wm .exit)) (ended (went st))) ⌝ }
+    requires { ⌜ Ready (arena ak ai an ar am az) stackEntries env × Room (lent wk wi wn wr wm) sumEntries ⌝ }
+    ensures { λ r. ⌜ ((st : State) → Stands (arena (ak .entry) (ai .entry) (an .entry) (ar .entry) (am .entry) (az .entry)) stackEntries env st → DataAs r (lent (wk .exit) (wi .exit) (wn .exit) (wr .exit) (wm .exit)) (ended (went st))) ⌝ }
 {
     let many = 2 <= env.handled;
     let handled = many | arena::any_complex(ak, ai, an, ar, am, az, env.used);
@@ -88,15 +91,15 @@ pub fn nodes_expr(
     wr: &mut [u64],
     wm: &mut [u64],
 ) -> AlgebraData
-    requires { ⌜ (verdict (now list) ≡ Good) × Room (lent wk wi wn wr wm) 64 ⌝ }
+    requires { ⌜ (verdict (now list) ≡ Good) × Room (lent wk wi wn wr wm) sumEntries ⌝ }
     ensures { λ r. ⌜ DataAs r (lent (wk .exit) (wi .exit) (wn .exit) (wr .exit) (wm .exit)) (readNodes (parse (now (list .entry)))) ⌝ }
 {
-    let mut ak = [0u8; 1024];
-    let mut ai = [0u8; 1024];
-    let mut an = [0u64; 1024];
-    let mut ar = [0u64; 1024];
-    let mut am = [0u64; 1024];
-    let mut az = [0u8; 1024];
+    let mut ak = [0u8; STACK_ENTRIES];
+    let mut ai = [0u8; STACK_ENTRIES];
+    let mut an = [0u64; STACK_ENTRIES];
+    let mut ar = [0u64; STACK_ENTRIES];
+    let mut am = [0u64; STACK_ENTRIES];
+    let mut az = [0u8; STACK_ENTRIES];
     let env = begin_with_x(&mut ak, &mut ai, &mut an, &mut ar, &mut am, &mut az);
     let n = formats::record::count_records(list);
     let ran = walks::walk(
@@ -109,9 +112,9 @@ pub fn nodes_expr(
         &mut ar,
         &mut am,
         &mut az,
-        1024,
+        STACK_ENTRIES,
         env,
-        129,
+        LIST_LEVELS,
     );
     match ran {
         Ran::Stopped(q, at, b) => AlgebraData::Refused(q, at, b),

@@ -1,7 +1,8 @@
 // The square root, and the powers and logarithms whose base is E, 2 or 10. The operand lies in one book, the result is formed from
-// the first cell of another on, which has room for 64.
+// the first cell of another on, which has room for SUM_ENTRIES.
 use sums::Formed;
 ghost use Prim.Native.Nat.{_+_, _≤_, _<_};
+ghost use Rattle.limits.specs.Limits.{sumEntries, sumLevels};
 ghost use Rattle.cells.specs.Book.{lent, Room};
 ghost use Rattle.trees.specs.Sums.{Sum};
 ghost use Rattle.terms.specs.Power.{sqrt, exp, exp2, exp10, ln, log2, log10};
@@ -22,8 +23,8 @@ pub fn sqrt(
     wr: &mut [u64],
     wm: &mut [u64],
 ) -> Formed
-    requires { ⌜ (n ≤ 64) × Held (lent ak ai an ar am) i (i + n) 4 × Room (lent wk wi wn wr wm) 64 ⌝ }
-    ensures { λ r. ⌜ ((s : Sum) → Lies (lent (ak .entry) (ai .entry) (an .entry) (ar .entry) (am .entry)) i (i + n) 4 s → Agrees r (lent (wk .exit) (wi .exit) (wn .exit) (wr .exit) (wm .exit)) 0 (sqrt s)) ⌝ }
+    requires { ⌜ (n ≤ sumEntries) × Held (lent ak ai an ar am) i (i + n) sumLevels × Room (lent wk wi wn wr wm) sumEntries ⌝ }
+    ensures { λ r. ⌜ ((s : Sum) → Lies (lent (ak .entry) (ai .entry) (an .entry) (ar .entry) (am .entry)) i (i + n) sumLevels s → Agrees r (lent (wk .exit) (wi .exit) (wn .exit) (wr .exit) (wm .exit)) 0 (sqrt s)) ⌝ }
 {
     powers::power_by(0.5, ak, ai, an, ar, am, i, n, wk, wi, wn, wr, wm)
 }
@@ -43,8 +44,8 @@ pub fn exp(
     wr: &mut [u64],
     wm: &mut [u64],
 ) -> Formed
-    requires { ⌜ (n ≤ 64) × Held (lent ak ai an ar am) i (i + n) 4 × Room (lent wk wi wn wr wm) 64 ⌝ }
-    ensures { λ r. ⌜ ((s : Sum) → Lies (lent (ak .entry) (ai .entry) (an .entry) (ar .entry) (am .entry)) i (i + n) 4 s → Agrees r (lent (wk .exit) (wi .exit) (wn .exit) (wr .exit) (wm .exit)) 0 (exp s)) ⌝ }
+    requires { ⌜ (n ≤ sumEntries) × Held (lent ak ai an ar am) i (i + n) sumLevels × Room (lent wk wi wn wr wm) sumEntries ⌝ }
+    ensures { λ r. ⌜ ((s : Sum) → Lies (lent (ak .entry) (ai .entry) (an .entry) (ar .entry) (am .entry)) i (i + n) sumLevels s → Agrees r (lent (wk .exit) (wi .exit) (wn .exit) (wr .exit) (wm .exit)) 0 (exp s)) ⌝ }
 {
     powers::pow_of(numbers::e(), ak, ai, an, ar, am, i, n, wk, wi, wn, wr, wm)
 }
@@ -64,8 +65,8 @@ pub fn exp2(
     wr: &mut [u64],
     wm: &mut [u64],
 ) -> Formed
-    requires { ⌜ (n ≤ 64) × Held (lent ak ai an ar am) i (i + n) 4 × Room (lent wk wi wn wr wm) 64 ⌝ }
-    ensures { λ r. ⌜ ((s : Sum) → Lies (lent (ak .entry) (ai .entry) (an .entry) (ar .entry) (am .entry)) i (i + n) 4 s → Agrees r (lent (wk .exit) (wi .exit) (wn .exit) (wr .exit) (wm .exit)) 0 (exp2 s)) ⌝ }
+    requires { ⌜ (n ≤ sumEntries) × Held (lent ak ai an ar am) i (i + n) sumLevels × Room (lent wk wi wn wr wm) sumEntries ⌝ }
+    ensures { λ r. ⌜ ((s : Sum) → Lies (lent (ak .entry) (ai .entry) (an .entry) (ar .entry) (am .entry)) i (i + n) sumLevels s → Agrees r (lent (wk .exit) (wi .exit) (wn .exit) (wr .exit) (wm .exit)) 0 (exp2 s)) ⌝ }
 {
     powers::pow_of(2.0, ak, ai, an, ar, am, i, n, wk, wi, wn, wr, wm)
 }
@@ -85,8 +86,8 @@ pub fn exp10(
     wr: &mut [u64],
     wm: &mut [u64],
 ) -> Formed
-    requires { ⌜ (n ≤ 64) × Held (lent ak ai an ar am) i (i + n) 4 × Room (lent wk wi wn wr wm) 64 ⌝ }
-    ensures { λ r. ⌜ ((s : Sum) → Lies (lent (ak .entry) (ai .entry) (an .entry) (ar .entry) (am .entry)) i (i + n) 4 s → Agrees r (lent (wk .exit) (wi .exit) (wn .exit) (wr .exit) (wm .exit)) 0 (exp10 s)) ⌝ }
+    requires { ⌜ (n ≤ sumEntries) × Held (lent ak ai an ar am) i (i + n) sumLevels × Room (lent wk wi wn wr wm) sumEntries ⌝ }
+    ensures { λ r. ⌜ ((s : Sum) → Lies (lent (ak .entry) (ai .entry) (an .entry) (ar .entry) (am .entry)) i (i + n) sumLevels s → Agrees r (lent (wk .exit) (wi .exit) (wn .exit) (wr .exit) (wm .exit)) 0 (exp10 s)) ⌝ }
 {
     powers::pow_of(10.0, ak, ai, an, ar, am, i, n, wk, wi, wn, wr, wm)
 }
@@ -106,8 +107,8 @@ pub fn ln(
     wr: &mut [u64],
     wm: &mut [u64],
 ) -> Formed
-    requires { ⌜ (0 < n) × (n ≤ 64) × Held (lent ak ai an ar am) i (i + n) 4 × Room (lent wk wi wn wr wm) 64 ⌝ }
-    ensures { λ r. ⌜ ((s : Sum) → Lies (lent (ak .entry) (ai .entry) (an .entry) (ar .entry) (am .entry)) i (i + n) 4 s → Agrees r (lent (wk .exit) (wi .exit) (wn .exit) (wr .exit) (wm .exit)) 0 (ln s)) ⌝ }
+    requires { ⌜ (0 < n) × (n ≤ sumEntries) × Held (lent ak ai an ar am) i (i + n) sumLevels × Room (lent wk wi wn wr wm) sumEntries ⌝ }
+    ensures { λ r. ⌜ ((s : Sum) → Lies (lent (ak .entry) (ai .entry) (an .entry) (ar .entry) (am .entry)) i (i + n) sumLevels s → Agrees r (lent (wk .exit) (wi .exit) (wn .exit) (wr .exit) (wm .exit)) 0 (ln s)) ⌝ }
 {
     powers::log_of(numbers::e(), ak, ai, an, ar, am, i, n, wk, wi, wn, wr, wm)
 }
@@ -127,8 +128,8 @@ pub fn log2(
     wr: &mut [u64],
     wm: &mut [u64],
 ) -> Formed
-    requires { ⌜ (0 < n) × (n ≤ 64) × Held (lent ak ai an ar am) i (i + n) 4 × Room (lent wk wi wn wr wm) 64 ⌝ }
-    ensures { λ r. ⌜ ((s : Sum) → Lies (lent (ak .entry) (ai .entry) (an .entry) (ar .entry) (am .entry)) i (i + n) 4 s → Agrees r (lent (wk .exit) (wi .exit) (wn .exit) (wr .exit) (wm .exit)) 0 (log2 s)) ⌝ }
+    requires { ⌜ (0 < n) × (n ≤ sumEntries) × Held (lent ak ai an ar am) i (i + n) sumLevels × Room (lent wk wi wn wr wm) sumEntries ⌝ }
+    ensures { λ r. ⌜ ((s : Sum) → Lies (lent (ak .entry) (ai .entry) (an .entry) (ar .entry) (am .entry)) i (i + n) sumLevels s → Agrees r (lent (wk .exit) (wi .exit) (wn .exit) (wr .exit) (wm .exit)) 0 (log2 s)) ⌝ }
 {
     powers::log_of(2.0, ak, ai, an, ar, am, i, n, wk, wi, wn, wr, wm)
 }
@@ -148,8 +149,8 @@ pub fn log10(
     wr: &mut [u64],
     wm: &mut [u64],
 ) -> Formed
-    requires { ⌜ (0 < n) × (n ≤ 64) × Held (lent ak ai an ar am) i (i + n) 4 × Room (lent wk wi wn wr wm) 64 ⌝ }
-    ensures { λ r. ⌜ ((s : Sum) → Lies (lent (ak .entry) (ai .entry) (an .entry) (ar .entry) (am .entry)) i (i + n) 4 s → Agrees r (lent (wk .exit) (wi .exit) (wn .exit) (wr .exit) (wm .exit)) 0 (log10 s)) ⌝ }
+    requires { ⌜ (0 < n) × (n ≤ sumEntries) × Held (lent ak ai an ar am) i (i + n) sumLevels × Room (lent wk wi wn wr wm) sumEntries ⌝ }
+    ensures { λ r. ⌜ ((s : Sum) → Lies (lent (ak .entry) (ai .entry) (an .entry) (ar .entry) (am .entry)) i (i + n) sumLevels s → Agrees r (lent (wk .exit) (wi .exit) (wn .exit) (wr .exit) (wm .exit)) 0 (log10 s)) ⌝ }
 {
     powers::log_of(10.0, ak, ai, an, ar, am, i, n, wk, wi, wn, wr, wm)
 }

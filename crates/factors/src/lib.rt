@@ -1,10 +1,12 @@
 // Whether two sums have a product, and the products of their terms: three stretches of one book, two operands and a result, apart from each other.
 use cells::Entry;
 use complex::Complex;
+use limits::SUM_ENTRIES;
 use sums::Formed;
 use trees::Merge;
 ghost use mathlib.Core.Path.{_≡_};
-ghost use Prim.Native.Nat.{_+_, _-_, _≤_, _<_};
+ghost use Prim.Native.Nat.{_+_, _-_, _*_, _≤_, _<_};
+ghost use Rattle.limits.specs.Limits.{sumEntries, sumLevels};
 ghost use Rattle.numbers.specs.Signs.{zero64};
 ghost use Rattle.cells.specs.Book.{lent, Room};
 ghost use Rattle.cells.specs.Contract.Moves.{Kept};
@@ -95,7 +97,10 @@ pub fn can_mul(
     true
 }
 
-// Copies the a cells from i on to 0, and the b from j on to 64.
+// Where a product is formed: behind both operands, which lie at 0 and at SUM_ENTRIES.
+pub const BEHIND_BOTH: usize = 2 * SUM_ENTRIES;
+
+// Copies the a cells from i on to 0, and the b from j on to SUM_ENTRIES.
 fn side_by_side(
     wk: &[u8],
     wi: &[u8],
@@ -112,11 +117,11 @@ fn side_by_side(
     tr: &mut [u64],
     tm: &mut [u64],
 )
-    requires { ⌜ (a ≤ 64) × (b ≤ 64) × Room (lent wk wi wn wr wm) (i + a) × Room (lent wk wi wn wr wm) (j + b) × Room (lent tk ti tn tr tm) 192 ⌝ }
+    requires { ⌜ (a ≤ sumEntries) × (b ≤ sumEntries) × Room (lent wk wi wn wr wm) (i + a) × Room (lent wk wi wn wr wm) (j + b) × Room (lent tk ti tn tr tm) (3 * sumEntries) ⌝ }
     ensures { λ _. ⌜ Beside (lent (wk .entry) (wi .entry) (wn .entry) (wr .entry) (wm .entry)) (lent (tk .exit) (ti .exit) (tn .exit) (tr .exit) (tm .exit)) i a j b ⌝ }
 {
     gaps::copy_in(wk, wi, wn, wr, wm, i, a, tk, ti, tn, tr, tm, 0);
-    gaps::copy_in(wk, wi, wn, wr, wm, j, b, tk, ti, tn, tr, tm, 64);
+    gaps::copy_in(wk, wi, wn, wr, wm, j, b, tk, ti, tn, tr, tm, SUM_ENTRIES);
 }
 
 // Two Div terms, whose insides are the a cells from i on and the b from j on: the product of the insides is formed in arrays of
@@ -138,14 +143,14 @@ fn div_mul(
 ) -> Formed
     requires { ⌜ (0 < a) × (0 < b) × Sums (lent wk wi wn wr wm) i a j b p left ⌝ }
     requires { ⌜ Result (lent wk wi wn wr wm) p n ⌝ }
-    ensures { λ r. ⌜ Kept (lent (wk .entry) (wi .entry) (wn .entry) (wr .entry) (wm .entry)) (lent (wk .exit) (wi .exit) (wn .exit) (wr .exit) (wm .exit)) p (p + 64) ⌝ }
-    ensures { λ r. ⌜ ((t v s : Sum) → Lies (lent (wk .entry) (wi .entry) (wn .entry) (wr .entry) (wm .entry)) i (i + a) left t → Lies (lent (wk .entry) (wi .entry) (wn .entry) (wr .entry) (wm .entry)) j (j + b) left v → Lies (lent (wk .entry) (wi .entry) (wn .entry) (wr .entry) (wm .entry)) p (p + n) 4 s → Agrees r (lent (wk .exit) (wi .exit) (wn .exit) (wr .exit) (wm .exit)) p (andThenSum (mulInto t v none) (λ w. formed Add (entry Div (size w) zero64 coef) w s))) ⌝ }
+    ensures { λ r. ⌜ Kept (lent (wk .entry) (wi .entry) (wn .entry) (wr .entry) (wm .entry)) (lent (wk .exit) (wi .exit) (wn .exit) (wr .exit) (wm .exit)) p (p + sumEntries) ⌝ }
+    ensures { λ r. ⌜ ((t v s : Sum) → Lies (lent (wk .entry) (wi .entry) (wn .entry) (wr .entry) (wm .entry)) i (i + a) left t → Lies (lent (wk .entry) (wi .entry) (wn .entry) (wr .entry) (wm .entry)) j (j + b) left v → Lies (lent (wk .entry) (wi .entry) (wn .entry) (wr .entry) (wm .entry)) p (p + n) sumLevels s → Agrees r (lent (wk .exit) (wi .exit) (wn .exit) (wr .exit) (wm .exit)) p (andThenSum (mulInto t v none) (λ w. formed Add (entry Div (size w) zero64 coef) w s))) ⌝ }
 {
-    let mut tk = [0u8; 192];
-    let mut ti = [0u8; 192];
-    let mut tn = [0u64; 192];
-    let mut tr = [0u64; 192];
-    let mut tm = [0u64; 192];
+    let mut tk = [0u8; 3 * SUM_ENTRIES];
+    let mut ti = [0u8; 3 * SUM_ENTRIES];
+    let mut tn = [0u64; 3 * SUM_ENTRIES];
+    let mut tr = [0u64; 3 * SUM_ENTRIES];
+    let mut tm = [0u64; 3 * SUM_ENTRIES];
     side_by_side(
         wk,
         wi,
@@ -165,14 +170,14 @@ fn div_mul(
     match expr_mul(
         0,
         a,
-        64,
+        SUM_ENTRIES,
         b,
         &mut tk,
         &mut ti,
         &mut tn,
         &mut tr,
         &mut tm,
-        128,
+        BEHIND_BOTH,
         left,
     ) {
         Formed::Done(k) => {
@@ -190,7 +195,7 @@ fn div_mul(
                 &tn,
                 &tr,
                 &tm,
-                128,
+                BEHIND_BOTH,
                 wk,
                 wi,
                 wn,
@@ -221,8 +226,8 @@ fn term_mul(
 ) -> Formed
     requires { ⌜ Pair (lent wk wi wn wr wm) x i y j p left ⌝ }
     requires { ⌜ Result (lent wk wi wn wr wm) p n ⌝ }
-    ensures { λ r. ⌜ Kept (lent (wk .entry) (wi .entry) (wn .entry) (wr .entry) (wm .entry)) (lent (wk .exit) (wi .exit) (wn .exit) (wr .exit) (wm .exit)) p (p + 64) ⌝ }
-    ensures { λ r. ⌜ ((t v s : Sum) → Lies (lent (wk .entry) (wi .entry) (wn .entry) (wr .entry) (wm .entry)) i (i + x .inside) left t → Lies (lent (wk .entry) (wi .entry) (wn .entry) (wr .entry) (wm .entry)) j (j + y .inside) left v → Lies (lent (wk .entry) (wi .entry) (wn .entry) (wr .entry) (wm .entry)) p (p + n) 4 s → Agrees r (lent (wk .exit) (wi .exit) (wn .exit) (wr .exit) (wm .exit)) p (mulTerm x (λ u. mulInto t u none) y v s)) ⌝ }
+    ensures { λ r. ⌜ Kept (lent (wk .entry) (wi .entry) (wn .entry) (wr .entry) (wm .entry)) (lent (wk .exit) (wi .exit) (wn .exit) (wr .exit) (wm .exit)) p (p + sumEntries) ⌝ }
+    ensures { λ r. ⌜ ((t v s : Sum) → Lies (lent (wk .entry) (wi .entry) (wn .entry) (wr .entry) (wm .entry)) i (i + x .inside) left t → Lies (lent (wk .entry) (wi .entry) (wn .entry) (wr .entry) (wm .entry)) j (j + y .inside) left v → Lies (lent (wk .entry) (wi .entry) (wn .entry) (wr .entry) (wm .entry)) p (p + n) sumLevels s → Agrees r (lent (wk .exit) (wi .exit) (wn .exit) (wr .exit) (wm .exit)) p (mulTerm x (λ u. mulInto t u none) y v s)) ⌝ }
 {
     let code = terms::product_code(x.kind, y.kind);
     let c = x.coef.mul(y.coef);
@@ -287,8 +292,8 @@ fn mul_row(
 ) -> Formed
     requires { ⌜ Row (lent wk wi wn wr wm) x i j m p left ⌝ }
     requires { ⌜ Result (lent wk wi wn wr wm) p n ⌝ }
-    ensures { λ r. ⌜ Kept (lent (wk .entry) (wi .entry) (wn .entry) (wr .entry) (wm .entry)) (lent (wk .exit) (wi .exit) (wn .exit) (wr .exit) (wm .exit)) p (p + 64) ⌝ }
-    ensures { λ r. ⌜ ((t v s : Sum) → Lies (lent (wk .entry) (wi .entry) (wn .entry) (wr .entry) (wm .entry)) i (i + x .inside) (left - 1) t → Lies (lent (wk .entry) (wi .entry) (wn .entry) (wr .entry) (wm .entry)) j (j + m) left v → Lies (lent (wk .entry) (wi .entry) (wn .entry) (wr .entry) (wm .entry)) p (p + n) 4 s → Agrees r (lent (wk .exit) (wi .exit) (wn .exit) (wr .exit) (wm .exit)) p (eachInto (mulTerm x (λ u. mulInto t u none)) s v)) ⌝ }
+    ensures { λ r. ⌜ Kept (lent (wk .entry) (wi .entry) (wn .entry) (wr .entry) (wm .entry)) (lent (wk .exit) (wi .exit) (wn .exit) (wr .exit) (wm .exit)) p (p + sumEntries) ⌝ }
+    ensures { λ r. ⌜ ((t v s : Sum) → Lies (lent (wk .entry) (wi .entry) (wn .entry) (wr .entry) (wm .entry)) i (i + x .inside) (left - 1) t → Lies (lent (wk .entry) (wi .entry) (wn .entry) (wr .entry) (wm .entry)) j (j + m) left v → Lies (lent (wk .entry) (wi .entry) (wn .entry) (wr .entry) (wm .entry)) p (p + n) sumLevels s → Agrees r (lent (wk .exit) (wi .exit) (wn .exit) (wr .exit) (wm .exit)) p (eachInto (mulTerm x (λ u. mulInto t u none)) s v)) ⌝ }
 {
     let end = j + m;
     let mut q = j;
@@ -304,7 +309,7 @@ fn mul_row(
     Formed::Done(len)
 }
 
-// The products of the terms of the sum of n cells from i on with those of the m from j on, formed from p on, where there is room for 64.
+// The products of the terms of the sum of n cells from i on with those of the m from j on, formed from p on, where there is room for SUM_ENTRIES.
 pub fn expr_mul(
     i: usize,
     n: usize,
@@ -319,8 +324,8 @@ pub fn expr_mul(
     left: usize,
 ) -> Formed
     requires { ⌜ Sums (lent wk wi wn wr wm) i n j m p left ⌝ }
-    requires { ⌜ Room (lent wk wi wn wr wm) (p + 64) ⌝ }
-    ensures { λ r. ⌜ Kept (lent (wk .entry) (wi .entry) (wn .entry) (wr .entry) (wm .entry)) (lent (wk .exit) (wi .exit) (wn .exit) (wr .exit) (wm .exit)) p (p + 64) ⌝ }
+    requires { ⌜ Room (lent wk wi wn wr wm) (p + sumEntries) ⌝ }
+    ensures { λ r. ⌜ Kept (lent (wk .entry) (wi .entry) (wn .entry) (wr .entry) (wm .entry)) (lent (wk .exit) (wi .exit) (wn .exit) (wr .exit) (wm .exit)) p (p + sumEntries) ⌝ }
     ensures { λ r. ⌜ ((s t : Sum) → Lies (lent (wk .entry) (wi .entry) (wn .entry) (wr .entry) (wm .entry)) i (i + n) left s → Lies (lent (wk .entry) (wi .entry) (wn .entry) (wr .entry) (wm .entry)) j (j + m) left t → Agrees r (lent (wk .exit) (wi .exit) (wn .exit) (wr .exit) (wm .exit)) p (mulInto s t none)) ⌝ }
 {
     let end = i + n;

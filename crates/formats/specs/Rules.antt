@@ -1,4 +1,4 @@
--- Which trees of records are well-formed, and the verdict on a list of bytes: 11 where a rule is broken, then 13 where a node stands inside more than 128 others.
+-- Which trees of records are well-formed, and the verdict on a list of bytes: 11 where a rule is broken, then 13 where more than listLevels of them lie one inside the other.
 use mathlib.Core.Path.{_≡_}
 use mathlib.Core.Bool.{Bool, true, false, _&&_, _||_, Bool·beq, cond}
 use mathlib.Core.Logic.{_↔_}
@@ -6,8 +6,9 @@ use mathlib.Core.List.{List, [], _∷_}
 use Prim.Native.Nat.{ℕ, _/_, _%_, _≤_, _<_}
 use lib.ListN.{length}
 use lib.Dec.{leb, eqb}
+use Rattle.limits.specs.Limits.{listRecords, listLevels, recordBytes}
 use Rattle.formats.specs.Names.{kindNo, kindOf}
-use Rattle.formats.specs.Tree.{Nodes, end, rec, size, height, parse, encode}
+use Rattle.formats.specs.Tree.{Nodes, end, rec, size, height, parse, encode, recordsIn}
 use Rattle.formats.specs.declared.record.Record.{Record}
 use Rattle.formats.specs.declared.record.Kind.{Kind}
 use Rattle.formats.specs.declared.record.Kind.the-variants.{RealPush, ComplexPush, Primitive, Modifier, Body, Run, CustomInverse}
@@ -73,7 +74,7 @@ AllFields (rec r ns ms) = Fields r × AllFields ns × AllFields ms
 pub record WellFormed (t : Nodes) : Type 0 where
   pub fields : AllFields t
   pub ok : okNodes false t ≡ true
-  pub few : size t ≤ 2048
+  pub few : size t ≤ listRecords
 
 -- ---- the verdict
 
@@ -81,16 +82,16 @@ pub record WellFormed (t : Nodes) : Type 0 where
 unfoldable pub shapeOf : Bool → Nodes → Shape
 shapeOf b t = cond (okNodes b t) (Tall (height t)) Bad
 
--- a node inside 128 others makes a height of 129
+-- more than listLevels records one inside the other are 13
 abbrev pub judge : Shape → Verdict
 judge Bad = Refused BadRecord
-judge (Tall h) = cond (leb h 129) Good (Refused TooDeep)
+judge (Tall h) = cond (leb h listLevels) Good (Refused TooDeep)
 
 unfoldable pub verdict : List ℕ → Verdict
-verdict s = cond (eqb (length s % 24) 0 && leb (length s / 24) 2048) (judge (shapeOf false (parse s))) (Refused BadRecord)
+verdict s = cond (eqb (length s % recordBytes) 0 && leb (recordsIn s) listRecords) (judge (shapeOf false (parse s))) (Refused BadRecord)
 
 -- what a verdict says of a list of bytes, in the words of the trees
 pub record Judged (s : List ℕ) (v : Verdict) : Type 0 where
-  pub good : (v ≡ Good) ↔ ((t : Nodes) × (encode t ≡ s) × WellFormed t × (height t ≤ 129))
-  pub deep : (v ≡ Refused TooDeep) ↔ ((t : Nodes) × (encode t ≡ s) × WellFormed t × (129 < height t))
+  pub good : (v ≡ Good) ↔ ((t : Nodes) × (encode t ≡ s) × WellFormed t × (height t ≤ listLevels))
+  pub deep : (v ≡ Refused TooDeep) ↔ ((t : Nodes) × (encode t ≡ s) × WellFormed t × (listLevels < height t))
   pub bad : (v ≡ Refused BadRecord) ↔ ((t : Nodes) → encode t ≡ s → WellFormed t → ⊥)

@@ -7,6 +7,7 @@ use Prim.Native.Nat.{ℕ, zero, suc, _+_, _-_, _*_, _/_, min, max}
 use lib.ListN.{length, getD, drop}
 use lib.Dec.{ltb}
 use lib.Seq.{sets}
+use Rattle.limits.specs.Limits.{recordBytes}
 use Rattle.formats.specs.Bytes.{number, bytes}
 use Rattle.formats.specs.declared.record.Record.{Record}
 
@@ -56,7 +57,7 @@ recOf b =
 
 -- the record at place i
 abbrev pub recAt : List ℕ → ℕ → Record
-recAt s i = recOf (drop (24 * i) s)
+recAt s i = recOf (drop (recordBytes * i) s)
 
 -- where what is inside the record at a ends
 abbrev pub nextOf : List ℕ → ℕ → ℕ
@@ -76,12 +77,12 @@ forest s a e = grow s (e - a) a e
 
 -- how many whole records a list of bytes has
 abbrev pub recordsIn : List ℕ → ℕ
-recordsIn s = length s / 24
+recordsIn s = length s / recordBytes
 
 unfoldable pub parse : List ℕ → Nodes
 parse s = forest s 0 (recordsIn s)
 
--- the record r is stored at place i of s, in its 24 bytes and no others, and is read there
+-- the record r is stored at place i of s, in its bytes and no others, and is read there
 pub record Written (s s′ : List ℕ) (i : ℕ) (r : Record) : Type 0 where
-  pub stored : s′ ≡ sets s (24 * i) (encodeRec r)
+  pub stored : s′ ≡ sets s (recordBytes * i) (encodeRec r)
   pub back : recAt s′ i ≡ r

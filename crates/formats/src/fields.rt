@@ -4,6 +4,7 @@ use crate::record::KindFound;
 use crate::record::Record;
 ghost use mathlib.Core.Path.{_≡_};
 ghost use Prim.Native.Nat.{_≤_, _<_};
+ghost use Rattle.limits.specs.Limits.{listRecords};
 ghost use Rattle.formats.specs.Names.{kindOf};
 ghost use Rattle.formats.specs.Rules.{fieldsOk, isKnown};
 ghost use Rattle.formats.specs.Contract.Measure.{mayStand};
@@ -41,7 +42,7 @@ pub fn fields_ok(r: Record) -> bool
 
 // Whether the record at `at` may stand in a stretch that ends at `to`, of bodies or of others.
 pub fn may_stand(r: Record, at: usize, to: usize, bodies: bool) -> bool
-    requires { ⌜ (at < to) × (to ≤ 2048) × (r .inside < 4294967296) ⌝ }
+    requires { ⌜ (at < to) × (to ≤ listRecords) × (r .inside < 4294967296) ⌝ }
     ensures { λ b. ⌜ b ≡ mayStand r at to bodies ⌝ }
 {
     let next = at + 1 + r.inside as usize;

@@ -1,10 +1,12 @@
-// Lists of node records, 24 bytes each, numbers with the lowest byte first: their names, reading and writing them, and the laws of the rules that a list keeps.
+// Lists of node records, RECORD_BYTES each, numbers with the lowest byte first: their names, reading and writing them, and the laws of the rules that a list keeps.
+use limits::RECORD_BYTES;
 use limits::Refusal;
 ghost use mathlib.Core.Path.{_≡_};
 ghost use Prim.Native.Nat.{_+_, _*_, _%_, _≤_, _<_};
 ghost use lib.Dec.{eqb};
 ghost use lib.ListN.{length};
 ghost use lib.Seq.{sets};
+ghost use Rattle.limits.specs.Limits.{recordBytes};
 ghost use Rattle.formats.specs.Names.{kindNo, kindOf, primitiveNo, primitiveOf, modifierNo, modifierOf};
 ghost use Rattle.formats.specs.Bytes.{number, bytes};
 ghost use Rattle.formats.specs.Tree.{recAt, recordsIn, count, forest, Written};
@@ -303,15 +305,15 @@ pub fn put_eight(out: &mut [u8], at: usize, v: u64)
 pub fn count_records(list: &[u8]) -> usize
     ensures { λ r. ⌜ r ≡ recordsIn (now (list .entry)) ⌝ }
 {
-    list.len() / 24
+    list.len() / RECORD_BYTES
 }
 
 // The record at place `i`.
 pub fn record_at(list: &[u8], i: usize) -> Record
-    requires { ⌜ 24 * i + 24 ≤ length (now list) ⌝ }
+    requires { ⌜ recordBytes * i + recordBytes ≤ length (now list) ⌝ }
     ensures { λ r. ⌜ (r ≡ recAt (now (list .entry)) i) × (r .inside < 4294967296) ⌝ }
 {
-    let at = 24 * i;
+    let at = RECORD_BYTES * i;
     let inside = four(list, at + 4);
     let re = eight(list, at + 8);
     let im = eight(list, at + 16);
@@ -328,10 +330,10 @@ pub fn record_at(list: &[u8], i: usize) -> Record
 
 // Writes the record at place `i`.
 pub fn put_record(out: &mut [u8], i: usize, r: Record)
-    requires { ⌜ 24 * i + 24 ≤ length (now out) ⌝ }
+    requires { ⌜ recordBytes * i + recordBytes ≤ length (now out) ⌝ }
     ensures { λ _. ⌜ Written (now (out .entry)) (now (out .exit)) i r ⌝ }
 {
-    let at = 24 * i;
+    let at = RECORD_BYTES * i;
     out[at] = r.kind;
     out[at + 1] = r.code;
     out[at + 2] = r.args;

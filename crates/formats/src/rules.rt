@@ -2,11 +2,15 @@
 use crate::record::Kind;
 use crate::record::Shape;
 use crate::record::Verdict;
+use limits::LIST_LEVELS;
+use limits::LIST_RECORDS;
+use limits::RECORD_BYTES;
 use limits::Refusal;
 ghost use mathlib.Core.Path.{_≡_};
 ghost use mathlib.Core.Bool.{false};
 ghost use Prim.Native.Nat.{_*_, _≤_, max};
 ghost use lib.ListN.{length};
+ghost use Rattle.limits.specs.Limits.{listRecords, recordBytes};
 ghost use Rattle.formats.specs.Tree.{forest};
 ghost use Rattle.formats.specs.Rules.{shapeOf, verdict, Judged};
 ghost use Rattle.formats.specs.Contract.Measure.{Measured};
@@ -19,7 +23,7 @@ fn larger(a: usize, b: usize) -> usize
 
 // The shape of the records from `from` up to `to`, where the height of what lies inside each is known.
 fn stretch_shape(list: &[u8], heights: &[usize], from: usize, to: usize, bodies: bool) -> Shape
-    requires { ⌜ (from ≤ to) × (24 * to ≤ length (now list)) × (to ≤ 2048) × (to ≤ length (now heights)) ⌝ }
+    requires { ⌜ (from ≤ to) × (recordBytes * to ≤ length (now list)) × (to ≤ listRecords) × (to ≤ length (now heights)) ⌝ }
     requires { ⌜ Measured (now list) (now heights) from to ⌝ }
     ensures { λ r. ⌜ r ≡ shapeOf bodies (forest (now (list .entry)) from to) ⌝ }
 {
@@ -40,7 +44,7 @@ fn stretch_shape(list: &[u8], heights: &[usize], from: usize, to: usize, bodies:
 // Once a height is known no record in that stretch reaches past its end, so each record is met in one stretch only, and is
 // read at most twice.
 fn shape_in(list: &[u8], n: usize, heights: &mut [usize]) -> Shape
-    requires { ⌜ (24 * n ≤ length (now list)) × (n ≤ 2048) × (n ≤ length (now heights)) ⌝ }
+    requires { ⌜ (recordBytes * n ≤ length (now list)) × (n ≤ listRecords) × (n ≤ length (now heights)) ⌝ }
     ensures { λ r. ⌜ r ≡ shapeOf false (forest (now (list .entry)) 0 n) ⌝ }
 {
     let mut i = n;
@@ -66,33 +70,36 @@ fn shape_in(list: &[u8], n: usize, heights: &mut [usize]) -> Shape
     stretch_shape(list, heights, 0, n, false)
 }
 
-// The shape of the first `n` records. A short list has room for few heights, since clearing room for all costs more than the rest.
+// A list this short has room for few heights, since clearing room for all costs more than the rest.
+const FEW_RECORDS: usize = 64;
+
+// The shape of the first `n` records.
 fn shape_of(list: &[u8], n: usize) -> Shape
-    requires { ⌜ (24 * n ≤ length (now list)) × (n ≤ 2048) ⌝ }
+    requires { ⌜ (recordBytes * n ≤ length (now list)) × (n ≤ listRecords) ⌝ }
     ensures { λ r. ⌜ r ≡ shapeOf false (forest (now (list .entry)) 0 n) ⌝ }
 {
-    if n <= 64 {
-        let mut few = [0usize; 64];
+    if n <= FEW_RECORDS {
+        let mut few = [0usize; FEW_RECORDS];
         return shape_in(list, n, &mut few);
     }
-    let mut heights = [0usize; 2048];
+    let mut heights = [0usize; LIST_RECORDS];
     shape_in(list, n, &mut heights)
 }
 
 fn judged(list: &[u8]) -> Verdict
     ensures { λ r. ⌜ r ≡ verdict (now (list .entry)) ⌝ }
 {
-    let n = list.len() / 24;
-    if list.len() % 24 != 0 {
+    let n = list.len() / RECORD_BYTES;
+    if list.len() % RECORD_BYTES != 0 {
         return Verdict::Refused(Refusal::BadRecord);
     }
-    if 2048 < n {
+    if LIST_RECORDS < n {
         return Verdict::Refused(Refusal::BadRecord);
     }
     let Shape::Tall(h) = shape_of(list, n) else {
         return Verdict::Refused(Refusal::BadRecord);
     };
-    if h <= 129 {
+    if h <= LIST_LEVELS {
         Verdict::Good
     } else {
         Verdict::Refused(Refusal::TooDeep)

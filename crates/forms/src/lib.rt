@@ -1,9 +1,11 @@
 // The parts of what a primitive forms of the one or two sums that it takes: the sum as it is, negated, or inside a term, and the product of
-// two. Operands lie in one book, the result is formed from the first cell of another on, which has room for 64.
+// two. Operands lie in one book, the result is formed from the first cell of another on, which has room for SUM_ENTRIES.
 use cells::Entry;
 use complex::Complex;
+use limits::SUM_ENTRIES;
 use sums::Formed;
-ghost use Prim.Native.Nat.{_+_, _≤_};
+ghost use Prim.Native.Nat.{_+_, _*_, _≤_};
+ghost use Rattle.limits.specs.Limits.{sumEntries, sumLevels};
 ghost use Rattle.numbers.specs.Signs.{zero64};
 ghost use Rattle.complex.specs.Arith.{one};
 ghost use Rattle.cells.specs.Book.{lent, Room};
@@ -29,8 +31,8 @@ pub fn copied(
     wr: &mut [u64],
     wm: &mut [u64],
 ) -> Formed
-    requires { ⌜ (1 ≤ n) × (n ≤ 64) × Held (lent ak ai an ar am) i (i + n) 4 × Room (lent wk wi wn wr wm) 64 ⌝ }
-    ensures { λ r. ⌜ ((s : Sum) → Lies (lent (ak .entry) (ai .entry) (an .entry) (ar .entry) (am .entry)) i (i + n) 4 s → Agrees r (lent (wk .exit) (wi .exit) (wn .exit) (wr .exit) (wm .exit)) 0 (sum s)) ⌝ }
+    requires { ⌜ (1 ≤ n) × (n ≤ sumEntries) × Held (lent ak ai an ar am) i (i + n) sumLevels × Room (lent wk wi wn wr wm) sumEntries ⌝ }
+    ensures { λ r. ⌜ ((s : Sum) → Lies (lent (ak .entry) (ai .entry) (an .entry) (ar .entry) (am .entry)) i (i + n) sumLevels s → Agrees r (lent (wk .exit) (wi .exit) (wn .exit) (wr .exit) (wm .exit)) 0 (sum s)) ⌝ }
 {
     gaps::copy_in(ak, ai, an, ar, am, i, n, wk, wi, wn, wr, wm, 0);
     Formed::Done(n)
@@ -51,8 +53,8 @@ pub fn negated(
     wr: &mut [u64],
     wm: &mut [u64],
 ) -> Formed
-    requires { ⌜ (1 ≤ n) × (n ≤ 64) × Held (lent ak ai an ar am) i (i + n) 4 × Room (lent wk wi wn wr wm) 64 ⌝ }
-    ensures { λ r. ⌜ ((s : Sum) → Lies (lent (ak .entry) (ai .entry) (an .entry) (ar .entry) (am .entry)) i (i + n) 4 s → Agrees r (lent (wk .exit) (wi .exit) (wn .exit) (wr .exit) (wm .exit)) 0 (sum (negSum s))) ⌝ }
+    requires { ⌜ (1 ≤ n) × (n ≤ sumEntries) × Held (lent ak ai an ar am) i (i + n) sumLevels × Room (lent wk wi wn wr wm) sumEntries ⌝ }
+    ensures { λ r. ⌜ ((s : Sum) → Lies (lent (ak .entry) (ai .entry) (an .entry) (ar .entry) (am .entry)) i (i + n) sumLevels s → Agrees r (lent (wk .exit) (wi .exit) (wn .exit) (wr .exit) (wm .exit)) 0 (sum (negSum s))) ⌝ }
 {
     adds::expr_neg(ak, ai, an, ar, am, i, n, wk, wi, wn, wr, wm);
     Formed::Done(n)
@@ -74,8 +76,8 @@ pub fn over(
     wr: &mut [u64],
     wm: &mut [u64],
 ) -> Formed
-    requires { ⌜ (4 ≤ kind) × (kind ≤ 8) × (1 ≤ n) × (n ≤ 64) × Held (lent ak ai an ar am) i (i + n) 4 × Room (lent wk wi wn wr wm) 64 ⌝ }
-    ensures { λ r. ⌜ ((s : Sum) → Lies (lent (ak .entry) (ai .entry) (an .entry) (ar .entry) (am .entry)) i (i + n) 4 s → Agrees r (lent (wk .exit) (wi .exit) (wn .exit) (wr .exit) (wm .exit)) 0 (alone kind zero64 s one)) ⌝ }
+    requires { ⌜ (4 ≤ kind) × (kind ≤ 8) × (1 ≤ n) × (n ≤ sumEntries) × Held (lent ak ai an ar am) i (i + n) sumLevels × Room (lent wk wi wn wr wm) sumEntries ⌝ }
+    ensures { λ r. ⌜ ((s : Sum) → Lies (lent (ak .entry) (ai .entry) (an .entry) (ar .entry) (am .entry)) i (i + n) sumLevels s → Agrees r (lent (wk .exit) (wi .exit) (wn .exit) (wr .exit) (wm .exit)) 0 (alone kind zero64 s one)) ⌝ }
 {
     let x = Entry {
         kind: kind,
@@ -103,11 +105,11 @@ fn side_by_side(
     tr: &mut [u64],
     tm: &mut [u64],
 )
-    requires { ⌜ (n ≤ 64) × (m ≤ 64) × Held (lent ak ai an ar am) i (i + n) 4 × Held (lent ak ai an ar am) j (j + m) 4 × Room (lent tk ti tn tr tm) 192 ⌝ }
-    ensures { λ _. ⌜ ((s : Sum) → Lies (lent (ak .entry) (ai .entry) (an .entry) (ar .entry) (am .entry)) i (i + n) 4 s → Lies (lent (tk .exit) (ti .exit) (tn .exit) (tr .exit) (tm .exit)) 0 (0 + n) 4 s) × ((s : Sum) → Lies (lent (ak .entry) (ai .entry) (an .entry) (ar .entry) (am .entry)) j (j + m) 4 s → Lies (lent (tk .exit) (ti .exit) (tn .exit) (tr .exit) (tm .exit)) 64 (64 + m) 4 s) × Room (lent (tk .exit) (ti .exit) (tn .exit) (tr .exit) (tm .exit)) 192 ⌝ }
+    requires { ⌜ (n ≤ sumEntries) × (m ≤ sumEntries) × Held (lent ak ai an ar am) i (i + n) sumLevels × Held (lent ak ai an ar am) j (j + m) sumLevels × Room (lent tk ti tn tr tm) (3 * sumEntries) ⌝ }
+    ensures { λ _. ⌜ ((s : Sum) → Lies (lent (ak .entry) (ai .entry) (an .entry) (ar .entry) (am .entry)) i (i + n) sumLevels s → Lies (lent (tk .exit) (ti .exit) (tn .exit) (tr .exit) (tm .exit)) 0 (0 + n) sumLevels s) × ((s : Sum) → Lies (lent (ak .entry) (ai .entry) (an .entry) (ar .entry) (am .entry)) j (j + m) sumLevels s → Lies (lent (tk .exit) (ti .exit) (tn .exit) (tr .exit) (tm .exit)) sumEntries (sumEntries + m) sumLevels s) × Room (lent (tk .exit) (ti .exit) (tn .exit) (tr .exit) (tm .exit)) (3 * sumEntries) ⌝ }
 {
     gaps::copy_in(ak, ai, an, ar, am, i, n, tk, ti, tn, tr, tm, 0);
-    gaps::copy_in(ak, ai, an, ar, am, j, m, tk, ti, tn, tr, tm, 64);
+    gaps::copy_in(ak, ai, an, ar, am, j, m, tk, ti, tn, tr, tm, SUM_ENTRIES);
 }
 
 // The product of the sum of n cells from i on and that of m cells from j on, formed behind copies of both.
@@ -127,14 +129,15 @@ pub fn multiplied(
     wr: &mut [u64],
     wm: &mut [u64],
 ) -> Formed
-    requires { ⌜ (1 ≤ n) × (n ≤ 64) × (1 ≤ m) × (m ≤ 64) × Held (lent ak ai an ar am) i (i + n) 4 × Held (lent ak ai an ar am) j (j + m) 4 × Room (lent wk wi wn wr wm) 64 ⌝ }
-    ensures { λ r. ⌜ ((b a : Sum) → Lies (lent (ak .entry) (ai .entry) (an .entry) (ar .entry) (am .entry)) i (i + n) 4 b → Lies (lent (ak .entry) (ai .entry) (an .entry) (ar .entry) (am .entry)) j (j + m) 4 a → Agrees r (lent (wk .exit) (wi .exit) (wn .exit) (wr .exit) (wm .exit)) 0 (product b a)) ⌝ }
+    requires { ⌜ (1 ≤ n) × (n ≤ sumEntries) × (1 ≤ m) × (m ≤ sumEntries) × Held (lent ak ai an ar am) i (i + n) sumLevels
+        × Held (lent ak ai an ar am) j (j + m) sumLevels × Room (lent wk wi wn wr wm) sumEntries ⌝ }
+    ensures { λ r. ⌜ ((b a : Sum) → Lies (lent (ak .entry) (ai .entry) (an .entry) (ar .entry) (am .entry)) i (i + n) sumLevels b → Lies (lent (ak .entry) (ai .entry) (an .entry) (ar .entry) (am .entry)) j (j + m) sumLevels a → Agrees r (lent (wk .exit) (wi .exit) (wn .exit) (wr .exit) (wm .exit)) 0 (product b a)) ⌝ }
 {
-    let mut tk = [0u8; 192];
-    let mut ti = [0u8; 192];
-    let mut tn = [0u64; 192];
-    let mut tr = [0u64; 192];
-    let mut tm = [0u64; 192];
+    let mut tk = [0u8; 3 * SUM_ENTRIES];
+    let mut ti = [0u8; 3 * SUM_ENTRIES];
+    let mut tn = [0u64; 3 * SUM_ENTRIES];
+    let mut tr = [0u64; 3 * SUM_ENTRIES];
+    let mut tm = [0u64; 3 * SUM_ENTRIES];
     side_by_side(
         ak,
         ai,
@@ -154,17 +157,31 @@ pub fn multiplied(
     match products::mul(
         0,
         n,
-        64,
+        SUM_ENTRIES,
         m,
         &mut tk,
         &mut ti,
         &mut tn,
         &mut tr,
         &mut tm,
-        128,
+        factors::BEHIND_BOTH,
     ) {
         Formed::Done(k) => {
-            gaps::copy_in(&tk, &ti, &tn, &tr, &tm, 128, k, wk, wi, wn, wr, wm, 0);
+            gaps::copy_in(
+                &tk,
+                &ti,
+                &tn,
+                &tr,
+                &tm,
+                factors::BEHIND_BOTH,
+                k,
+                wk,
+                wi,
+                wn,
+                wr,
+                wm,
+                0,
+            );
             Formed::Done(k)
         }
         Formed::Refused(r) => Formed::Refused(r),

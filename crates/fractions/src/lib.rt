@@ -3,10 +3,12 @@ use calculus::Ln;
 use cells::Entry;
 use formats::record::Primitive;
 use limits::Refusal;
+use limits::SUM_ENTRIES;
 use monomials::Constant;
 use sums::Formed;
 use trees::Merge;
 ghost use Prim.Native.Nat.{_≤_};
+ghost use Rattle.limits.specs.Limits.{sumEntries};
 ghost use Rattle.cells.specs.Book.{lent};
 ghost use Rattle.calculus.specs.Derivative.{deriveLog, deriveDiv};
 ghost use Rattle.calculus.specs.Contract.Into.{Ready, Into};
@@ -28,7 +30,7 @@ pub fn derive_log(
     wm: &mut [u64],
     len: usize,
 ) -> Formed
-    requires { ⌜ Ready (lent wk wi wn wr wm) len (lent ak ai an ar am) i n × (1 ≤ n) × (n ≤ 64) ⌝ }
+    requires { ⌜ Ready (lent wk wi wn wr wm) len (lent ak ai an ar am) i n × (1 ≤ n) × (n ≤ sumEntries) ⌝ }
     ensures { λ r. ⌜ Into (lent (wk .entry) (wi .entry) (wn .entry) (wr .entry) (wm .entry)) (lent (wk .exit) (wi .exit) (wn .exit) (wr .exit) (wm .exit)) len (lent (ak .entry) (ai .entry) (an .entry) (ar .entry) (am .entry)) i n r (λ t s. deriveLog x t s) ⌝ }
 {
     let Constant::Is(d) = calculus::prime_of(ak, ai, an, ar, am, i, n) else {
@@ -75,14 +77,14 @@ pub fn derive_div(
     wm: &mut [u64],
     len: usize,
 ) -> Formed
-    requires { ⌜ Ready (lent wk wi wn wr wm) len (lent ak ai an ar am) i n × (1 ≤ n) × (n ≤ 64) ⌝ }
+    requires { ⌜ Ready (lent wk wi wn wr wm) len (lent ak ai an ar am) i n × (1 ≤ n) × (n ≤ sumEntries) ⌝ }
     ensures { λ r. ⌜ Into (lent (wk .entry) (wi .entry) (wn .entry) (wr .entry) (wm .entry)) (lent (wk .exit) (wi .exit) (wn .exit) (wr .exit) (wm .exit)) len (lent (ak .entry) (ai .entry) (an .entry) (ar .entry) (am .entry)) i n r (λ t s. deriveDiv x t s) ⌝ }
 {
-    let mut tk = [0u8; 64];
-    let mut ti = [0u8; 64];
-    let mut tn = [0u64; 64];
-    let mut tr = [0u64; 64];
-    let mut tm = [0u64; 64];
+    let mut tk = [0u8; SUM_ENTRIES];
+    let mut ti = [0u8; SUM_ENTRIES];
+    let mut tn = [0u64; SUM_ENTRIES];
+    let mut tr = [0u64; SUM_ENTRIES];
+    let mut tm = [0u64; SUM_ENTRIES];
     let square = pairs::form_two(
         Primitive::Mul,
         ak,

@@ -5,6 +5,7 @@ use steps::AlgebraEnv;
 ghost use mathlib.Core.Path.{_≡_};
 ghost use Prim.Native.Nat.{_+_, _-_, _≤_};
 ghost use lib.Dec.{leb};
+ghost use Rattle.limits.specs.Limits.{stackEntries};
 ghost use Rattle.limits.specs.declared.Refusal.the-variants.{TooManyVariables};
 ghost use Rattle.arena.specs.Contract.Arena.{arena};
 ghost use Rattle.steps.specs.State.{taking};
@@ -145,7 +146,7 @@ pub fn copy_under(
     env: AlgebraEnv,
 ) -> Begun
     requires { ⌜ Ready (arena ak ai an ar am az) v env ⌝ }
-    ensures { λ r. ⌜ Begins (arena (ak .entry) (ai .entry) (an .entry) (ar .entry) (am .entry) (az .entry)) (arena (ak .exit) (ai .exit) (an .exit) (ar .exit) (am .exit) (az .exit)) v env r (λ st f. copying at k (1024 - v) st f) ⌝ }
+    ensures { λ r. ⌜ Begins (arena (ak .entry) (ai .entry) (an .entry) (ar .entry) (am .entry) (az .entry)) (arena (ak .exit) (ai .exit) (an .exit) (ar .exit) (am .exit) (az .exit)) v env r (λ st f. copying at k (stackEntries - v) st f) ⌝ }
 {
     let used = env.used;
     let d = arena::measure(az, 0, used, k);

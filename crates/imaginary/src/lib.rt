@@ -1,10 +1,12 @@
 // The primitive that takes i beside a sum: b + a·i. Operands lie in one book, the result is formed from the first cell of another on,
-// which has room for 64.
+// which has room for SUM_ENTRIES.
 use complex::Complex;
+use limits::SUM_ENTRIES;
 use monomials::Constant;
 use sums::Formed;
 use terms::Change;
 ghost use Prim.Native.Nat.{_+_, _≤_};
+ghost use Rattle.limits.specs.Limits.{sumEntries, sumLevels};
 ghost use Rattle.complex.specs.Arith.{imaginary};
 ghost use Rattle.cells.specs.Book.{lent, Room};
 ghost use Rattle.trees.specs.Sums.{Sum};
@@ -32,14 +34,14 @@ fn add_times_i(
     wr: &mut [u64],
     wm: &mut [u64],
 ) -> Formed
-    requires { ⌜ (n ≤ 64) × (m ≤ 64) × Held (lent ak ai an ar am) i (i + n) 4 × Held (lent ak ai an ar am) j (j + m) 4 × Room (lent wk wi wn wr wm) 64 ⌝ }
-    ensures { λ r. ⌜ ((b a : Sum) → Lies (lent (ak .entry) (ai .entry) (an .entry) (ar .entry) (am .entry)) i (i + n) 4 b → Lies (lent (ak .entry) (ai .entry) (an .entry) (ar .entry) (am .entry)) j (j + m) 4 a → Agrees r (lent (wk .exit) (wi .exit) (wn .exit) (wr .exit) (wm .exit)) 0 (andThenSum (product a (constant imaginary)) (λ w. addSums b w))) ⌝ }
+    requires { ⌜ (n ≤ sumEntries) × (m ≤ sumEntries) × Held (lent ak ai an ar am) i (i + n) sumLevels × Held (lent ak ai an ar am) j (j + m) sumLevels × Room (lent wk wi wn wr wm) sumEntries ⌝ }
+    ensures { λ r. ⌜ ((b a : Sum) → Lies (lent (ak .entry) (ai .entry) (an .entry) (ar .entry) (am .entry)) i (i + n) sumLevels b → Lies (lent (ak .entry) (ai .entry) (an .entry) (ar .entry) (am .entry)) j (j + m) sumLevels a → Agrees r (lent (wk .exit) (wi .exit) (wn .exit) (wr .exit) (wm .exit)) 0 (andThenSum (product a (constant imaginary)) (λ w. addSums b w))) ⌝ }
 {
-    let mut tk = [0u8; 192];
-    let mut ti = [0u8; 192];
-    let mut tn = [0u64; 192];
-    let mut tr = [0u64; 192];
-    let mut tm = [0u64; 192];
+    let mut tk = [0u8; 3 * SUM_ENTRIES];
+    let mut ti = [0u8; 3 * SUM_ENTRIES];
+    let mut tn = [0u64; 3 * SUM_ENTRIES];
+    let mut tr = [0u64; 3 * SUM_ENTRIES];
+    let mut tm = [0u64; 3 * SUM_ENTRIES];
     primitives::beside(
         Complex::I,
         ak,
@@ -56,7 +58,7 @@ fn add_times_i(
         &mut tm,
     );
     match products::mul(
-        64,
+        SUM_ENTRIES,
         m,
         0,
         1,
@@ -65,7 +67,7 @@ fn add_times_i(
         &mut tn,
         &mut tr,
         &mut tm,
-        128,
+        factors::BEHIND_BOTH,
     ) {
         Formed::Done(k) => {
             gaps::copy_in(
@@ -92,7 +94,7 @@ fn add_times_i(
                 &tm,
                 0,
                 n,
-                128,
+                factors::BEHIND_BOTH,
                 k,
                 wk,
                 wi,
@@ -122,8 +124,8 @@ pub fn complex(
     wr: &mut [u64],
     wm: &mut [u64],
 ) -> Formed
-    requires { ⌜ (n ≤ 64) × (m ≤ 64) × Held (lent ak ai an ar am) i (i + n) 4 × Held (lent ak ai an ar am) j (j + m) 4 × Room (lent wk wi wn wr wm) 64 ⌝ }
-    ensures { λ r. ⌜ ((b a : Sum) → Lies (lent (ak .entry) (ai .entry) (an .entry) (ar .entry) (am .entry)) i (i + n) 4 b → Lies (lent (ak .entry) (ai .entry) (an .entry) (ar .entry) (am .entry)) j (j + m) 4 a → Agrees r (lent (wk .exit) (wi .exit) (wn .exit) (wr .exit) (wm .exit)) 0 (complexSum a b)) ⌝ }
+    requires { ⌜ (n ≤ sumEntries) × (m ≤ sumEntries) × Held (lent ak ai an ar am) i (i + n) sumLevels × Held (lent ak ai an ar am) j (j + m) sumLevels × Room (lent wk wi wn wr wm) sumEntries ⌝ }
+    ensures { λ r. ⌜ ((b a : Sum) → Lies (lent (ak .entry) (ai .entry) (an .entry) (ar .entry) (am .entry)) i (i + n) sumLevels b → Lies (lent (ak .entry) (ai .entry) (an .entry) (ar .entry) (am .entry)) j (j + m) sumLevels a → Agrees r (lent (wk .exit) (wi .exit) (wn .exit) (wr .exit) (wm .exit)) 0 (complexSum a b)) ⌝ }
 {
     let first = monomials::as_constant(ak, ai, an, ar, am, i, n);
     let second = monomials::as_constant(ak, ai, an, ar, am, j, m);

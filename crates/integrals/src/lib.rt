@@ -2,12 +2,14 @@
 use cells::Entry;
 use complex::Complex;
 use limits::Refusal;
+use limits::SUM_LEVELS;
 use sums::Formed;
 use trees::Merge;
 ghost use Prim.Native.Nat.{_+_, _≤_};
 ghost use mathlib.Core.Path.{_≡_};
 ghost use mathlib.Core.Bool.{false};
 ghost use lib.Dec.{eqb};
+ghost use Rattle.limits.specs.Limits.{sumEntries, sumLevels};
 ghost use Rattle.cells.specs.Book.{lent, Room};
 ghost use Rattle.cells.specs.Contract.Moves.{SameRoom};
 ghost use Rattle.trees.specs.Kinds.{X, hasNumber};
@@ -30,8 +32,8 @@ const ONE: u64 = 0x3ff0000000000000;
 
 // Whether == says that the sum of n cells from i on is x.
 fn same_as_x(ak: &[u8], ai: &[u8], an: &[u64], ar: &[u64], am: &[u64], i: usize, n: usize) -> bool
-    requires { ⌜ Held (lent ak ai an ar am) i (i + n) 4 ⌝ }
-    ensures { λ r. ⌜ ((s : Sum) → Lies (lent (ak .entry) (ai .entry) (an .entry) (ar .entry) (am .entry)) i (i + n) 4 s → r ≡ sameSum s x) ⌝ }
+    requires { ⌜ Held (lent ak ai an ar am) i (i + n) sumLevels ⌝ }
+    ensures { λ r. ⌜ ((s : Sum) → Lies (lent (ak .entry) (ai .entry) (an .entry) (ar .entry) (am .entry)) i (i + n) sumLevels s → r ≡ sameSum s x) ⌝ }
 {
     let kinds = [trees::X; 1];
     let insides = [0u8; 1];
@@ -52,7 +54,7 @@ fn same_as_x(ak: &[u8], ai: &[u8], an: &[u64], ar: &[u64], am: &[u64], i: usize,
         &zeros,
         0,
         1,
-        4,
+        SUM_LEVELS,
     )
 }
 
@@ -68,9 +70,9 @@ fn store_over_x(
     wm: &mut [u64],
     len: usize,
 ) -> Formed
-    requires { ⌜ GoodHead (entry kind 1 num c) × (len ≤ 64) × Room (lent wk wi wn wr wm) 64 × Held (lent wk wi wn wr wm) 0 (0 + len) 4 ⌝ }
+    requires { ⌜ GoodHead (entry kind 1 num c) × (len ≤ sumEntries) × Room (lent wk wi wn wr wm) sumEntries × Held (lent wk wi wn wr wm) 0 (0 + len) sumLevels ⌝ }
     ensures { λ r. ⌜ SameRoom (lent (wk .entry) (wi .entry) (wn .entry) (wr .entry) (wm .entry)) (lent (wk .exit) (wi .exit) (wn .exit) (wr .exit) (wm .exit)) ⌝ }
-    ensures { λ r. ⌜ ((s : Sum) → Lies (lent (wk .entry) (wi .entry) (wn .entry) (wr .entry) (wm .entry)) 0 (0 + len) 4 s → Agrees r (lent (wk .exit) (wi .exit) (wn .exit) (wr .exit) (wm .exit)) 0 (stored kind num c s)) ⌝ }
+    ensures { λ r. ⌜ ((s : Sum) → Lies (lent (wk .entry) (wi .entry) (wn .entry) (wr .entry) (wm .entry)) 0 (0 + len) sumLevels s → Agrees r (lent (wk .exit) (wi .exit) (wn .exit) (wr .exit) (wm .exit)) 0 (stored kind num c s)) ⌝ }
 {
     let kinds = [trees::X; 1];
     let insides = [0u8; 1];
@@ -189,7 +191,7 @@ fn integrate_entry(
     wm: &mut [u64],
     len: usize,
 ) -> Formed
-    requires { ⌜ Ready (lent wk wi wn wr wm) len (lent ak ai an ar am) i n × (n ≤ 64) × (1 ≤ x .kind) × (x .kind ≤ 8) × (eqb n 0 ≡ eqb (x .kind) X) ⌝ }
+    requires { ⌜ Ready (lent wk wi wn wr wm) len (lent ak ai an ar am) i n × (n ≤ sumEntries) × (1 ≤ x .kind) × (x .kind ≤ 8) × (eqb n 0 ≡ eqb (x .kind) X) ⌝ }
     ensures { λ r. ⌜ Into (lent (wk .entry) (wi .entry) (wn .entry) (wr .entry) (wm .entry)) (lent (wk .exit) (wi .exit) (wn .exit) (wr .exit) (wm .exit)) len (lent (ak .entry) (ai .entry) (an .entry) (ar .entry) (am .entry)) i n r (λ t s. integrateInto x t s) ⌝ }
 {
     if x.kind == trees::X {
@@ -218,8 +220,8 @@ pub fn expr_integral(
     wr: &mut [u64],
     wm: &mut [u64],
 ) -> Formed
-    requires { ⌜ (m ≤ 64) × Held (lent ak ai an ar am) j (j + m) 4 × Room (lent wk wi wn wr wm) 64 ⌝ }
-    ensures { λ r. ⌜ ((t : Sum) → Lies (lent (ak .entry) (ai .entry) (an .entry) (ar .entry) (am .entry)) j (j + m) 4 t → Agrees r (lent (wk .exit) (wi .exit) (wn .exit) (wr .exit) (wm .exit)) 0 (integrate t)) ⌝ }
+    requires { ⌜ (m ≤ sumEntries) × Held (lent ak ai an ar am) j (j + m) sumLevels × Room (lent wk wi wn wr wm) sumEntries ⌝ }
+    ensures { λ r. ⌜ ((t : Sum) → Lies (lent (ak .entry) (ai .entry) (an .entry) (ar .entry) (am .entry)) j (j + m) sumLevels t → Agrees r (lent (wk .exit) (wi .exit) (wn .exit) (wr .exit) (wm .exit)) 0 (integrate t)) ⌝ }
 {
     let end = j + m;
     let mut q = j;

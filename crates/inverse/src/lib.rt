@@ -5,12 +5,14 @@ use drafts::Draft;
 use drafts::Said;
 use drafts::Wrote;
 use formats::record::Primitive;
+use limits::RECORD_BYTES;
 use limits::Refusal;
 ghost use mathlib.Core.Path.{_≡_};
 ghost use mathlib.Core.Bool.{Bool};
 ghost use mathlib.Core.List.{[], _∷_};
-ghost use Prim.Native.Nat.{_+_, _≤_};
+ghost use Prim.Native.Nat.{_+_, _*_, _≤_};
 ghost use lib.ListN.{length};
+ghost use Rattle.limits.specs.Limits.{sumLevels, recordBytes};
 ghost use Rattle.numbers.specs.Signs.{one64};
 ghost use Rattle.complex.specs.Arith.{realOver};
 ghost use Rattle.cells.specs.Book.{lent};
@@ -19,7 +21,7 @@ ghost use Rattle.sums.specs.Contract.Lies.{Lies, Held};
 ghost use Rattle.formats.specs.Tree.{end};
 ghost use Rattle.drafts.specs.Contract.Lying.{Answered};
 ghost use Rattle.inverse.specs.Inverse.{num, act, spell, coefOf, low, others, lessConstant, overFactor, unpower, isInt, ofPower, simpleQuadratic, root, larger, fullQuadratic, linear, ofConstant, ofQuadratic, inverse};
-ghost use Rattle.inverse.specs.Contract.Steps.{nextOther, othersOf, byOthers, ReadyTo, Spelt, Told};
+ghost use Rattle.inverse.specs.Contract.Steps.{inverseRecords, nextOther, othersOf, byOthers, ReadyTo, Spelt, Told};
 
 // What a sum has besides x to the 0, 1 and 2: nothing, one power of x with its coefficient, or too much to be undone.
 pub enum Others {
@@ -45,8 +47,8 @@ fn coef_of(
     m: usize,
     q: f64,
 ) -> Complex
-    requires { ⌜ Held (lent ak ai an ar am) j (j + m) 4 ⌝ }
-    ensures { λ r. ⌜ ((s : Sum) → Lies (lent (ak .entry) (ai .entry) (an .entry) (ar .entry) (am .entry)) j (j + m) 4 s → r ≡ coefOf q s) ⌝ }
+    requires { ⌜ Held (lent ak ai an ar am) j (j + m) sumLevels ⌝ }
+    ensures { λ r. ⌜ ((s : Sum) → Lies (lent (ak .entry) (ai .entry) (an .entry) (ar .entry) (am .entry)) j (j + m) sumLevels s → r ≡ coefOf q s) ⌝ }
 {
     let end = j + m;
     let mut i = j;
@@ -89,8 +91,8 @@ fn next_other(found: Others, x: Entry) -> Others
 
 // What the sum of m cells from j on has besides x to the 0, 1 and 2.
 fn others_of(ak: &[u8], ai: &[u8], an: &[u64], ar: &[u64], am: &[u64], j: usize, m: usize) -> Others
-    requires { ⌜ Held (lent ak ai an ar am) j (j + m) 4 ⌝ }
-    ensures { λ r. ⌜ ((s : Sum) → Lies (lent (ak .entry) (ai .entry) (an .entry) (ar .entry) (am .entry)) j (j + m) 4 s → r ≡ othersOf (others s)) ⌝ }
+    requires { ⌜ Held (lent ak ai an ar am) j (j + m) sumLevels ⌝ }
+    ensures { λ r. ⌜ ((s : Sum) → Lies (lent (ak .entry) (ai .entry) (an .entry) (ar .entry) (am .entry)) j (j + m) sumLevels s → r ≡ othersOf (others s)) ⌝ }
 {
     let end = j + m;
     let mut i = j;
@@ -188,7 +190,7 @@ fn is_int(k: Complex) -> bool
 }
 
 fn of_power(b: &mut [u8], complex: bool, k: Complex, p: f64, c: Complex) -> Said
-    requires { ⌜ 432 ≤ length (now b) ⌝ }
+    requires { ⌜ recordBytes * inverseRecords ≤ length (now b) ⌝ }
     ensures { λ r. ⌜ Told (now (b .entry)) (now (b .exit)) r (ofPower complex k p c) ⌝ }
 {
     if !is_int(k) {
@@ -202,7 +204,7 @@ fn of_power(b: &mut [u8], complex: bool, k: Complex, p: f64, c: Complex) -> Said
 // ---- ax² + bx + c, where the middle coefficient is called q
 
 fn simple_quadratic(b: &mut [u8], complex: bool, a: Complex, c: Complex) -> Said
-    requires { ⌜ 432 ≤ length (now b) ⌝ }
+    requires { ⌜ recordBytes * inverseRecords ≤ length (now b) ⌝ }
     ensures { λ r. ⌜ Told (now (b .entry)) (now (b .exit)) r (spell complex (simpleQuadratic a c) end) ⌝ }
 {
     let t = then_by(b, start(), complex, c, Primitive::Sub);
@@ -234,7 +236,7 @@ fn larger(b: &mut [u8], s: Said, complex: bool, q: Complex) -> Said
 }
 
 fn full_quadratic(b: &mut [u8], complex: bool, a: Complex, q: Complex, c: Complex) -> Said
-    requires { ⌜ 432 ≤ length (now b) ⌝ }
+    requires { ⌜ recordBytes * inverseRecords ≤ length (now b) ⌝ }
     ensures { λ r. ⌜ Told (now (b .entry)) (now (b .exit)) r (spell complex (fullQuadratic a q c) end) ⌝ }
 {
     let t = root(b, start(), complex, a, q, c);
@@ -250,7 +252,7 @@ fn one_over(q: Complex) -> Complex
 }
 
 fn linear(b: &mut [u8], complex: bool, q: Complex, c: Complex) -> Said
-    requires { ⌜ 432 ≤ length (now b) ⌝ }
+    requires { ⌜ recordBytes * inverseRecords ≤ length (now b) ⌝ }
     ensures { λ r. ⌜ Told (now (b .entry)) (now (b .exit)) r (spell complex (linear q c) end) ⌝ }
 {
     if !c.is_zero() {
@@ -267,7 +269,7 @@ fn linear(b: &mut [u8], complex: bool, q: Complex, c: Complex) -> Said
 }
 
 fn of_constant(b: &mut [u8], c: Complex) -> Said
-    requires { ⌜ 432 ≤ length (now b) ⌝ }
+    requires { ⌜ recordBytes * inverseRecords ≤ length (now b) ⌝ }
     ensures { λ r. ⌜ Told (now (b .entry)) (now (b .exit)) r (ofConstant c) ⌝ }
 {
     let t = then_do(b, start(), Primitive::Pop);
@@ -275,7 +277,7 @@ fn of_constant(b: &mut [u8], c: Complex) -> Said
 }
 
 fn of_quadratic(b: &mut [u8], complex: bool, a: Complex, q: Complex, c: Complex) -> Said
-    requires { ⌜ 432 ≤ length (now b) ⌝ }
+    requires { ⌜ recordBytes * inverseRecords ≤ length (now b) ⌝ }
     ensures { λ r. ⌜ Told (now (b .entry)) (now (b .exit)) r (ofQuadratic complex a q c) ⌝ }
 {
     if q.is_zero() {
@@ -293,7 +295,7 @@ fn of_quadratic(b: &mut [u8], complex: bool, a: Complex, q: Complex, c: Complex)
 // ---- the whole sum
 
 fn undo(b: &mut [u8], complex: bool, a: Complex, q: Complex, c: Complex, more: Others) -> Said
-    requires { ⌜ 432 ≤ length (now b) ⌝ }
+    requires { ⌜ recordBytes * inverseRecords ≤ length (now b) ⌝ }
     ensures { λ r. ⌜ Told (now (b .entry)) (now (b .exit)) r (byOthers complex a q c more) ⌝ }
 {
     match more {
@@ -308,6 +310,9 @@ fn undo(b: &mut [u8], complex: bool, a: Complex, q: Complex, c: Complex, more: O
     }
 }
 
+// The longest list that undoes a sum: a root of 8 records, the larger of two in 8 more, and a division in 2.
+const INVERSE_RECORDS: usize = 8 + 8 + 2;
+
 // The list that undoes the sum of m cells from j on.
 pub fn algebraic_inverse(
     ak: &[u8],
@@ -320,14 +325,14 @@ pub fn algebraic_inverse(
     complex: bool,
     out: &mut [u8],
 ) -> Wrote
-    requires { ⌜ Held (lent ak ai an ar am) j (j + m) 4 ⌝ }
-    ensures { λ r. ⌜ ((s : Sum) → Lies (lent (ak .entry) (ai .entry) (an .entry) (ar .entry) (am .entry)) j (j + m) 4 s → Answered (now (out .entry)) (now (out .exit)) r (inverse complex s)) ⌝ }
+    requires { ⌜ Held (lent ak ai an ar am) j (j + m) sumLevels ⌝ }
+    ensures { λ r. ⌜ ((s : Sum) → Lies (lent (ak .entry) (ai .entry) (an .entry) (ar .entry) (am .entry)) j (j + m) sumLevels s → Answered (now (out .entry)) (now (out .exit)) r (inverse complex s)) ⌝ }
 {
     let a = coef_of(ak, ai, an, ar, am, j, m, 2.0);
     let q = coef_of(ak, ai, an, ar, am, j, m, 1.0);
     let c = coef_of(ak, ai, an, ar, am, j, m, 0.0);
     let more = others_of(ak, ai, an, ar, am, j, m);
-    let mut b = [0u8; 432];
+    let mut b = [0u8; RECORD_BYTES * INVERSE_RECORDS];
     let s = undo(&mut b, complex, a, q, c, more);
     drafts::answer(&b, s, out)
 }

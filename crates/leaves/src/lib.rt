@@ -9,6 +9,7 @@ use steps::AlgebraEnv;
 use steps::Ran;
 ghost use mathlib.Core.Path.{_≡_};
 ghost use Prim.Native.Nat.{_-_};
+ghost use Rattle.limits.specs.Limits.{stackEntries};
 ghost use Rattle.formats.specs.Names.{kindOf, primitiveOf};
 ghost use Rattle.formats.specs.Table.{row};
 ghost use Rattle.arena.specs.Contract.Arena.{arena};
@@ -31,7 +32,7 @@ fn apply(
     env: AlgebraEnv,
 ) -> Ran
     requires { ⌜ Ready (arena ak ai an ar am az) v env ⌝ }
-    ensures { λ r. ⌜ Does (arena (ak .entry) (ai .entry) (an .entry) (ar .entry) (am .entry) (az .entry)) (arena (ak .exit) (ai .exit) (an .exit) (ar .exit) (am .exit) (az .exit)) v env r (λ st. taking at (row (primitiveOf code) .taken) st (leaves at (1024 - v) (primitiveOf code))) ⌝ }
+    ensures { λ r. ⌜ Does (arena (ak .entry) (ai .entry) (an .entry) (ar .entry) (am .entry) (az .entry)) (arena (ak .exit) (ai .exit) (an .exit) (ar .exit) (am .exit) (az .exit)) v env r (λ st. taking at (row (primitiveOf code) .taken) st (leaves at (stackEntries - v) (primitiveOf code))) ⌝ }
 {
     let taken = formats::table::taken(code);
     if taken == 0 {
@@ -57,7 +58,7 @@ pub fn primitive(
     env: AlgebraEnv,
 ) -> Ran
     requires { ⌜ Ready (arena ak ai an ar am az) v env ⌝ }
-    ensures { λ r. ⌜ Does (arena (ak .entry) (ai .entry) (an .entry) (ar .entry) (am .entry) (az .entry)) (arena (ak .exit) (ai .exit) (an .exit) (ar .exit) (am .exit) (az .exit)) v env r (λ st. primitive at (primitiveOf code) (1024 - v) st) ⌝ }
+    ensures { λ r. ⌜ Does (arena (ak .entry) (ai .entry) (an .entry) (ar .entry) (am .entry) (az .entry)) (arena (ak .exit) (ai .exit) (an .exit) (ar .exit) (am .exit) (az .exit)) v env r (λ st. primitive at (primitiveOf code) (stackEntries - v) st) ⌝ }
 {
     let p = formats::record::primitive_of(code);
     let complex = formats::record::primitive_no(p)
@@ -94,7 +95,7 @@ fn leaf_of(
     env: AlgebraEnv,
 ) -> Ran
     requires { ⌜ Ready (arena ak ai an ar am az) v env ⌝ }
-    ensures { λ e. ⌜ Does (arena (ak .entry) (ai .entry) (an .entry) (ar .entry) (am .entry) (az .entry)) (arena (ak .exit) (ai .exit) (an .exit) (ar .exit) (am .exit) (az .exit)) v env e (λ st. leafStep at r (KindFound.Known k) (1024 - v) st) ⌝ }
+    ensures { λ e. ⌜ Does (arena (ak .entry) (ai .entry) (an .entry) (ar .entry) (am .entry) (az .entry)) (arena (ak .exit) (ai .exit) (an .exit) (ar .exit) (am .exit) (az .exit)) v env e (λ st. leafStep at r (KindFound.Known k) (stackEntries - v) st) ⌝ }
 {
     match k {
         Kind::RealPush => constants::push_number(r.re, 0, at, ak, ai, an, ar, am, az, v, env),
@@ -131,7 +132,7 @@ pub fn leaf(
     env: AlgebraEnv,
 ) -> Ran
     requires { ⌜ Ready (arena ak ai an ar am az) v env ⌝ }
-    ensures { λ e. ⌜ Does (arena (ak .entry) (ai .entry) (an .entry) (ar .entry) (am .entry) (az .entry)) (arena (ak .exit) (ai .exit) (an .exit) (ar .exit) (am .exit) (az .exit)) v env e (λ st. leafStep at r (kindOf (r .kind)) (1024 - v) st) ⌝ }
+    ensures { λ e. ⌜ Does (arena (ak .entry) (ai .entry) (an .entry) (ar .entry) (am .entry) (az .entry)) (arena (ak .exit) (ai .exit) (an .exit) (ar .exit) (am .exit) (az .exit)) v env e (λ st. leafStep at r (kindOf (r .kind)) (stackEntries - v) st) ⌝ }
 {
     match formats::record::kind_of(r.kind) {
         KindFound::Known(k) => leaf_of(k, r, at, ak, ai, an, ar, am, az, v, env),

@@ -8,6 +8,7 @@ ghost use mathlib.Core.Path.{_≡_};
 ghost use mathlib.Core.List.{List};
 ghost use Prim.Native.Nat.{_+_, _-_, _≤_};
 ghost use lib.ListN.{length};
+ghost use Rattle.limits.specs.Limits.{stackEntries};
 ghost use Rattle.trees.specs.Sums.{Sum};
 ghost use Rattle.arena.specs.Contract.Arena.{arena};
 ghost use Rattle.arena.specs.Contract.Stacked.{Stacked};
@@ -31,8 +32,8 @@ pub fn lend_deepest(
     v: usize,
     env: AlgebraEnv,
 ) -> Ran
-    requires { ⌜ Ready (arena ak ai an ar am az) v env × (v + m ≤ 1024) × ((ss : List Sum) × Stacked (arena ak ai an ar am az) v (v + m) ss × (length ss ≡ k)) ⌝ }
-    ensures { λ r. ⌜ ((ss : List Sum) → Stacked (arena (ak .entry) (ai .entry) (an .entry) (ar .entry) (am .entry) (az .entry)) v (v + m) ss → length ss ≡ k → Does (arena (ak .entry) (ai .entry) (an .entry) (ar .entry) (am .entry) (az .entry)) (arena (ak .exit) (ai .exit) (an .exit) (ar .exit) (am .exit) (az .exit)) v env r (λ st. lend at (1024 - v) (deepest c ss) st)) ⌝ }
+    requires { ⌜ Ready (arena ak ai an ar am az) v env × (v + m ≤ stackEntries) × ((ss : List Sum) × Stacked (arena ak ai an ar am az) v (v + m) ss × (length ss ≡ k)) ⌝ }
+    ensures { λ r. ⌜ ((ss : List Sum) → Stacked (arena (ak .entry) (ai .entry) (an .entry) (ar .entry) (am .entry) (az .entry)) v (v + m) ss → length ss ≡ k → Does (arena (ak .entry) (ai .entry) (an .entry) (ar .entry) (am .entry) (az .entry)) (arena (ak .exit) (ai .exit) (an .exit) (ar .exit) (am .exit) (az .exit)) v env r (λ st. lend at (stackEntries - v) (deepest c ss) st)) ⌝ }
 {
     let used = env.used;
     let d = arena::measure(az, v, v + m, holds::less(k, c));
@@ -66,7 +67,7 @@ pub fn hold_and_lend(
     env: AlgebraEnv,
 ) -> Begun
     requires { ⌜ Ready (arena ak ai an ar am az) v env ⌝ }
-    ensures { λ r. ⌜ Begins (arena (ak .entry) (ai .entry) (an .entry) (ar .entry) (am .entry) (az .entry)) (arena (ak .exit) (ai .exit) (an .exit) (ar .exit) (am .exit) (az .exit)) v env r (λ st f. holding at k c (1024 - v) st f) ⌝ }
+    ensures { λ r. ⌜ Begins (arena (ak .entry) (ai .entry) (an .entry) (ar .entry) (am .entry) (az .entry)) (arena (ak .exit) (ai .exit) (an .exit) (ar .exit) (am .exit) (az .exit)) v env r (λ st f. holding at k c (stackEntries - v) st f) ⌝ }
 {
     let h = holds::hold(k, at, ak, ai, an, ar, am, az, v, env);
     let Begun::Held(e, m) = h else {
@@ -92,7 +93,7 @@ pub fn put_back(
     v: usize,
     env: AlgebraEnv,
 ) -> AlgebraEnv
-    requires { ⌜ Ready (arena ak ai an ar am az) v env × (v + m ≤ 1024) × ((ss : List Sum) × Stacked (arena ak ai an ar am az) v (v + m) ss) ⌝ }
+    requires { ⌜ Ready (arena ak ai an ar am az) v env × (v + m ≤ stackEntries) × ((ss : List Sum) × Stacked (arena ak ai an ar am az) v (v + m) ss) ⌝ }
     ensures { λ r. ⌜ PutsBack (arena (ak .entry) (ai .entry) (an .entry) (ar .entry) (am .entry) (az .entry)) (arena (ak .exit) (ai .exit) (an .exit) (ar .exit) (am .exit) (az .exit)) v m env r ⌝ }
 {
     let used = env.used;

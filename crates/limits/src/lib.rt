@@ -23,7 +23,7 @@ pub const RECORD_BYTES: usize = 24;
 pub const ENTRY_BYTES: usize = 32;
 
 // The highest whole power of a sum or a number that is worked out.
-pub const HIGHEST_POWER: u64 = 64;
+pub const HIGHEST_POWER: f64 = 64.0;
 
 // On the runner's stack and held.
 pub const RUN_VALUES: usize = 256;

@@ -1,4 +1,4 @@
-// Sums of one term, formed from the first cell of a book on, which has room for 64; what can be read off a sum: a constant, bare x,
+// Sums of one term, formed from the first cell of a book on, which has room for SUM_ENTRIES; what can be read off a sum: a constant, bare x,
 // a coefficient that is complex.
 use cells::Entry;
 use complex::Complex;
@@ -6,6 +6,7 @@ use sums::Formed;
 use trees::Merge;
 ghost use mathlib.Core.Path.{_≡_};
 ghost use Prim.Native.Nat.{_+_};
+ghost use Rattle.limits.specs.Limits.{sumEntries, sumLevels};
 ghost use Rattle.cells.specs.Book.{lent, Room};
 ghost use Rattle.numbers.specs.Signs.{zero64};
 ghost use Rattle.trees.specs.Kinds.{X};
@@ -37,8 +38,8 @@ pub fn alone(
     wr: &mut [u64],
     wm: &mut [u64],
 ) -> Formed
-    requires { ⌜ GoodHead x × Held (lent ak ai an ar am) i (i + x .inside) 4 × Room (lent wk wi wn wr wm) 64 ⌝ }
-    ensures { λ r. ⌜ ((t : Sum) → Lies (lent (ak .entry) (ai .entry) (an .entry) (ar .entry) (am .entry)) i (i + x .inside) 4 t → Agrees r (lent (wk .exit) (wi .exit) (wn .exit) (wr .exit) (wm .exit)) 0 (formed Merge.Store x t none)) ⌝ }
+    requires { ⌜ GoodHead x × Held (lent ak ai an ar am) i (i + x .inside) sumLevels × Room (lent wk wi wn wr wm) sumEntries ⌝ }
+    ensures { λ r. ⌜ ((t : Sum) → Lies (lent (ak .entry) (ai .entry) (an .entry) (ar .entry) (am .entry)) i (i + x .inside) sumLevels t → Agrees r (lent (wk .exit) (wi .exit) (wn .exit) (wr .exit) (wm .exit)) 0 (formed Merge.Store x t none)) ⌝ }
 {
     puts::put_block(
         Merge::Store,
@@ -68,7 +69,7 @@ pub fn constant_sum(
     wr: &mut [u64],
     wm: &mut [u64],
 ) -> Formed
-    requires { ⌜ Room (lent wk wi wn wr wm) 64 ⌝ }
+    requires { ⌜ Room (lent wk wi wn wr wm) sumEntries ⌝ }
     ensures { λ r. ⌜ Agrees r (lent (wk .exit) (wi .exit) (wn .exit) (wr .exit) (wm .exit)) 0 (alone X zero64 none c) ⌝ }
 {
     let bytes = [0u8; 1];
@@ -112,8 +113,8 @@ pub fn as_constant(
     i: usize,
     n: usize,
 ) -> Constant
-    requires { ⌜ Held (lent ak ai an ar am) i (i + n) 4 ⌝ }
-    ensures { λ r. ⌜ ((s : Sum) → Lies (lent (ak .entry) (ai .entry) (an .entry) (ar .entry) (am .entry)) i (i + n) 4 s → r ≡ constantOf (asConstant s)) ⌝ }
+    requires { ⌜ Held (lent ak ai an ar am) i (i + n) sumLevels ⌝ }
+    ensures { λ r. ⌜ ((s : Sum) → Lies (lent (ak .entry) (ai .entry) (an .entry) (ar .entry) (am .entry)) i (i + n) sumLevels s → r ≡ constantOf (asConstant s)) ⌝ }
 {
     if n != 1 {
         return Constant::Other;
@@ -129,8 +130,8 @@ pub fn as_constant(
 
 // Whether the sum of n cells from i on is one term, and that x, whatever its coefficient.
 pub fn is_x(ak: &[u8], ai: &[u8], an: &[u64], ar: &[u64], am: &[u64], i: usize, n: usize) -> bool
-    requires { ⌜ Held (lent ak ai an ar am) i (i + n) 4 ⌝ }
-    ensures { λ r. ⌜ ((s : Sum) → Lies (lent (ak .entry) (ai .entry) (an .entry) (ar .entry) (am .entry)) i (i + n) 4 s → r ≡ isX s) ⌝ }
+    requires { ⌜ Held (lent ak ai an ar am) i (i + n) sumLevels ⌝ }
+    ensures { λ r. ⌜ ((s : Sum) → Lies (lent (ak .entry) (ai .entry) (an .entry) (ar .entry) (am .entry)) i (i + n) sumLevels s → r ≡ isX s) ⌝ }
 {
     if n != 1 {
         return false;
@@ -149,8 +150,8 @@ pub fn is_complex(
     i: usize,
     n: usize,
 ) -> bool
-    requires { ⌜ Held (lent ak ai an ar am) i (i + n) 4 ⌝ }
-    ensures { λ r. ⌜ ((s : Sum) → Lies (lent (ak .entry) (ai .entry) (an .entry) (ar .entry) (am .entry)) i (i + n) 4 s → r ≡ isComplex s) ⌝ }
+    requires { ⌜ Held (lent ak ai an ar am) i (i + n) sumLevels ⌝ }
+    ensures { λ r. ⌜ ((s : Sum) → Lies (lent (ak .entry) (ai .entry) (an .entry) (ar .entry) (am .entry)) i (i + n) sumLevels s → r ≡ isComplex s) ⌝ }
 {
     let end = i + n;
     let mut k = i;

@@ -3,6 +3,7 @@ use Prim.Native.Nat.{ℕ, _*_, _/_, _%_}
 use mathlib.Core.Bool.{Bool, true, false, _&&_, _||_, not, cond}
 use lib.Dec.{eqb, leb}
 use lib.Ieee.{Float, nan, inf, fin, up, down, lt}
+use Rattle.limits.specs.Limits.{highestPower}
 use Rattle.numbers.specs.declared.SmallWhole.{SmallWhole}
 use Rattle.numbers.specs.declared.SmallWhole.the-variants.{Is, Other}
 use Rattle.numbers.specs.Constants.{epsilon}
@@ -13,12 +14,12 @@ isWhole nan = false
 isWhole (inf s) = false
 isWhole (fin s m e) = eqb (m * up e % down e) 0
 
--- the whole number from 0 to 64 that x is; -0 is 0
+-- the whole number from 0 to highestPower that x is; -0 is 0
 unfoldable pub smallWhole : Float → SmallWhole
 smallWhole nan = Other
 smallWhole (inf s) = Other
 smallWhole (fin s m e) =
-    cond (isWhole (fin s m e) && leb (m * up e / down e) 64 && (not s || eqb (m * up e) 0)) (Is (m * up e / down e)) Other
+    cond (isWhole (fin s m e) && leb (m * up e / down e) highestPower && (not s || eqb (m * up e) 0)) (Is (m * up e / down e)) Other
 
 -- the magnitude
 abbrev pub abs : Float → Float

@@ -1,4 +1,5 @@
 // What the algebra asks of binary64 numbers, and the constants that it uses.
+use limits::HIGHEST_POWER;
 ghost use mathlib.Core.Path.{_≡_};
 ghost use lib.Ieee.{binary64, ofBits};
 ghost use lib.Ieee.Scale.{finite};
@@ -13,7 +14,7 @@ pub enum Ordering {
     Greater,
 }
 
-// The whole number from 0 to 64 that a number is, if it is one.
+// The whole number from 0 to HIGHEST_POWER that a number is, if it is one.
 pub enum SmallWhole {
     Is(u64),
     Other,
@@ -76,14 +77,14 @@ pub fn is_whole(x: f64) -> bool
     (x + far) - far == x
 }
 
-// The whole number from 0 to 64 that x is; -0 is 0.
+// The whole number from 0 to HIGHEST_POWER that x is; -0 is 0.
 pub fn small_whole(x: f64) -> SmallWhole
     ensures { λ r. ⌜ r ≡ smallWhole x ⌝ }
 {
     if x == 0.0 {
         return SmallWhole::Is(0);
     }
-    if is_whole(x) & (0.0 < x) & (x <= 64.0) {
+    if is_whole(x) & (0.0 < x) & (x <= HIGHEST_POWER) {
         SmallWhole::Is(x as u64)
     } else {
         SmallWhole::Other

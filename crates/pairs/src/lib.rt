@@ -1,9 +1,10 @@
 // What a primitive forms of the two sums that it takes. They lie in one book, the result is formed from the first cell of another on, which
-// has room for 64.
+// has room for SUM_ENTRIES.
 use formats::record::Primitive;
 use sums::Formed;
 use terms::Change;
 ghost use Prim.Native.Nat.{_+_, _≤_};
+ghost use Rattle.limits.specs.Limits.{sumEntries, sumLevels};
 ghost use Rattle.cells.specs.Book.{lent, Room};
 ghost use Rattle.trees.specs.Sums.{Sum};
 ghost use Rattle.sums.specs.Contract.Lies.{Lies, Held, Agrees};
@@ -27,8 +28,9 @@ pub fn form_two(
     wr: &mut [u64],
     wm: &mut [u64],
 ) -> Formed
-    requires { ⌜ (1 ≤ n) × (n ≤ 64) × (1 ≤ m) × (m ≤ 64) × Held (lent ak ai an ar am) i (i + n) 4 × Held (lent ak ai an ar am) j (j + m) 4 × Room (lent wk wi wn wr wm) 64 ⌝ }
-    ensures { λ r. ⌜ ((b a : Sum) → Lies (lent (ak .entry) (ai .entry) (an .entry) (ar .entry) (am .entry)) i (i + n) 4 b → Lies (lent (ak .entry) (ai .entry) (an .entry) (ar .entry) (am .entry)) j (j + m) 4 a → Agrees r (lent (wk .exit) (wi .exit) (wn .exit) (wr .exit) (wm .exit)) 0 (ofTwo p b a)) ⌝ }
+    requires { ⌜ (1 ≤ n) × (n ≤ sumEntries) × (1 ≤ m) × (m ≤ sumEntries) × Held (lent ak ai an ar am) i (i + n) sumLevels
+        × Held (lent ak ai an ar am) j (j + m) sumLevels × Room (lent wk wi wn wr wm) sumEntries ⌝ }
+    ensures { λ r. ⌜ ((b a : Sum) → Lies (lent (ak .entry) (ai .entry) (an .entry) (ar .entry) (am .entry)) i (i + n) sumLevels b → Lies (lent (ak .entry) (ai .entry) (an .entry) (ar .entry) (am .entry)) j (j + m) sumLevels a → Agrees r (lent (wk .exit) (wi .exit) (wn .exit) (wr .exit) (wm .exit)) 0 (ofTwo p b a)) ⌝ }
 {
     match p {
         Primitive::Add => adds::expr_add(

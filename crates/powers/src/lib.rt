@@ -1,5 +1,5 @@
 // Powers and logarithms of sums. Operands lie in one book, the result is formed from the first cell of another on, which has room
-// for 64.
+// for SUM_ENTRIES.
 use cells::Entry;
 use complex::Complex;
 use limits::Refusal;
@@ -9,6 +9,7 @@ ghost use mathlib.Core.Path.{_≡_};
 ghost use mathlib.Core.Bool.{true};
 ghost use Prim.Native.Nat.{_+_, _≤_, _<_};
 ghost use lib.Ieee.Scale.{finite};
+ghost use Rattle.limits.specs.Limits.{sumEntries, sumLevels};
 ghost use Rattle.complex.specs.Arith.{real, one};
 ghost use Rattle.cells.specs.Book.{lent, Room};
 ghost use Rattle.trees.specs.Sums.{Sum, entry};
@@ -40,8 +41,8 @@ pub fn power_by(
     wr: &mut [u64],
     wm: &mut [u64],
 ) -> Formed
-    requires { ⌜ (finite e ≡ true) × (n ≤ 64) × Held (lent ak ai an ar am) i (i + n) 4 × Room (lent wk wi wn wr wm) 64 ⌝ }
-    ensures { λ r. ⌜ ((s : Sum) → Lies (lent (ak .entry) (ai .entry) (an .entry) (ar .entry) (am .entry)) i (i + n) 4 s → Agrees r (lent (wk .exit) (wi .exit) (wn .exit) (wr .exit) (wm .exit)) 0 (power s e)) ⌝ }
+    requires { ⌜ (finite e ≡ true) × (n ≤ sumEntries) × Held (lent ak ai an ar am) i (i + n) sumLevels × Room (lent wk wi wn wr wm) sumEntries ⌝ }
+    ensures { λ r. ⌜ ((s : Sum) → Lies (lent (ak .entry) (ai .entry) (an .entry) (ar .entry) (am .entry)) i (i + n) sumLevels s → Agrees r (lent (wk .exit) (wi .exit) (wn .exit) (wr .exit) (wm .exit)) 0 (power s e)) ⌝ }
 {
     if numbers::is_whole(e) & (0.0 <= e) {
         return raising::whole_power(e, ak, ai, an, ar, am, i, n, wk, wi, wn, wr, wm);
@@ -100,8 +101,8 @@ fn over(
     wr: &mut [u64],
     wm: &mut [u64],
 ) -> Formed
-    requires { ⌜ GoodHead (entry kind n num one) × (n ≤ 64) × Held (lent ak ai an ar am) i (i + n) 4 × Room (lent wk wi wn wr wm) 64 ⌝ }
-    ensures { λ r. ⌜ ((s : Sum) → Lies (lent (ak .entry) (ai .entry) (an .entry) (ar .entry) (am .entry)) i (i + n) 4 s → Agrees r (lent (wk .exit) (wi .exit) (wn .exit) (wr .exit) (wm .exit)) 0 (alone kind num s one)) ⌝ }
+    requires { ⌜ GoodHead (entry kind n num one) × (n ≤ sumEntries) × Held (lent ak ai an ar am) i (i + n) sumLevels × Room (lent wk wi wn wr wm) sumEntries ⌝ }
+    ensures { λ r. ⌜ ((s : Sum) → Lies (lent (ak .entry) (ai .entry) (an .entry) (ar .entry) (am .entry)) i (i + n) sumLevels s → Agrees r (lent (wk .exit) (wi .exit) (wn .exit) (wr .exit) (wm .exit)) 0 (alone kind num s one)) ⌝ }
 {
     let x = Entry {
         kind: kind,
@@ -134,8 +135,8 @@ fn pow_in(
     wr: &mut [u64],
     wm: &mut [u64],
 ) -> Formed
-    requires { ⌜ (n ≤ 64) × (m ≤ 64) × Held (lent gk gi gn gr gm) i (i + n) 4 × Held (lent ak ai an ar am) j (j + m) 4 × Room (lent wk wi wn wr wm) 64 ⌝ }
-    ensures { λ r. ⌜ ((s t : Sum) → Lies (lent (gk .entry) (gi .entry) (gn .entry) (gr .entry) (gm .entry)) i (i + n) 4 s → Lies (lent (ak .entry) (ai .entry) (an .entry) (ar .entry) (am .entry)) j (j + m) 4 t → Agrees r (lent (wk .exit) (wi .exit) (wn .exit) (wr .exit) (wm .exit)) 0 (pow s t)) ⌝ }
+    requires { ⌜ (n ≤ sumEntries) × (m ≤ sumEntries) × Held (lent gk gi gn gr gm) i (i + n) sumLevels × Held (lent ak ai an ar am) j (j + m) sumLevels × Room (lent wk wi wn wr wm) sumEntries ⌝ }
+    ensures { λ r. ⌜ ((s t : Sum) → Lies (lent (gk .entry) (gi .entry) (gn .entry) (gr .entry) (gm .entry)) i (i + n) sumLevels s → Lies (lent (ak .entry) (ai .entry) (an .entry) (ar .entry) (am .entry)) j (j + m) sumLevels t → Agrees r (lent (wk .exit) (wi .exit) (wn .exit) (wr .exit) (wm .exit)) 0 (pow s t)) ⌝ }
 {
     if is_euler(monomials::as_constant(gk, gi, gn, gr, gm, i, n))
         & monomials::is_x(ak, ai, an, ar, am, j, m)
@@ -180,8 +181,8 @@ pub fn pow(
     wr: &mut [u64],
     wm: &mut [u64],
 ) -> Formed
-    requires { ⌜ (n ≤ 64) × (m ≤ 64) × Held (lent ak ai an ar am) i (i + n) 4 × Held (lent ak ai an ar am) j (j + m) 4 × Room (lent wk wi wn wr wm) 64 ⌝ }
-    ensures { λ r. ⌜ ((s t : Sum) → Lies (lent (ak .entry) (ai .entry) (an .entry) (ar .entry) (am .entry)) i (i + n) 4 s → Lies (lent (ak .entry) (ai .entry) (an .entry) (ar .entry) (am .entry)) j (j + m) 4 t → Agrees r (lent (wk .exit) (wi .exit) (wn .exit) (wr .exit) (wm .exit)) 0 (pow s t)) ⌝ }
+    requires { ⌜ (n ≤ sumEntries) × (m ≤ sumEntries) × Held (lent ak ai an ar am) i (i + n) sumLevels × Held (lent ak ai an ar am) j (j + m) sumLevels × Room (lent wk wi wn wr wm) sumEntries ⌝ }
+    ensures { λ r. ⌜ ((s t : Sum) → Lies (lent (ak .entry) (ai .entry) (an .entry) (ar .entry) (am .entry)) i (i + n) sumLevels s → Lies (lent (ak .entry) (ai .entry) (an .entry) (ar .entry) (am .entry)) j (j + m) sumLevels t → Agrees r (lent (wk .exit) (wi .exit) (wn .exit) (wr .exit) (wm .exit)) 0 (pow s t)) ⌝ }
 {
     pow_in(
         ak,
@@ -223,8 +224,8 @@ pub fn log(
     wr: &mut [u64],
     wm: &mut [u64],
 ) -> Formed
-    requires { ⌜ (0 < n) × (n ≤ 64) × Held (lent ak ai an ar am) i (i + n) 4 × Held (lent ak ai an ar am) j (j + m) 4 × Room (lent wk wi wn wr wm) 64 ⌝ }
-    ensures { λ r. ⌜ ((s t : Sum) → Lies (lent (ak .entry) (ai .entry) (an .entry) (ar .entry) (am .entry)) i (i + n) 4 s → Lies (lent (ak .entry) (ai .entry) (an .entry) (ar .entry) (am .entry)) j (j + m) 4 t → Agrees r (lent (wk .exit) (wi .exit) (wn .exit) (wr .exit) (wm .exit)) 0 (log s t)) ⌝ }
+    requires { ⌜ (0 < n) × (n ≤ sumEntries) × Held (lent ak ai an ar am) i (i + n) sumLevels × Held (lent ak ai an ar am) j (j + m) sumLevels × Room (lent wk wi wn wr wm) sumEntries ⌝ }
+    ensures { λ r. ⌜ ((s t : Sum) → Lies (lent (ak .entry) (ai .entry) (an .entry) (ar .entry) (am .entry)) i (i + n) sumLevels s → Lies (lent (ak .entry) (ai .entry) (an .entry) (ar .entry) (am .entry)) j (j + m) sumLevels t → Agrees r (lent (wk .exit) (wi .exit) (wn .exit) (wr .exit) (wm .exit)) 0 (log s t)) ⌝ }
 {
     match real_of(monomials::as_constant(ak, ai, an, ar, am, j, m)) {
         Real::Is(base) => over(
@@ -263,8 +264,8 @@ pub fn pow_of(
     wr: &mut [u64],
     wm: &mut [u64],
 ) -> Formed
-    requires { ⌜ (finite base ≡ true) × (n ≤ 64) × Held (lent ak ai an ar am) i (i + n) 4 × Room (lent wk wi wn wr wm) 64 ⌝ }
-    ensures { λ r. ⌜ ((s : Sum) → Lies (lent (ak .entry) (ai .entry) (an .entry) (ar .entry) (am .entry)) i (i + n) 4 s → Agrees r (lent (wk .exit) (wi .exit) (wn .exit) (wr .exit) (wm .exit)) 0 (pow (constant (real base)) s)) ⌝ }
+    requires { ⌜ (finite base ≡ true) × (n ≤ sumEntries) × Held (lent ak ai an ar am) i (i + n) sumLevels × Room (lent wk wi wn wr wm) sumEntries ⌝ }
+    ensures { λ r. ⌜ ((s : Sum) → Lies (lent (ak .entry) (ai .entry) (an .entry) (ar .entry) (am .entry)) i (i + n) sumLevels s → Agrees r (lent (wk .exit) (wi .exit) (wn .exit) (wr .exit) (wm .exit)) 0 (pow (constant (real base)) s)) ⌝ }
 {
     let mut tk = [0u8; 1];
     let mut ti = [0u8; 1];
@@ -317,8 +318,8 @@ pub fn log_of(
     wr: &mut [u64],
     wm: &mut [u64],
 ) -> Formed
-    requires { ⌜ (0 < n) × (n ≤ 64) × Held (lent ak ai an ar am) i (i + n) 4 × Room (lent wk wi wn wr wm) 64 ⌝ }
-    ensures { λ r. ⌜ ((s : Sum) → Lies (lent (ak .entry) (ai .entry) (an .entry) (ar .entry) (am .entry)) i (i + n) 4 s → Agrees r (lent (wk .exit) (wi .exit) (wn .exit) (wr .exit) (wm .exit)) 0 (log s (constant (real base)))) ⌝ }
+    requires { ⌜ (0 < n) × (n ≤ sumEntries) × Held (lent ak ai an ar am) i (i + n) sumLevels × Room (lent wk wi wn wr wm) sumEntries ⌝ }
+    ensures { λ r. ⌜ ((s : Sum) → Lies (lent (ak .entry) (ai .entry) (an .entry) (ar .entry) (am .entry)) i (i + n) sumLevels s → Agrees r (lent (wk .exit) (wi .exit) (wn .exit) (wr .exit) (wm .exit)) 0 (log s (constant (real base)))) ⌝ }
 {
     over(
         trees::LOG,

@@ -1,11 +1,13 @@
 // The primitives that take 1 beside a sum: 1/s and 1 - s. Operands lie in one book, the result is formed from the first cell of another
-// on, which has room for 64.
+// on, which has room for SUM_ENTRIES.
 use cells::Entry;
 use complex::Complex;
+use limits::SUM_ENTRIES;
 use sums::Formed;
 use terms::Change;
-ghost use Prim.Native.Nat.{_+_, _≤_};
+ghost use Prim.Native.Nat.{_+_, _*_, _≤_};
 ghost use lib.Dec.{T};
+ghost use Rattle.limits.specs.Limits.{sumEntries, sumLevels};
 ghost use Rattle.complex.specs.Arith.{allFinite};
 ghost use Rattle.cells.specs.Book.{lent, Room};
 ghost use Rattle.trees.specs.Sums.{Sum};
@@ -29,7 +31,7 @@ pub fn beside(
     tr: &mut [u64],
     tm: &mut [u64],
 )
-    requires { ⌜ T (allFinite c) × (n ≤ 64) × Held (lent ak ai an ar am) i (i + n) 4 × Room (lent tk ti tn tr tm) 192 ⌝ }
+    requires { ⌜ T (allFinite c) × (n ≤ sumEntries) × Held (lent ak ai an ar am) i (i + n) sumLevels × Room (lent tk ti tn tr tm) (3 * sumEntries) ⌝ }
     ensures { λ _. ⌜ Beside c (lent (ak .entry) (ai .entry) (an .entry) (ar .entry) (am .entry)) i n (lent (tk .exit) (ti .exit) (tn .exit) (tr .exit) (tm .exit)) ⌝ }
 {
     let x = Entry {
@@ -39,7 +41,7 @@ pub fn beside(
         coef: c,
     };
     cells::store(tk, ti, tn, tr, tm, 0, x);
-    gaps::copy_in(ak, ai, an, ar, am, i, n, tk, ti, tn, tr, tm, 64);
+    gaps::copy_in(ak, ai, an, ar, am, i, n, tk, ti, tn, tr, tm, SUM_ENTRIES);
 }
 
 // 1 by the sum of n cells from i on.
@@ -57,14 +59,14 @@ pub fn recip(
     wr: &mut [u64],
     wm: &mut [u64],
 ) -> Formed
-    requires { ⌜ (1 ≤ n) × (n ≤ 64) × Held (lent ak ai an ar am) i (i + n) 4 × Room (lent wk wi wn wr wm) 64 ⌝ }
-    ensures { λ r. ⌜ ((s : Sum) → Lies (lent (ak .entry) (ai .entry) (an .entry) (ar .entry) (am .entry)) i (i + n) 4 s → Agrees r (lent (wk .exit) (wi .exit) (wn .exit) (wr .exit) (wm .exit)) 0 (reciprocal s)) ⌝ }
+    requires { ⌜ (1 ≤ n) × (n ≤ sumEntries) × Held (lent ak ai an ar am) i (i + n) sumLevels × Room (lent wk wi wn wr wm) sumEntries ⌝ }
+    ensures { λ r. ⌜ ((s : Sum) → Lies (lent (ak .entry) (ai .entry) (an .entry) (ar .entry) (am .entry)) i (i + n) sumLevels s → Agrees r (lent (wk .exit) (wi .exit) (wn .exit) (wr .exit) (wm .exit)) 0 (reciprocal s)) ⌝ }
 {
-    let mut tk = [0u8; 192];
-    let mut ti = [0u8; 192];
-    let mut tn = [0u64; 192];
-    let mut tr = [0u64; 192];
-    let mut tm = [0u64; 192];
+    let mut tk = [0u8; 3 * SUM_ENTRIES];
+    let mut ti = [0u8; 3 * SUM_ENTRIES];
+    let mut tn = [0u64; 3 * SUM_ENTRIES];
+    let mut tr = [0u64; 3 * SUM_ENTRIES];
+    let mut tm = [0u64; 3 * SUM_ENTRIES];
     beside(
         Complex::ONE,
         ak,
@@ -80,7 +82,22 @@ pub fn recip(
         &mut tr,
         &mut tm,
     );
-    quotients::div(&tk, &ti, &tn, &tr, &tm, 0, 1, 64, n, wk, wi, wn, wr, wm)
+    quotients::div(
+        &tk,
+        &ti,
+        &tn,
+        &tr,
+        &tm,
+        0,
+        1,
+        SUM_ENTRIES,
+        n,
+        wk,
+        wi,
+        wn,
+        wr,
+        wm,
+    )
 }
 
 // 1 less the sum of n cells from i on.
@@ -98,14 +115,14 @@ pub fn not(
     wr: &mut [u64],
     wm: &mut [u64],
 ) -> Formed
-    requires { ⌜ (n ≤ 64) × Held (lent ak ai an ar am) i (i + n) 4 × Room (lent wk wi wn wr wm) 64 ⌝ }
-    ensures { λ r. ⌜ ((s : Sum) → Lies (lent (ak .entry) (ai .entry) (an .entry) (ar .entry) (am .entry)) i (i + n) 4 s → Agrees r (lent (wk .exit) (wi .exit) (wn .exit) (wr .exit) (wm .exit)) 0 (notSum s)) ⌝ }
+    requires { ⌜ (n ≤ sumEntries) × Held (lent ak ai an ar am) i (i + n) sumLevels × Room (lent wk wi wn wr wm) sumEntries ⌝ }
+    ensures { λ r. ⌜ ((s : Sum) → Lies (lent (ak .entry) (ai .entry) (an .entry) (ar .entry) (am .entry)) i (i + n) sumLevels s → Agrees r (lent (wk .exit) (wi .exit) (wn .exit) (wr .exit) (wm .exit)) 0 (notSum s)) ⌝ }
 {
-    let mut tk = [0u8; 192];
-    let mut ti = [0u8; 192];
-    let mut tn = [0u64; 192];
-    let mut tr = [0u64; 192];
-    let mut tm = [0u64; 192];
+    let mut tk = [0u8; 3 * SUM_ENTRIES];
+    let mut ti = [0u8; 3 * SUM_ENTRIES];
+    let mut tn = [0u64; 3 * SUM_ENTRIES];
+    let mut tr = [0u64; 3 * SUM_ENTRIES];
+    let mut tm = [0u64; 3 * SUM_ENTRIES];
     beside(
         Complex::ONE,
         ak,
@@ -130,7 +147,7 @@ pub fn not(
         &tm,
         0,
         1,
-        64,
+        SUM_ENTRIES,
         n,
         wk,
         wi,

@@ -1,7 +1,8 @@
-// The quotient of two sums. Operands lie in one book, the result is formed from the first cell of another on, which has room for 64.
+// The quotient of two sums. Operands lie in one book, the result is formed from the first cell of another on, which has room for SUM_ENTRIES.
 use cells::Entry;
 use complex::Complex;
 use limits::Refusal;
+use limits::SUM_LEVELS;
 use monomials::Constant;
 use sums::Formed;
 ghost use mathlib.Core.Path.{_≡_};
@@ -9,6 +10,7 @@ ghost use mathlib.Core.Bool.{cond};
 ghost use Prim.Native.Nat.{_+_, _≤_};
 ghost use lib.Dec.{eqb};
 ghost use lib.Ieee.{neg};
+ghost use Rattle.limits.specs.Limits.{sumEntries, sumLevels};
 ghost use Rattle.numbers.specs.Ops.{_⊖_};
 ghost use Rattle.numbers.specs.Signs.{one64};
 ghost use Rattle.cells.specs.Book.{lent, Room};
@@ -34,8 +36,8 @@ fn can_div_term(
     am: &[u64],
 ) -> bool
     requires { ⌜ (1 ≤ x .kind) × (x .kind ≤ 8) × (1 ≤ y .kind) × (y .kind ≤ 8) ⌝ }
-    requires { ⌜ Held (lent ak ai an ar am) i (i + x .inside) 4 × Held (lent ak ai an ar am) j (j + y .inside) 4 ⌝ }
-    ensures { λ r. ⌜ ((t v : Sum) → Lies (lent (ak .entry) (ai .entry) (an .entry) (ar .entry) (am .entry)) i (i + x .inside) 4 t → Lies (lent (ak .entry) (ai .entry) (an .entry) (ar .entry) (am .entry)) j (j + y .inside) 4 v → r ≡ divable x t y v) ⌝ }
+    requires { ⌜ Held (lent ak ai an ar am) i (i + x .inside) sumLevels × Held (lent ak ai an ar am) j (j + y .inside) sumLevels ⌝ }
+    ensures { λ r. ⌜ ((t v : Sum) → Lies (lent (ak .entry) (ai .entry) (an .entry) (ar .entry) (am .entry)) i (i + x .inside) sumLevels t → Lies (lent (ak .entry) (ai .entry) (an .entry) (ar .entry) (am .entry)) j (j + y .inside) sumLevels v → r ≡ divable x t y v) ⌝ }
 {
     let code = terms::quotient_code(x.kind, y.kind);
     if code == terms::X_BY_X {
@@ -48,7 +50,23 @@ fn can_div_term(
         return monomials::is_one(x);
     }
     if code == terms::ALIKE {
-        return sums::eq_term(x, ak, ai, an, ar, am, i, y, ak, ai, an, ar, am, j, 4);
+        return sums::eq_term(
+            x,
+            ak,
+            ai,
+            an,
+            ar,
+            am,
+            i,
+            y,
+            ak,
+            ai,
+            an,
+            ar,
+            am,
+            j,
+            SUM_LEVELS,
+        );
     }
     false
 }
@@ -65,8 +83,8 @@ fn can_div(
     y: Entry,
     j: usize,
 ) -> bool
-    requires { ⌜ Held (lent ak ai an ar am) i (i + n) 4 × ((v : Sum) × Divisor (lent ak ai an ar am) y j v) ⌝ }
-    ensures { λ r. ⌜ ((s v : Sum) → Lies (lent (ak .entry) (ai .entry) (an .entry) (ar .entry) (am .entry)) i (i + n) 4 s → Divisor (lent (ak .entry) (ai .entry) (an .entry) (ar .entry) (am .entry)) y j v → r ≡ allDivable y v s) ⌝ }
+    requires { ⌜ Held (lent ak ai an ar am) i (i + n) sumLevels × ((v : Sum) × Divisor (lent ak ai an ar am) y j v) ⌝ }
+    ensures { λ r. ⌜ ((s v : Sum) → Lies (lent (ak .entry) (ai .entry) (an .entry) (ar .entry) (am .entry)) i (i + n) sumLevels s → Divisor (lent (ak .entry) (ai .entry) (an .entry) (ar .entry) (am .entry)) y j v → r ≡ allDivable y v s) ⌝ }
 {
     let end = i + n;
     let mut q = i;
@@ -111,7 +129,7 @@ fn div_term(
     n: usize,
 ) -> Formed
     requires { ⌜ (1 ≤ x .kind) × (x .kind ≤ 8) × ((v : Sum) × Divisor (lent ak ai an ar am) y j v) × Work (lent wk wi wn wr wm) n ⌝ }
-    ensures { λ r. ⌜ ((s v : Sum) → Lies (lent (wk .entry) (wi .entry) (wn .entry) (wr .entry) (wm .entry)) 0 n 4 s → Divisor (lent (ak .entry) (ai .entry) (an .entry) (ar .entry) (am .entry)) y j v → Agrees r (lent (wk .exit) (wi .exit) (wn .exit) (wr .exit) (wm .exit)) 0 (divTerm y v x s)) ⌝ }
+    ensures { λ r. ⌜ ((s v : Sum) → Lies (lent (wk .entry) (wi .entry) (wn .entry) (wr .entry) (wm .entry)) 0 n sumLevels s → Divisor (lent (ak .entry) (ai .entry) (an .entry) (ar .entry) (am .entry)) y j v → Agrees r (lent (wk .exit) (wi .exit) (wn .exit) (wr .exit) (wm .exit)) 0 (divTerm y v x s)) ⌝ }
 {
     let code = terms::quotient_code(x.kind, y.kind);
     let c = x.coef.div(y.coef);
@@ -158,8 +176,8 @@ fn div_each(
     wr: &mut [u64],
     wm: &mut [u64],
 ) -> Formed
-    requires { ⌜ Held (lent ak ai an ar am) i (i + n) 4 × ((v : Sum) × Divisor (lent ak ai an ar am) y j v) × Room (lent wk wi wn wr wm) 64 ⌝ }
-    ensures { λ r. ⌜ ((s v : Sum) → Lies (lent (ak .entry) (ai .entry) (an .entry) (ar .entry) (am .entry)) i (i + n) 4 s → Divisor (lent (ak .entry) (ai .entry) (an .entry) (ar .entry) (am .entry)) y j v → Agrees r (lent (wk .exit) (wi .exit) (wn .exit) (wr .exit) (wm .exit)) 0 (eachInto (λ x t u. divTerm y v x u) none s)) ⌝ }
+    requires { ⌜ Held (lent ak ai an ar am) i (i + n) sumLevels × ((v : Sum) × Divisor (lent ak ai an ar am) y j v) × Room (lent wk wi wn wr wm) sumEntries ⌝ }
+    ensures { λ r. ⌜ ((s v : Sum) → Lies (lent (ak .entry) (ai .entry) (an .entry) (ar .entry) (am .entry)) i (i + n) sumLevels s → Divisor (lent (ak .entry) (ai .entry) (an .entry) (ar .entry) (am .entry)) y j v → Agrees r (lent (wk .exit) (wi .exit) (wn .exit) (wr .exit) (wm .exit)) 0 (eachInto (λ x t u. divTerm y v x u) none s)) ⌝ }
 {
     let end = i + n;
     let mut q = i;
@@ -193,8 +211,9 @@ fn constant_by(
     wr: &mut [u64],
     wm: &mut [u64],
 ) -> Formed
-    requires { ⌜ (n ≤ 64) × (1 ≤ m) × (m ≤ 64) × Held (lent ak ai an ar am) i (i + n) 4 × Held (lent ak ai an ar am) j (j + m) 4 × Room (lent wk wi wn wr wm) 64 ⌝ }
-    ensures { λ r. ⌜ ((s t : Sum) → Lies (lent (ak .entry) (ai .entry) (an .entry) (ar .entry) (am .entry)) i (i + n) 4 s → Lies (lent (ak .entry) (ai .entry) (an .entry) (ar .entry) (am .entry)) j (j + m) 4 t → Agrees r (lent (wk .exit) (wi .exit) (wn .exit) (wr .exit) (wm .exit)) 0 (divBySeveral s t (at c))) ⌝ }
+    requires { ⌜ (n ≤ sumEntries) × (1 ≤ m) × (m ≤ sumEntries) × Held (lent ak ai an ar am) i (i + n) sumLevels
+        × Held (lent ak ai an ar am) j (j + m) sumLevels × Room (lent wk wi wn wr wm) sumEntries ⌝ }
+    ensures { λ r. ⌜ ((s t : Sum) → Lies (lent (ak .entry) (ai .entry) (an .entry) (ar .entry) (am .entry)) i (i + n) sumLevels s → Lies (lent (ak .entry) (ai .entry) (an .entry) (ar .entry) (am .entry)) j (j + m) sumLevels t → Agrees r (lent (wk .exit) (wi .exit) (wn .exit) (wr .exit) (wm .exit)) 0 (divBySeveral s t (at c))) ⌝ }
 {
     let zero = c.is_zero();
     let one = c.is_one();
@@ -231,8 +250,9 @@ fn by_several(
     wr: &mut [u64],
     wm: &mut [u64],
 ) -> Formed
-    requires { ⌜ (n ≤ 64) × (1 ≤ m) × (m ≤ 64) × Held (lent ak ai an ar am) i (i + n) 4 × Held (lent ak ai an ar am) j (j + m) 4 × Room (lent wk wi wn wr wm) 64 ⌝ }
-    ensures { λ r. ⌜ ((s t : Sum) → Lies (lent (ak .entry) (ai .entry) (an .entry) (ar .entry) (am .entry)) i (i + n) 4 s → Lies (lent (ak .entry) (ai .entry) (an .entry) (ar .entry) (am .entry)) j (j + m) 4 t → Agrees r (lent (wk .exit) (wi .exit) (wn .exit) (wr .exit) (wm .exit)) 0 (divBySeveral s t (asConstant s))) ⌝ }
+    requires { ⌜ (n ≤ sumEntries) × (1 ≤ m) × (m ≤ sumEntries) × Held (lent ak ai an ar am) i (i + n) sumLevels
+        × Held (lent ak ai an ar am) j (j + m) sumLevels × Room (lent wk wi wn wr wm) sumEntries ⌝ }
+    ensures { λ r. ⌜ ((s t : Sum) → Lies (lent (ak .entry) (ai .entry) (an .entry) (ar .entry) (am .entry)) i (i + n) sumLevels s → Lies (lent (ak .entry) (ai .entry) (an .entry) (ar .entry) (am .entry)) j (j + m) sumLevels t → Agrees r (lent (wk .exit) (wi .exit) (wn .exit) (wr .exit) (wm .exit)) 0 (divBySeveral s t (asConstant s))) ⌝ }
 {
     match monomials::as_constant(ak, ai, an, ar, am, i, n) {
         Constant::Is(c) => constant_by(c, ak, ai, an, ar, am, i, n, j, m, wk, wi, wn, wr, wm),
@@ -257,8 +277,9 @@ pub fn div(
     wr: &mut [u64],
     wm: &mut [u64],
 ) -> Formed
-    requires { ⌜ (n ≤ 64) × (1 ≤ m) × (m ≤ 64) × Held (lent ak ai an ar am) i (i + n) 4 × Held (lent ak ai an ar am) j (j + m) 4 × Room (lent wk wi wn wr wm) 64 ⌝ }
-    ensures { λ r. ⌜ ((s t : Sum) → Lies (lent (ak .entry) (ai .entry) (an .entry) (ar .entry) (am .entry)) i (i + n) 4 s → Lies (lent (ak .entry) (ai .entry) (an .entry) (ar .entry) (am .entry)) j (j + m) 4 t → Agrees r (lent (wk .exit) (wi .exit) (wn .exit) (wr .exit) (wm .exit)) 0 (quotient s t)) ⌝ }
+    requires { ⌜ (n ≤ sumEntries) × (1 ≤ m) × (m ≤ sumEntries) × Held (lent ak ai an ar am) i (i + n) sumLevels
+        × Held (lent ak ai an ar am) j (j + m) sumLevels × Room (lent wk wi wn wr wm) sumEntries ⌝ }
+    ensures { λ r. ⌜ ((s t : Sum) → Lies (lent (ak .entry) (ai .entry) (an .entry) (ar .entry) (am .entry)) i (i + n) sumLevels s → Lies (lent (ak .entry) (ai .entry) (an .entry) (ar .entry) (am .entry)) j (j + m) sumLevels t → Agrees r (lent (wk .exit) (wi .exit) (wn .exit) (wr .exit) (wm .exit)) 0 (quotient s t)) ⌝ }
 {
     let y = cells::load(ak, ai, an, ar, am, j);
     if 1 + y.inside as usize != m {

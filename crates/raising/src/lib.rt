@@ -1,10 +1,13 @@
-// Whole powers of sums. The base lies in one book, the result is formed from the first cell of another on, which has room for 64.
+// Whole powers of sums. The base lies in one book, the result is formed from the first cell of another on, which has room for SUM_ENTRIES.
 use complex::Complex;
 use limits::Refusal;
+use limits::SUM_ENTRIES;
+use limits::SUM_LEVELS;
 use numbers::SmallWhole;
 use sums::Formed;
 ghost use mathlib.Core.Path.{_≡_};
-ghost use Prim.Native.Nat.{_+_, _≤_};
+ghost use Prim.Native.Nat.{_+_, _*_, _≤_};
+ghost use Rattle.limits.specs.Limits.{sumEntries, sumLevels};
 ghost use Rattle.numbers.specs.Numbers.{smallWhole};
 ghost use Rattle.cells.specs.Book.{lent, Room};
 ghost use Rattle.trees.specs.Sums.{Sum};
@@ -16,10 +19,10 @@ ghost use Rattle.raising.specs.Contract.Turns.{nextPlace};
 fn next_place(p: usize) -> usize
     ensures { λ r. ⌜ r ≡ nextPlace p ⌝ }
 {
-    if p == 128 {
-        return 64;
+    if p == factors::BEHIND_BOTH {
+        return SUM_ENTRIES;
     }
-    128
+    factors::BEHIND_BOTH
 }
 
 // So many more products of the sum of n cells with itself, formed by turns beside it; the last one is copied out.
@@ -37,8 +40,8 @@ fn raise_in(
     wr: &mut [u64],
     wm: &mut [u64],
 ) -> Formed
-    requires { ⌜ (n ≤ 64) × Held (lent tk ti tn tr tm) 0 (0 + n) 4 × Room (lent tk ti tn tr tm) 192 × Room (lent wk wi wn wr wm) 64 ⌝ }
-    ensures { λ r. ⌜ ((s : Sum) → Lies (lent (tk .entry) (ti .entry) (tn .entry) (tr .entry) (tm .entry)) 0 (0 + n) 4 s → Agrees r (lent (wk .exit) (wi .exit) (wn .exit) (wr .exit) (wm .exit)) 0 (raised times s s)) ⌝ }
+    requires { ⌜ (n ≤ sumEntries) × Held (lent tk ti tn tr tm) 0 (0 + n) sumLevels × Room (lent tk ti tn tr tm) (3 * sumEntries) × Room (lent wk wi wn wr wm) sumEntries ⌝ }
+    ensures { λ r. ⌜ ((s : Sum) → Lies (lent (tk .entry) (ti .entry) (tn .entry) (tr .entry) (tm .entry)) 0 (0 + n) sumLevels s → Agrees r (lent (wk .exit) (wi .exit) (wn .exit) (wr .exit) (wm .exit)) 0 (raised times s s)) ⌝ }
 {
     let mut p = 0usize;
     let mut len = n;
@@ -72,14 +75,14 @@ fn raise(
     wr: &mut [u64],
     wm: &mut [u64],
 ) -> Formed
-    requires { ⌜ (n ≤ 64) × Held (lent ak ai an ar am) i (i + n) 4 × Room (lent wk wi wn wr wm) 64 ⌝ }
-    ensures { λ r. ⌜ ((s : Sum) → Lies (lent (ak .entry) (ai .entry) (an .entry) (ar .entry) (am .entry)) i (i + n) 4 s → Agrees r (lent (wk .exit) (wi .exit) (wn .exit) (wr .exit) (wm .exit)) 0 (raised times s s)) ⌝ }
+    requires { ⌜ (n ≤ sumEntries) × Held (lent ak ai an ar am) i (i + n) sumLevels × Room (lent wk wi wn wr wm) sumEntries ⌝ }
+    ensures { λ r. ⌜ ((s : Sum) → Lies (lent (ak .entry) (ai .entry) (an .entry) (ar .entry) (am .entry)) i (i + n) sumLevels s → Agrees r (lent (wk .exit) (wi .exit) (wn .exit) (wr .exit) (wm .exit)) 0 (raised times s s)) ⌝ }
 {
-    let mut tk = [0u8; 192];
-    let mut ti = [0u8; 192];
-    let mut tn = [0u64; 192];
-    let mut tr = [0u64; 192];
-    let mut tm = [0u64; 192];
+    let mut tk = [0u8; 3 * SUM_ENTRIES];
+    let mut ti = [0u8; 3 * SUM_ENTRIES];
+    let mut tn = [0u64; 3 * SUM_ENTRIES];
+    let mut tr = [0u64; 3 * SUM_ENTRIES];
+    let mut tm = [0u64; 3 * SUM_ENTRIES];
     gaps::copy_in(
         ak,
         ai,
@@ -111,7 +114,7 @@ fn raise(
     )
 }
 
-// The sum of n cells from i on to the power e, which is whole and not negative: 0 gives the constant 0, and above 64 none is formed.
+// The sum of n cells from i on to the power e, which is whole and not negative: 0 gives the constant 0, and above HIGHEST_POWER none is formed.
 pub fn whole_power(
     e: f64,
     ak: &[u8],
@@ -127,8 +130,8 @@ pub fn whole_power(
     wr: &mut [u64],
     wm: &mut [u64],
 ) -> Formed
-    requires { ⌜ (n ≤ 64) × Held (lent ak ai an ar am) i (i + n) 4 × Room (lent wk wi wn wr wm) 64 ⌝ }
-    ensures { λ r. ⌜ ((s : Sum) → Lies (lent (ak .entry) (ai .entry) (an .entry) (ar .entry) (am .entry)) i (i + n) 4 s → Agrees r (lent (wk .exit) (wi .exit) (wn .exit) (wr .exit) (wm .exit)) 0 (wholePower s (smallWhole e))) ⌝ }
+    requires { ⌜ (n ≤ sumEntries) × Held (lent ak ai an ar am) i (i + n) sumLevels × Room (lent wk wi wn wr wm) sumEntries ⌝ }
+    ensures { λ r. ⌜ ((s : Sum) → Lies (lent (ak .entry) (ai .entry) (an .entry) (ar .entry) (am .entry)) i (i + n) sumLevels s → Agrees r (lent (wk .exit) (wi .exit) (wn .exit) (wr .exit) (wm .exit)) 0 (wholePower s (smallWhole e))) ⌝ }
 {
     match numbers::small_whole(e) {
         SmallWhole::Is(k) => {
@@ -138,7 +141,7 @@ pub fn whole_power(
             raise(k - 1, ak, ai, an, ar, am, i, n, wk, wi, wn, wr, wm)
         }
         SmallWhole::Other => {
-            if !factors::can_mul(i, n, i, n, ak, ai, 4) {
+            if !factors::can_mul(i, n, i, n, ak, ai, SUM_LEVELS) {
                 return Formed::Refused(Refusal::TooComplex);
             }
             Formed::Refused(Refusal::BigPower)

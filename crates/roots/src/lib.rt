@@ -1,5 +1,5 @@
 // Roots of sums, and any power that isn't whole: of one term whose coefficients are 1, down through Div. The sum lies in one book,
-// the result is formed from the first cell of another on, which has room for 64.
+// the result is formed from the first cell of another on, which has room for SUM_ENTRIES.
 use cells::Entry;
 use complex::Complex;
 use limits::Refusal;
@@ -8,6 +8,7 @@ ghost use mathlib.Core.Path.{_≡_};
 ghost use mathlib.Core.Bool.{true};
 ghost use Prim.Native.Nat.{_+_};
 ghost use lib.Ieee.Scale.{finite};
+ghost use Rattle.limits.specs.Limits.{sumEntries, sumLevels};
 ghost use Rattle.cells.specs.Book.{lent, Room};
 ghost use Rattle.trees.specs.Sums.{Sum};
 ghost use Rattle.terms.specs.Power.{rootable, unitCoefs, rootOfOne, rooted};
@@ -24,8 +25,8 @@ pub fn can_root(
     i: usize,
     n: usize,
 ) -> bool
-    requires { ⌜ Held (lent ak ai an ar am) i (i + n) 4 ⌝ }
-    ensures { λ r. ⌜ ((s : Sum) → Lies (lent (ak .entry) (ai .entry) (an .entry) (ar .entry) (am .entry)) i (i + n) 4 s → r ≡ rootable s) ⌝ }
+    requires { ⌜ Held (lent ak ai an ar am) i (i + n) sumLevels ⌝ }
+    ensures { λ r. ⌜ ((s : Sum) → Lies (lent (ak .entry) (ai .entry) (an .entry) (ar .entry) (am .entry)) i (i + n) sumLevels s → r ≡ rootable s) ⌝ }
 {
     let end = i + n;
     let mut k = i;
@@ -55,8 +56,8 @@ pub fn unit_coefs(
     i: usize,
     n: usize,
 ) -> bool
-    requires { ⌜ Held (lent ak ai an ar am) i (i + n) 4 ⌝ }
-    ensures { λ r. ⌜ ((s : Sum) → Lies (lent (ak .entry) (ai .entry) (an .entry) (ar .entry) (am .entry)) i (i + n) 4 s → r ≡ unitCoefs s) ⌝ }
+    requires { ⌜ Held (lent ak ai an ar am) i (i + n) sumLevels ⌝ }
+    ensures { λ r. ⌜ ((s : Sum) → Lies (lent (ak .entry) (ai .entry) (an .entry) (ar .entry) (am .entry)) i (i + n) sumLevels s → r ≡ unitCoefs s) ⌝ }
 {
     let mut end = i + n;
     let mut k = i;
@@ -146,7 +147,7 @@ pub fn root(
     wr: &mut [u64],
     wm: &mut [u64],
 ) -> Formed
-    requires { ⌜ (finite e ≡ true) × ((s : Sum) × Rooting (lent ak ai an ar am) i n s) × Room (lent wk wi wn wr wm) 64 ⌝ }
+    requires { ⌜ (finite e ≡ true) × ((s : Sum) × Rooting (lent ak ai an ar am) i n s) × Room (lent wk wi wn wr wm) sumEntries ⌝ }
     ensures { λ r. ⌜ ((s : Sum) → Rooting (lent (ak .entry) (ai .entry) (an .entry) (ar .entry) (am .entry)) i n s → Agrees r (lent (wk .exit) (wi .exit) (wn .exit) (wr .exit) (wm .exit)) 0 (rooted e s)) ⌝ }
 {
     gaps::copy_in(ak, ai, an, ar, am, i, n, wk, wi, wn, wr, wm, 0);

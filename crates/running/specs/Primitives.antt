@@ -38,7 +38,7 @@ unfoldable pub times : ℕ → Float → Float → Float
 times zero b p = p
 times (suc n) b p = times n b (p ⊗ b)
 
--- a whole exponent from 0 to 64: 0 gives 0, as in reading
+-- a whole exponent from 0 to highestPower: 0 gives 0, as in reading
 abbrev pub powerOf : Float → SmallWhole → Left
 powerOf b (Is zero) = One zero64
 powerOf b (Is (suc n)) = One (times n b b)

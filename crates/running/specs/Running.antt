@@ -6,6 +6,7 @@ use lib.Dec.{eqb, leb}
 use lib.ListN.{length}
 use lib.Ieee.{Float}
 use lib.Ieee.Scale.{finite}
+use Rattle.limits.specs.Limits.{runValues}
 use Rattle.numbers.specs.Signs.{zero64}
 use Rattle.limits.specs.declared.Refusal.{Refusal}
 use Rattle.limits.specs.declared.Refusal.the-variants.{TooManyVariables, NotSupported, NoOutput, TooManyOutputs, InterpreterBug, NoRoom, NotFinite}
@@ -40,7 +41,7 @@ abbrev pub andThen : Out → (Running → Out) → Out
 andThen (done st) f = f st
 andThen (refusedAt q at) f = refusedAt q at
 
--- one step more, with so many numbers on the stack and held; over 256 of them is 12
+-- one step more, with so many numbers on the stack and held; over runValues of them is 12
 abbrev pub ifRoom : Bool → ℕ → ℕ → List Float → Running → Out
 ifRoom true n at s st = done (record { stack = s; steps = st .steps + 1; peak = max (st .peak) n })
 ifRoom false n at s st = refusedAt NoRoom at
@@ -48,7 +49,7 @@ ifRoom false n at s st = refusedAt NoRoom at
 -- the record at a place has taken its own step, with h numbers held
 abbrev pub settle : ℕ → ℕ → Running → Act → Out
 settle h at st (stop q) = refusedAt q at
-settle h at st (went s) = ifRoom (leb (length s + h) 256) (length s + h) at s st
+settle h at st (went s) = ifRoom (leb (length s + h) runValues) (length s + h) at s st
 
 -- ---- modifiers: On alone is run
 

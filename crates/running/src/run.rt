@@ -7,12 +7,15 @@ use crate::Way;
 use formats::record::Modifier;
 use formats::record::Record;
 use formats::record::Verdict;
+use limits::LIST_LEVELS;
+use limits::RUN_VALUES;
 use limits::Refusal;
 ghost use mathlib.Core.Path.{_≡_};
 ghost use mathlib.Core.List.{List};
 ghost use Prim.Native.Nat.{_+_, _-_, _≤_, _<_, max};
 ghost use lib.ListN.{length};
 ghost use lib.Ieee.{Float};
+ghost use Rattle.limits.specs.Limits.{listRecords, runValues};
 ghost use Rattle.formats.specs.declared.record.Verdict.the-variants.{Good};
 ghost use Rattle.formats.specs.Tree.{forest, parse};
 ghost use Rattle.formats.specs.Rules.{verdict};
@@ -25,16 +28,16 @@ fn larger(a: usize, b: usize) -> usize
     if a < b { b } else { a }
 }
 
-// One step more, at most 256 values on the stack and held, and the peak.
+// One step more, at most RUN_VALUES on the stack and held, and the peak.
 fn settled(d: Did, at: usize, st: State, held: usize) -> Ran
-    requires { ⌜ Under 259 d × (held ≤ 257) × (st .steps < 2048) ⌝ }
+    requires { ⌜ Under (runValues + 3) d × (held ≤ runValues + 1) × (st .steps < listRecords) ⌝ }
     ensures { λ r. ⌜ ((xs : List Float) → viewRan xs r ≡ settle held at (viewState xs st) (viewDid xs d)) ⌝ }
     ensures { λ r. ⌜ Room held (st .steps + 1) r ⌝ }
 {
     match d {
         Did::Stop(q) => Ran::Refused(q, at),
         Did::Went(m) => {
-            if m + held <= 256 {
+            if m + held <= RUN_VALUES {
                 let peak = larger(st.peak, m + held);
                 Ran::Done(State {
                     n: m,
@@ -182,7 +185,7 @@ fn run_nodes(list: &[u8], x: f64) -> RunAnswer
     requires { ⌜ verdict (now list) ≡ Good ⌝ }
     ensures { λ r. ⌜ r ≡ runNodes (parse (now (list .entry))) x ⌝ }
 {
-    let mut stack = [0.0; 259];
+    let mut stack = [0.0; RUN_VALUES + 3];
     stack[0] = x;
     let st = State {
         n: 1,
@@ -190,7 +193,7 @@ fn run_nodes(list: &[u8], x: f64) -> RunAnswer
         peak: 1,
     };
     let n = formats::record::count_records(list);
-    let ran = walk(list, 0, n, &mut stack, st, 0, 129);
+    let ran = walk(list, 0, n, &mut stack, st, 0, LIST_LEVELS);
     last_of(ran, &stack)
 }
 

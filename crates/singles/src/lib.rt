@@ -1,8 +1,9 @@
 // What a primitive forms of the one sum that it takes. It lies in one book, the result is formed from the first cell of another on, which
-// has room for 64.
+// has room for SUM_ENTRIES.
 use formats::record::Primitive;
 use sums::Formed;
 ghost use Prim.Native.Nat.{_+_, _≤_};
+ghost use Rattle.limits.specs.Limits.{sumEntries, sumLevels};
 ghost use Rattle.cells.specs.Book.{lent, Room};
 ghost use Rattle.trees.specs.Sums.{Sum};
 ghost use Rattle.sums.specs.Contract.Lies.{Lies, Held, Agrees};
@@ -24,8 +25,8 @@ pub fn form_one(
     wr: &mut [u64],
     wm: &mut [u64],
 ) -> Formed
-    requires { ⌜ (1 ≤ n) × (n ≤ 64) × Held (lent ak ai an ar am) i (i + n) 4 × Room (lent wk wi wn wr wm) 64 ⌝ }
-    ensures { λ r. ⌜ ((s : Sum) → Lies (lent (ak .entry) (ai .entry) (an .entry) (ar .entry) (am .entry)) i (i + n) 4 s → Agrees r (lent (wk .exit) (wi .exit) (wn .exit) (wr .exit) (wm .exit)) 0 (ofOne p s)) ⌝ }
+    requires { ⌜ (1 ≤ n) × (n ≤ sumEntries) × Held (lent ak ai an ar am) i (i + n) sumLevels × Room (lent wk wi wn wr wm) sumEntries ⌝ }
+    ensures { λ r. ⌜ ((s : Sum) → Lies (lent (ak .entry) (ai .entry) (an .entry) (ar .entry) (am .entry)) i (i + n) sumLevels s → Agrees r (lent (wk .exit) (wi .exit) (wn .exit) (wr .exit) (wm .exit)) 0 (ofOne p s)) ⌝ }
 {
     match p {
         Primitive::Neg => forms::negated(ak, ai, an, ar, am, i, n, wk, wi, wn, wr, wm),

@@ -2,6 +2,7 @@
 use cells::Entry;
 use sums::Formed;
 ghost use mathlib.Core.Path.{_≡_};
+ghost use Rattle.limits.specs.Limits.{sumEntries};
 ghost use Rattle.trees.specs.Kinds.{X};
 ghost use Prim.Native.Nat.{_≤_};
 ghost use Rattle.cells.specs.Book.{lent};
@@ -26,7 +27,7 @@ fn derive_function(
     wm: &mut [u64],
     len: usize,
 ) -> Formed
-    requires { ⌜ Ready (lent wk wi wn wr wm) len (lent ak ai an ar am) i n × (1 ≤ n) × (n ≤ 64) × (3 ≤ x .kind) × (x .kind ≤ 8) ⌝ }
+    requires { ⌜ Ready (lent wk wi wn wr wm) len (lent ak ai an ar am) i n × (1 ≤ n) × (n ≤ sumEntries) × (3 ≤ x .kind) × (x .kind ≤ 8) ⌝ }
     ensures { λ r. ⌜ Into (lent (wk .entry) (wi .entry) (wn .entry) (wr .entry) (wm .entry)) (lent (wk .exit) (wi .exit) (wn .exit) (wr .exit) (wm .exit)) len (lent (ak .entry) (ai .entry) (an .entry) (ar .entry) (am .entry)) i n r (λ t s. deriveInto x t s) ⌝ }
 {
     if x.kind == trees::LOG {
@@ -74,7 +75,7 @@ pub fn derive_entry(
     wm: &mut [u64],
     len: usize,
 ) -> Formed
-    requires { ⌜ Ready (lent wk wi wn wr wm) len (lent ak ai an ar am) i n × (n ≤ 64) × (1 ≤ x .kind) × (x .kind ≤ 8) × (eqb n 0 ≡ eqb (x .kind) X) ⌝ }
+    requires { ⌜ Ready (lent wk wi wn wr wm) len (lent ak ai an ar am) i n × (n ≤ sumEntries) × (1 ≤ x .kind) × (x .kind ≤ 8) × (eqb n 0 ≡ eqb (x .kind) X) ⌝ }
     ensures { λ r. ⌜ Into (lent (wk .entry) (wi .entry) (wn .entry) (wr .entry) (wm .entry)) (lent (wk .exit) (wi .exit) (wn .exit) (wr .exit) (wm .exit)) len (lent (ak .entry) (ai .entry) (an .entry) (ar .entry) (am .entry)) i n r (λ t s. deriveInto x t s) ⌝ }
 {
     if x.kind == trees::X {

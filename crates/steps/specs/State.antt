@@ -4,6 +4,7 @@ use mathlib.Core.Bool.{Bool, true, false, _||_, cond}
 use mathlib.Core.List.{List, [], _∷_, _++_}
 use lib.Dec.{leb}
 use lib.ListN.{length, take, drop}
+use Rattle.limits.specs.Limits.{stackEntries}
 use Rattle.limits.specs.declared.Refusal.{Refusal}
 use Rattle.limits.specs.declared.Refusal.the-variants.{TooManyVariables, NoRoom}
 use Rattle.trees.specs.Sums.{Sum}
@@ -45,9 +46,9 @@ takingIf false at n st f = stop at TooManyVariables (withStack [] st)
 unfoldable pub taking : ℕ → ℕ → State → (List Sum → State → Walked) → Walked
 taking at n st f = takingIf (leb n (length (st .stack))) at n st f
 
--- sums are put on the stack, the first of them on top; 12 where there are then over 1,024 entries on the stack and held
+-- sums are put on the stack, the first of them on top; 12 where there are then over stackEntries on the stack and held
 unfoldable pub lend : ℕ → ℕ → List Sum → State → Walked
-lend at h ss st = cond (leb (h + total ss + total (st .stack)) 1024) (went (withStack (ss ++ st .stack) st)) (stopped NoRoom at false)
+lend at h ss st = cond (leb (h + total ss + total (st .stack)) stackEntries) (went (withStack (ss ++ st .stack) st)) (stopped NoRoom at false)
 
 -- what a step forms is put on the stack
 abbrev pub push : ℕ → ℕ → Outcome → State → Walked

@@ -1,6 +1,7 @@
 // The state of reading beside the arena, refusals, and sums put on the stack. The stack of sums lies in the arena from its first slot on;
 // from v on lies what is held.
 use limits::Refusal;
+use limits::SUM_ENTRIES;
 use sums::Formed;
 ghost use mathlib.Core.Path.{_≡_};
 ghost use mathlib.Core.Bool.{_||_, cond};
@@ -8,6 +9,7 @@ ghost use mathlib.Core.List.{List};
 ghost use Prim.Native.Nat.{suc, _+_, _-_, _≤_, min};
 ghost use lib.Dec.{leb};
 ghost use lib.ListN.{length};
+ghost use Rattle.limits.specs.Limits.{sumEntries, sumLevels, stackEntries};
 ghost use Rattle.cells.specs.Book.{lent, Room};
 ghost use Rattle.trees.specs.Sums.{Sum};
 ghost use Rattle.trees.specs.Map.{Outcome, sum};
@@ -76,8 +78,8 @@ pub fn push_cells(
     v: usize,
     env: AlgebraEnv,
 ) -> Ran
-    requires { ⌜ (1 ≤ n) × (n ≤ 64) × Room (lent vk vi vn vr vm) n × Ready (arena ak ai an ar am az) v env ⌝ }
-    ensures { λ r. ⌜ ((s : Sum) → Lies (lent (vk .entry) (vi .entry) (vn .entry) (vr .entry) (vm .entry)) 0 n 4 s → Does (arena (ak .entry) (ai .entry) (an .entry) (ar .entry) (am .entry) (az .entry)) (arena (ak .exit) (ai .exit) (an .exit) (ar .exit) (am .exit) (az .exit)) v env r (push at (1024 - v) (sum s))) ⌝ }
+    requires { ⌜ (1 ≤ n) × (n ≤ sumEntries) × Room (lent vk vi vn vr vm) n × Ready (arena ak ai an ar am az) v env ⌝ }
+    ensures { λ r. ⌜ ((s : Sum) → Lies (lent (vk .entry) (vi .entry) (vn .entry) (vr .entry) (vm .entry)) 0 n sumLevels s → Does (arena (ak .entry) (ai .entry) (an .entry) (ar .entry) (am .entry) (az .entry)) (arena (ak .exit) (ai .exit) (an .exit) (ar .exit) (am .exit) (az .exit)) v env r (push at (stackEntries - v) (sum s))) ⌝ }
 {
     let used = env.used;
     if v - used < n {
@@ -109,8 +111,8 @@ pub fn push_formed(
     v: usize,
     env: AlgebraEnv,
 ) -> Ran
-    requires { ⌜ Filled f × Room (lent vk vi vn vr vm) 64 × Ready (arena ak ai an ar am az) v env ⌝ }
-    ensures { λ r. ⌜ ((o : Outcome) → Agrees f (lent (vk .entry) (vi .entry) (vn .entry) (vr .entry) (vm .entry)) 0 o → Does (arena (ak .entry) (ai .entry) (an .entry) (ar .entry) (am .entry) (az .entry)) (arena (ak .exit) (ai .exit) (an .exit) (ar .exit) (am .exit) (az .exit)) v env r (push at (1024 - v) o)) ⌝ }
+    requires { ⌜ Filled f × Room (lent vk vi vn vr vm) sumEntries × Ready (arena ak ai an ar am az) v env ⌝ }
+    ensures { λ r. ⌜ ((o : Outcome) → Agrees f (lent (vk .entry) (vi .entry) (vn .entry) (vr .entry) (vm .entry)) 0 o → Does (arena (ak .entry) (ai .entry) (an .entry) (ar .entry) (am .entry) (az .entry)) (arena (ak .exit) (ai .exit) (an .exit) (ar .exit) (am .exit) (az .exit)) v env r (push at (stackEntries - v) o)) ⌝ }
 {
     match f {
         Formed::Done(n) => push_cells(n, at, vk, vi, vn, vr, vm, ak, ai, an, ar, am, az, v, env),
@@ -132,14 +134,14 @@ pub fn copy_up(
     v: usize,
     env: AlgebraEnv,
 ) -> Ran
-    requires { ⌜ (1 ≤ n) × (n ≤ 64) × Room (lent ak ai an ar am) (i + n) × Ready (arena ak ai an ar am az) v env ⌝ }
-    ensures { λ r. ⌜ ((s : Sum) → Lies (lent (ak .entry) (ai .entry) (an .entry) (ar .entry) (am .entry)) i (i + n) 4 s → Does (arena (ak .entry) (ai .entry) (an .entry) (ar .entry) (am .entry) (az .entry)) (arena (ak .exit) (ai .exit) (an .exit) (ar .exit) (am .exit) (az .exit)) v env r (push at (1024 - v) (sum s))) ⌝ }
+    requires { ⌜ (1 ≤ n) × (n ≤ sumEntries) × Room (lent ak ai an ar am) (i + n) × Ready (arena ak ai an ar am az) v env ⌝ }
+    ensures { λ r. ⌜ ((s : Sum) → Lies (lent (ak .entry) (ai .entry) (an .entry) (ar .entry) (am .entry)) i (i + n) sumLevels s → Does (arena (ak .entry) (ai .entry) (an .entry) (ar .entry) (am .entry) (az .entry)) (arena (ak .exit) (ai .exit) (an .exit) (ar .exit) (am .exit) (az .exit)) v env r (push at (stackEntries - v) (sum s))) ⌝ }
 {
-    let mut vk = [0u8; 64];
-    let mut vi = [0u8; 64];
-    let mut vn = [0u64; 64];
-    let mut vr = [0u64; 64];
-    let mut vm = [0u64; 64];
+    let mut vk = [0u8; SUM_ENTRIES];
+    let mut vi = [0u8; SUM_ENTRIES];
+    let mut vn = [0u64; SUM_ENTRIES];
+    let mut vr = [0u64; SUM_ENTRIES];
+    let mut vm = [0u64; SUM_ENTRIES];
     gaps::copy_in(
         ak,
         ai,

@@ -6,6 +6,7 @@ use sums::Formed;
 use trees::Merge;
 ghost use mathlib.Core.Path.{_≡_};
 ghost use mathlib.Core.Bool.{false};
+ghost use Rattle.limits.specs.Limits.{sumEntries};
 ghost use Rattle.trees.specs.Kinds.{hasNumber};
 ghost use Prim.Native.Nat.{_≤_};
 ghost use Rattle.cells.specs.Book.{lent};
@@ -31,7 +32,7 @@ pub fn derive_by(
     wm: &mut [u64],
     len: usize,
 ) -> Formed
-    requires { ⌜ Ready (lent wk wi wn wr wm) len (lent ak ai an ar am) i n × (1 ≤ n) × (n ≤ 64) × (2 ≤ kind) × (kind ≤ 8) × (hasNumber kind ≡ false) ⌝ }
+    requires { ⌜ Ready (lent wk wi wn wr wm) len (lent ak ai an ar am) i n × (1 ≤ n) × (n ≤ sumEntries) × (2 ≤ kind) × (kind ≤ 8) × (hasNumber kind ≡ false) ⌝ }
     ensures { λ r. ⌜ Into (lent (wk .entry) (wi .entry) (wn .entry) (wr .entry) (wm .entry)) (lent (wk .exit) (wi .exit) (wn .exit) (wr .exit) (wm .exit)) len (lent (ak .entry) (ai .entry) (an .entry) (ar .entry) (am .entry)) i n r (λ t s. deriveBy kind how x t s) ⌝ }
 {
     let Constant::Is(d) = calculus::prime_of(ak, ai, an, ar, am, i, n) else {
@@ -75,7 +76,7 @@ pub fn derive_exp(
     wm: &mut [u64],
     len: usize,
 ) -> Formed
-    requires { ⌜ Ready (lent wk wi wn wr wm) len (lent ak ai an ar am) i n × (1 ≤ n) × (n ≤ 64) ⌝ }
+    requires { ⌜ Ready (lent wk wi wn wr wm) len (lent ak ai an ar am) i n × (1 ≤ n) × (n ≤ sumEntries) ⌝ }
     ensures { λ r. ⌜ Into (lent (wk .entry) (wi .entry) (wn .entry) (wr .entry) (wm .entry)) (lent (wk .exit) (wi .exit) (wn .exit) (wr .exit) (wm .exit)) len (lent (ak .entry) (ai .entry) (an .entry) (ar .entry) (am .entry)) i n r (λ t s. deriveExp x t s) ⌝ }
 {
     if !monomials::is_x(ak, ai, an, ar, am, i, n) {

@@ -25,7 +25,7 @@ unfoldable pub raised : ℕ → Sum → Sum → Outcome
 raised zero acc s = sum acc
 raised (suc n) acc s = andThenSum (product acc s) (λ acc′. raised n acc′ s)
 
--- by a whole number: 0 gives constant 0; n multiplies n - 1 times, to 64; above that the first product is still asked for 7
+-- by a whole number: 0 gives constant 0; n multiplies n - 1 times, to highestPower; above that the first product is still asked for 7
 abbrev pub wholePower : Sum → SmallWhole → Outcome
 wholePower s (Is zero) = sum (constant complex.zero)
 wholePower s (Is (suc n)) = raised n s s

@@ -4,6 +4,7 @@ use mathlib.Core.Path.{_≡_}
 use mathlib.Core.Bool.{Bool, true, false, _&&_, _||_, not, cond}
 use lib.Dec.{eqb}
 use lib.Ieee.{Float, eq}
+use Rattle.limits.specs.Limits.{sumEntries, sumLevels}
 use Rattle.numbers.specs.Signs.{zero64, one64}
 use Rattle.complex.specs.declared.Complex.{Complex}
 use Rattle.complex.specs.Arith as complex
@@ -15,10 +16,10 @@ use Rattle.trees.specs.Sums.{Sum, none, and, size, entry}
 use Rattle.trees.specs.Good.{isEmpty, Good}
 use Rattle.trees.specs.Map.{Outcome, sum, refused, Found, at, absent, formed}
 
--- a sum as it may lie on the stack: good, with no entry inside more than 3 others, of 1 to 64 entries
+-- a sum as it may lie on the stack: good within sumLevels, of 1 to sumEntries entries
 pub record GoodSum (s : Sum) : Type 0 where
-  pub good : Good 4 s
-  pub room : size s ≤ 64
+  pub good : Good sumLevels s
+  pub room : size s ≤ sumEntries
   pub some : isEmpty s ≡ false
 
 -- the term x to the 0, which is 1; -0 counts

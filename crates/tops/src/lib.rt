@@ -1,10 +1,12 @@
 // The sums on top of the stack: what a primitive leaves of the one that it takes, and the two on top turned. The stack of sums lies in the
 // arena from its first slot on; from v on lies what is held.
+use limits::SUM_ENTRIES;
 use steps::AlgebraEnv;
 use steps::Ran;
 ghost use mathlib.Core.Path.{_≡_};
 ghost use mathlib.Core.List.{List, [], _∷_};
 ghost use Prim.Native.Nat.{_-_, _≤_};
+ghost use Rattle.limits.specs.Limits.{stackEntries};
 ghost use Rattle.trees.specs.Sums.{Sum};
 ghost use Rattle.formats.specs.Names.{primitiveOf};
 ghost use Rattle.formats.specs.Table.{row};
@@ -28,14 +30,14 @@ pub fn flip(
     az: &mut [u8],
     u: usize,
 )
-    requires { ⌜ (u ≤ 1024) × Space (arena ak ai an ar am az) 1024 × Tops (arena ak ai an ar am az) u (n ∷ m ∷ []) × ((ss : List Sum) × Stacked (arena ak ai an ar am az) 0 u ss) ⌝ }
+    requires { ⌜ (u ≤ stackEntries) × Space (arena ak ai an ar am az) stackEntries × Tops (arena ak ai an ar am az) u (n ∷ m ∷ []) × ((ss : List Sum) × Stacked (arena ak ai an ar am az) 0 u ss) ⌝ }
     ensures { λ _. ⌜ Turned (arena (ak .entry) (ai .entry) (an .entry) (ar .entry) (am .entry) (az .entry)) (arena (ak .exit) (ai .exit) (an .exit) (ar .exit) (am .exit) (az .exit)) u ⌝ }
 {
-    let mut vk = [0u8; 64];
-    let mut vi = [0u8; 64];
-    let mut vn = [0u64; 64];
-    let mut vr = [0u64; 64];
-    let mut vm = [0u64; 64];
+    let mut vk = [0u8; SUM_ENTRIES];
+    let mut vi = [0u8; SUM_ENTRIES];
+    let mut vn = [0u64; SUM_ENTRIES];
+    let mut vr = [0u64; SUM_ENTRIES];
+    let mut vm = [0u64; SUM_ENTRIES];
     let i = u - n - m;
     gaps::copy_in(
         ak,
@@ -71,13 +73,13 @@ fn form_top(
     env: AlgebraEnv,
 ) -> Ran
     requires { ⌜ (row (primitiveOf code) .left ≡ 1) × Tops (arena ak ai an ar am az) (env .used) (n ∷ []) × Ready (arena ak ai an ar am az) v env ⌝ }
-    ensures { λ r. ⌜ Does (arena (ak .entry) (ai .entry) (an .entry) (ar .entry) (am .entry) (az .entry)) (arena (ak .exit) (ai .exit) (an .exit) (ar .exit) (am .exit) (az .exit)) v env r (λ st. taking at 1 st (leaves at (1024 - v) (primitiveOf code))) ⌝ }
+    ensures { λ r. ⌜ Does (arena (ak .entry) (ai .entry) (an .entry) (ar .entry) (am .entry) (az .entry)) (arena (ak .exit) (ai .exit) (an .exit) (ar .exit) (am .exit) (az .exit)) v env r (λ st. taking at 1 st (leaves at (stackEntries - v) (primitiveOf code))) ⌝ }
 {
-    let mut vk = [0u8; 64];
-    let mut vi = [0u8; 64];
-    let mut vn = [0u64; 64];
-    let mut vr = [0u64; 64];
-    let mut vm = [0u64; 64];
+    let mut vk = [0u8; SUM_ENTRIES];
+    let mut vi = [0u8; SUM_ENTRIES];
+    let mut vn = [0u64; SUM_ENTRIES];
+    let mut vr = [0u64; SUM_ENTRIES];
+    let mut vm = [0u64; SUM_ENTRIES];
     let p = formats::record::primitive_of(code);
     let i = env.used - n;
     let f = singles::form_one(
@@ -133,7 +135,7 @@ pub fn one_operand(
     env: AlgebraEnv,
 ) -> Ran
     requires { ⌜ Ready (arena ak ai an ar am az) v env ⌝ }
-    ensures { λ r. ⌜ Does (arena (ak .entry) (ai .entry) (an .entry) (ar .entry) (am .entry) (az .entry)) (arena (ak .exit) (ai .exit) (an .exit) (ar .exit) (am .exit) (az .exit)) v env r (λ st. taking at 1 st (leaves at (1024 - v) (primitiveOf code))) ⌝ }
+    ensures { λ r. ⌜ Does (arena (ak .entry) (ai .entry) (an .entry) (ar .entry) (am .entry) (az .entry)) (arena (ak .exit) (ai .exit) (an .exit) (ar .exit) (am .exit) (az .exit)) v env r (λ st. taking at 1 st (leaves at (stackEntries - v) (primitiveOf code))) ⌝ }
 {
     let used = env.used;
     if used == 0 {

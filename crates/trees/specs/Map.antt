@@ -1,9 +1,10 @@
 -- The map of terms to coefficients: looking up, and putting a term in. Zero coefficients stay; where the key is there already, the key that was there stays.
-use Prim.Native.Nat.{ℕ, zero, suc}
+use Prim.Native.Nat.{ℕ, zero, suc, _-_}
 use mathlib.Core.Bool.{Bool, true, false, _&&_, cond}
 use lib.Dec.{leb}
 use lib.Ieee.{Float}
 use lib.Ieee.Scale.{finite}
+use Rattle.limits.specs.Limits.{sumEntries, sumLevels}
 use Rattle.numbers.specs.declared.Ordering.{Ordering}
 use Rattle.numbers.specs.declared.Ordering.the-variants.{Less, Equal, Greater}
 use Rattle.complex.specs.declared.Complex.{Complex}
@@ -61,8 +62,8 @@ unfoldable pub formed : Merge → Entry → Sum → Sum → Outcome
 formed m x t s =
     unless (finite (x .num)) NotFinite
     (unless (complex.allFinite (coefIn m x t s)) NotFinite
-    (unless (leb (levels t) 3) TooDeep
-    (unless (leb (size (putIn m x t s)) 64) NoRoom (sum (putIn m x t s)))))
+    (unless (leb (levels t) (sumLevels - 1)) TooDeep
+    (unless (leb (size (putIn m x t s)) sumEntries) NoRoom (sum (putIn m x t s)))))
 
 -- each outermost entry of a sum in turn, given to a step that has what was formed so far
 unfoldable pub eachInto : (Entry → Sum → Sum → Outcome) → Sum → Sum → Outcome

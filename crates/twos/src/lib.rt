@@ -1,10 +1,12 @@
 // What a primitive leaves of the two sums that it takes from the top of the stack. The stack of sums lies in the arena from its first slot
 // on; from v on lies what is held.
+use limits::SUM_ENTRIES;
 use steps::AlgebraEnv;
 use steps::Ran;
 ghost use mathlib.Core.Path.{_≡_};
 ghost use mathlib.Core.List.{[], _∷_};
 ghost use Prim.Native.Nat.{_-_};
+ghost use Rattle.limits.specs.Limits.{stackEntries};
 ghost use Rattle.formats.specs.Names.{primitiveOf};
 ghost use Rattle.formats.specs.Table.{row};
 ghost use Rattle.arena.specs.Contract.Arena.{arena};
@@ -29,13 +31,13 @@ fn form_pair(
     env: AlgebraEnv,
 ) -> Ran
     requires { ⌜ (row (primitiveOf code) .left ≡ 1) × Tops (arena ak ai an ar am az) (env .used) (top ∷ low ∷ []) × Ready (arena ak ai an ar am az) v env ⌝ }
-    ensures { λ r. ⌜ Does (arena (ak .entry) (ai .entry) (an .entry) (ar .entry) (am .entry) (az .entry)) (arena (ak .exit) (ai .exit) (an .exit) (ar .exit) (am .exit) (az .exit)) v env r (λ st. taking at 2 st (leaves at (1024 - v) (primitiveOf code))) ⌝ }
+    ensures { λ r. ⌜ Does (arena (ak .entry) (ai .entry) (an .entry) (ar .entry) (am .entry) (az .entry)) (arena (ak .exit) (ai .exit) (an .exit) (ar .exit) (am .exit) (az .exit)) v env r (λ st. taking at 2 st (leaves at (stackEntries - v) (primitiveOf code))) ⌝ }
 {
-    let mut vk = [0u8; 64];
-    let mut vi = [0u8; 64];
-    let mut vn = [0u64; 64];
-    let mut vr = [0u64; 64];
-    let mut vm = [0u64; 64];
+    let mut vk = [0u8; SUM_ENTRIES];
+    let mut vi = [0u8; SUM_ENTRIES];
+    let mut vn = [0u64; SUM_ENTRIES];
+    let mut vr = [0u64; SUM_ENTRIES];
+    let mut vm = [0u64; SUM_ENTRIES];
     let p = formats::record::primitive_of(code);
     let up = env.used - top;
     let down = up - low;
@@ -96,7 +98,7 @@ fn two_leave(
     env: AlgebraEnv,
 ) -> Ran
     requires { ⌜ (row (primitiveOf code) .taken ≡ 2) × Tops (arena ak ai an ar am az) (env .used) (n ∷ m ∷ []) × Ready (arena ak ai an ar am az) v env ⌝ }
-    ensures { λ r. ⌜ Does (arena (ak .entry) (ai .entry) (an .entry) (ar .entry) (am .entry) (az .entry)) (arena (ak .exit) (ai .exit) (an .exit) (ar .exit) (am .exit) (az .exit)) v env r (λ st. taking at 2 st (leaves at (1024 - v) (primitiveOf code))) ⌝ }
+    ensures { λ r. ⌜ Does (arena (ak .entry) (ai .entry) (an .entry) (ar .entry) (am .entry) (az .entry)) (arena (ak .exit) (ai .exit) (an .exit) (ar .exit) (am .exit) (az .exit)) v env r (λ st. taking at 2 st (leaves at (stackEntries - v) (primitiveOf code))) ⌝ }
 {
     let used = env.used;
     let left = formats::table::left(code);
@@ -124,7 +126,7 @@ pub fn two_operands(
     env: AlgebraEnv,
 ) -> Ran
     requires { ⌜ (row (primitiveOf code) .taken ≡ 2) × Ready (arena ak ai an ar am az) v env ⌝ }
-    ensures { λ r. ⌜ Does (arena (ak .entry) (ai .entry) (an .entry) (ar .entry) (am .entry) (az .entry)) (arena (ak .exit) (ai .exit) (an .exit) (ar .exit) (am .exit) (az .exit)) v env r (λ st. taking at 2 st (leaves at (1024 - v) (primitiveOf code))) ⌝ }
+    ensures { λ r. ⌜ Does (arena (ak .entry) (ai .entry) (an .entry) (ar .entry) (am .entry) (az .entry)) (arena (ak .exit) (ai .exit) (an .exit) (ar .exit) (am .exit) (az .exit)) v env r (λ st. taking at 2 st (leaves at (stackEntries - v) (primitiveOf code))) ⌝ }
 {
     let used = env.used;
     if used == 0 {

@@ -9,6 +9,7 @@ use steps::Ran;
 ghost use mathlib.Core.Path.{_≡_};
 ghost use mathlib.Core.Bool.{Bool};
 ghost use Prim.Native.Nat.{_+_, _-_};
+ghost use Rattle.limits.specs.Limits.{stackEntries};
 ghost use Rattle.formats.specs.Tree.{forest};
 ghost use Rattle.formats.specs.Contract.Walk.{Stretch};
 ghost use Rattle.formats.specs.Names.{modifierOf};
@@ -43,7 +44,7 @@ pub fn walk(
     left: usize,
 ) -> Ran
     requires { ⌜ Ready (arena ak ai an ar am az) v env × ((b : Bool) × Stretch (now list) from to b left) ⌝ }
-    ensures { λ r. ⌜ Does (arena (ak .entry) (ai .entry) (an .entry) (ar .entry) (am .entry) (az .entry)) (arena (ak .exit) (ai .exit) (an .exit) (ar .exit) (am .exit) (az .exit)) v env r (λ st. walkOf (now (list .entry)) from to (1024 - v) st) ⌝ }
+    ensures { λ r. ⌜ Does (arena (ak .entry) (ai .entry) (an .entry) (ar .entry) (am .entry) (az .entry)) (arena (ak .exit) (ai .exit) (an .exit) (ar .exit) (am .exit) (az .exit)) v env r (λ st. walkOf (now (list .entry)) from to (stackEntries - v) st) ⌝ }
 {
     let mut at = from;
     let mut cur = env;
@@ -75,7 +76,7 @@ fn step(
     left: usize,
 ) -> Ran
     requires { ⌜ Ready (arena ak ai an ar am az) v env × Inner (now list) at r left ⌝ }
-    ensures { λ o. ⌜ Does (arena (ak .entry) (ai .entry) (an .entry) (ar .entry) (am .entry) (az .entry)) (arena (ak .exit) (ai .exit) (an .exit) (ar .exit) (am .exit) (az .exit)) v env o (λ st. stepOf at r (runners (at + 1) (forest (now (list .entry)) (at + 1) (at + 1 + r .inside))) (1024 - v) st) ⌝ }
+    ensures { λ o. ⌜ Does (arena (ak .entry) (ai .entry) (an .entry) (ar .entry) (am .entry) (az .entry)) (arena (ak .exit) (ai .exit) (an .exit) (ar .exit) (am .exit) (az .exit)) v env o (λ st. stepOf at r (runners (at + 1) (forest (now (list .entry)) (at + 1) (at + 1 + r .inside))) (stackEntries - v) st) ⌝ }
 {
     match bodies::inside_of(r.kind) {
         Inside::Nothing => leaves::leaf(r, at, ak, ai, an, ar, am, az, v, env),
@@ -113,7 +114,7 @@ fn modify(
     left: usize,
 ) -> Ran
     requires { ⌜ Ready (arena ak ai an ar am az) v env × Bodily (now list) (at + 1) (at + 1 + r .inside) left ⌝ }
-    ensures { λ o. ⌜ Does (arena (ak .entry) (ai .entry) (an .entry) (ar .entry) (am .entry) (az .entry)) (arena (ak .exit) (ai .exit) (an .exit) (ar .exit) (am .exit) (az .exit)) v env o (λ st. modified (now (list .entry)) at r (1024 - v) st) ⌝ }
+    ensures { λ o. ⌜ Does (arena (ak .entry) (ai .entry) (an .entry) (ar .entry) (am .entry) (az .entry)) (arena (ak .exit) (ai .exit) (an .exit) (ar .exit) (am .exit) (az .exit)) v env o (λ st. modified (now (list .entry)) at r (stackEntries - v) st) ⌝ }
 {
     match bodies::use_of(list, at, r) {
         Use::Refused(q) => steps::halt(q, at, ak, ai, an, ar, am, az, env),
@@ -138,7 +139,7 @@ fn with_bodies(
     left: usize,
 ) -> Ran
     requires { ⌜ Ready (arena ak ai an ar am az) v env × Bodily (now list) (at + 1) (at + 1 + r .inside) left × UsedAs Bodies (now list) at r ⌝ }
-    ensures { λ o. ⌜ Does (arena (ak .entry) (ai .entry) (an .entry) (ar .entry) (am .entry) (az .entry)) (arena (ak .exit) (ai .exit) (an .exit) (ar .exit) (am .exit) (az .exit)) v env o (λ st. modified (now (list .entry)) at r (1024 - v) st) ⌝ }
+    ensures { λ o. ⌜ Does (arena (ak .entry) (ai .entry) (an .entry) (ar .entry) (am .entry) (az .entry)) (arena (ak .exit) (ai .exit) (an .exit) (ar .exit) (am .exit) (az .exit)) v env o (λ st. modified (now (list .entry)) at r (stackEntries - v) st) ⌝ }
 {
     let p = bodies::plan_of(list, at, r);
     let begun = bodies::begin(r.code, p.args, at, ak, ai, an, ar, am, az, v, env);
@@ -217,7 +218,7 @@ fn fork(
     left: usize,
 ) -> Ran
     requires { ⌜ Ready (arena ak ai an ar am az) v env × Bodily (now list) (at + 1) (at + 1 + r .inside) left × (modifierOf (r .code) ≡ Fork) ⌝ }
-    ensures { λ o. ⌜ Does (arena (ak .entry) (ai .entry) (an .entry) (ar .entry) (am .entry) (az .entry)) (arena (ak .exit) (ai .exit) (an .exit) (ar .exit) (am .exit) (az .exit)) v env o (λ st. modified (now (list .entry)) at r (1024 - v) st) ⌝ }
+    ensures { λ o. ⌜ Does (arena (ak .entry) (ai .entry) (an .entry) (ar .entry) (am .entry) (az .entry)) (arena (ak .exit) (ai .exit) (an .exit) (ar .exit) (am .exit) (az .exit)) v env o (λ st. modified (now (list .entry)) at r (stackEntries - v) st) ⌝ }
 {
     let from = at + 1;
     let to = from + r.inside as usize;

@@ -6,11 +6,15 @@ use drafts::Draft;
 use drafts::Said;
 use drafts::Wrote;
 use formats::record::Primitive;
+use limits::RECORD_BYTES;
+use limits::SUM_ENTRIES;
+use limits::SUM_LEVELS;
 ghost use mathlib.Core.Path.{_≡_};
 ghost use mathlib.Core.Bool.{false};
 ghost use Prim.Native.Nat.{_+_, _*_, _≤_};
 ghost use lib.Dec.{T};
 ghost use lib.Ieee.Scale.{finite};
+ghost use Rattle.limits.specs.Limits.{sumEntries, sumLevels};
 ghost use Rattle.numbers.specs.Signs.{zero64};
 ghost use Rattle.cells.specs.Book.{lent};
 ghost use Rattle.trees.specs.Sums.{Sum};
@@ -315,11 +319,10 @@ fn write_sum(
 
 // ---- the entry
 
-// An entry of a sum takes at most two places in front of what was written and nine behind it, and there are at most 64 entries; a sum that nothing is written for
-// takes two. A record has 24 bytes.
-const FRONT: usize = 2 * 64;
+// An entry of a sum takes at most two places in front of what was written and nine behind it; a sum that nothing is written for takes two.
+const FRONT: usize = 2 * SUM_ENTRIES;
 
-const ROOM: usize = 24 * (FRONT + 9 * 64 + 2);
+const DRAFT_RECORDS: usize = FRONT + 9 * SUM_ENTRIES + 2;
 
 // The sum of m cells from j on goes to the front of out as a list of records, or is refused: 15 where a number cannot be written, then 17 where there is no room.
 pub fn expr_to_node(
@@ -333,14 +336,14 @@ pub fn expr_to_node(
     complex: bool,
     out: &mut [u8],
 ) -> Wrote
-    requires { ⌜ Held (lent ak ai an ar am) j (j + m) 4 × (m ≤ 64) ⌝ }
-    ensures { λ r. ⌜ ((s : Sum) → Lies (lent (ak .entry) (ai .entry) (an .entry) (ar .entry) (am .entry)) j (j + m) 4 s → Answered (now (out .entry)) (now (out .exit)) r (toNodes complex s)) ⌝ }
+    requires { ⌜ Held (lent ak ai an ar am) j (j + m) sumLevels × (m ≤ sumEntries) ⌝ }
+    ensures { λ r. ⌜ ((s : Sum) → Lies (lent (ak .entry) (ai .entry) (an .entry) (ar .entry) (am .entry)) j (j + m) sumLevels s → Answered (now (out .entry)) (now (out .exit)) r (toNodes complex s)) ⌝ }
 {
-    let mut b = [0u8; ROOM];
+    let mut b = [0u8; RECORD_BYTES * DRAFT_RECORDS];
     let d = Draft {
         from: FRONT,
         end: FRONT,
     };
-    let s = write_sum(ak, ai, an, ar, am, j, m, complex, &mut b, d, 4);
+    let s = write_sum(ak, ai, an, ar, am, j, m, complex, &mut b, d, SUM_LEVELS);
     drafts::answer(&b, s, out)
 }

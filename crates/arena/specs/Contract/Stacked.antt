@@ -3,6 +3,7 @@ use Prim.Native.Nat.{ℕ, zero, suc, _+_, _-_, _≤_}
 use mathlib.Core.Path.{_≡_}
 use mathlib.Core.List.{List, [], _∷_}
 use lib.ListN.{getD}
+use Rattle.limits.specs.Limits.{sumLevels}
 use Rattle.trees.specs.Sums.{Sum, size}
 use Rattle.terms.specs.Singles.{GoodSum}
 use Rattle.sums.specs.Contract.Lies.{Lies}
@@ -12,7 +13,7 @@ use Rattle.arena.specs.declared.Deep.the-variants.{From, Short}
 
 -- the sum s lies from lo up to hi
 pub record Top (a : Arena) (lo hi : ℕ) (s : Sum) : Type 0 where
-  pub lies : Lies (a .cells) lo hi 4 s
+  pub lies : Lies (a .cells) lo hi sumLevels s
   pub good : GoodSum s
   pub told : getD (a .sizes) (hi - 1) 0 ≡ size s
 

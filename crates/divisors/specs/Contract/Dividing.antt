@@ -1,6 +1,7 @@
 -- What a divisor is, and a power of x times a sum of powers of x.
-use Prim.Native.Nat.{ℕ, _+_, _≤_}
+use Prim.Native.Nat.{ℕ, _+_, _-_, _≤_}
 use lib.Ieee.{Float}
+use Rattle.limits.specs.Limits.{sumEntries, sumLevels}
 use Rattle.numbers.specs.Ops.{_⊕_}
 use Rattle.complex.specs.Arith as complex
 use Rattle.cells.specs.declared.Entry.{Entry}
@@ -12,11 +13,11 @@ use Rattle.trees.specs.Good.{GoodEntry}
 use Rattle.trees.specs.Map.{Outcome, formed, eachInto}
 use Rattle.sums.specs.Contract.Lies.{Lies}
 
--- a good term y, whose inside v, of at most 3 levels and 63 entries, lies from j on
+-- a good term y, whose inside v, of at most sumLevels - 1 levels and sumEntries - 1 entries, lies from j on
 pub record Divisor (b : Book) (y : Entry) (j : ℕ) (v : Sum) : Type 0 where
   pub good : GoodEntry (y .kind) (y .num) v (y .coef)
-  pub lies : Lies b j (j + y .inside) 3 v
-  pub few : y .inside ≤ 63
+  pub lies : Lies b j (j + y .inside) (sumLevels - 1) v
+  pub few : y .inside ≤ sumEntries - 1
 
 -- x to the p, times 1, times the term y, which is taken for a power of x, is added into u
 abbrev pub stepX : Float → Entry → Sum → Sum → Outcome

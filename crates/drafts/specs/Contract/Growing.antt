@@ -3,6 +3,7 @@ use Prim.Native.Nat.{ℕ, _+_, _*_, _≤_}
 use mathlib.Core.Path.{_≡_}
 use mathlib.Core.List.{List}
 use lib.ListN.{length}
+use Rattle.limits.specs.Limits.{listRecords, recordBytes}
 use Rattle.formats.specs.Tree.{Nodes}
 use Rattle.drafts.specs.declared.Draft.{Draft}
 use Rattle.drafts.specs.declared.Said.{Said}
@@ -15,8 +16,8 @@ pub record Ready (b : List ℕ) (d : Draft) (front back : ℕ) : Type 0 where
   pub nodes : Nodes
   pub lies : Lying b d nodes
   pub before : front ≤ d .from
-  pub after : 24 * (d .end + back) ≤ length b
-  pub few : d .end + back ≤ 2048
+  pub after : recordBytes * (d .end + back) ≤ length b
+  pub few : d .end + back ≤ listRecords
 
 -- at most so many places were taken in front and behind
 pub record Grown (d r : Draft) (front back : ℕ) : Type 0 where

@@ -6,6 +6,7 @@ use mathlib.Core.List.{List}
 use lib.Dec.{leb}
 use lib.ListN.{length}
 use lib.Seq.{sets}
+use Rattle.limits.specs.Limits.{recordBytes}
 use Rattle.limits.specs.declared.Refusal.the-variants.{OutputRoom}
 use Rattle.formats.specs.Bytes.{part}
 use Rattle.formats.specs.Tree.{Nodes, size, encode, recordsIn}
@@ -19,8 +20,8 @@ use Rattle.drafts.specs.Writing.{Written, wrote, refused}
 -- the records of ns stand in the places of the buffer b from d's first up to d's end
 pub record Lying (b : List ℕ) (d : Draft) (ns : Nodes) : Type 0 where
   pub ends : d .from + size ns ≡ d .end
-  pub room : 24 * d .end ≤ length b
-  pub bytes : part (24 * d .from) (24 * size ns) b ≡ encode ns
+  pub room : recordBytes * d .end ≤ length b
+  pub bytes : part (recordBytes * d .from) (recordBytes * size ns) b ≡ encode ns
 
 -- what the code answers is the definition's: the list lies there, or the same refusal
 abbrev pub SaidAs : Said → List ℕ → Written → Type 0

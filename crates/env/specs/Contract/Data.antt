@@ -1,6 +1,7 @@
 -- What reading a list answers, held to the definition.
 use Prim.Native.Nat.{ℕ}
 use mathlib.Core.Path.{_≡_}
+use Rattle.limits.specs.Limits.{sumLevels}
 use Rattle.cells.specs.Book.{Book}
 use Rattle.terms.specs.Singles.{GoodSum}
 use Rattle.trees.specs.Sums.{Sum}
@@ -12,7 +13,7 @@ use Rattle.env.specs.declared.AlgebraData.the-variants as answer
 
 -- the sum that was read lies in the first n cells
 pub record Given (b : Book) (n : ℕ) (s : Sum) : Type 0 where
-  pub lies : Lies b 0 n 4 s
+  pub lies : Lies b 0 n sumLevels s
   pub good : GoodSum s
 
 abbrev pub DataAs : AlgebraData → Book → Read → Type 0

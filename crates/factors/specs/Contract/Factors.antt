@@ -1,7 +1,8 @@
 -- What is multiplied: sums and terms that lie in a book apart from the result, and have a product.
-use Prim.Native.Nat.{ℕ, _+_, _-_, _≤_, _<_}
+use Prim.Native.Nat.{ℕ, _+_, _-_, _*_, _≤_, _<_}
 use mathlib.Core.Path.{_≡_}
 use mathlib.Core.Bool.{true}
+use Rattle.limits.specs.Limits.{sumEntries, sumLevels}
 use Rattle.cells.specs.declared.Entry.{Entry}
 use Rattle.cells.specs.Book.{Book, cell, Room}
 use Rattle.trees.specs.Sums.{Sum}
@@ -13,7 +14,7 @@ use Rattle.factors.specs.Contract.Apart.{Apart}
 -- the sum s, of n cells from i on
 pub record Operand (b : Book) (i n p left : ℕ) (s : Sum) : Type 0 where
   pub lies : Lies b i (i + n) left s
-  pub few : n ≤ 64
+  pub few : n ≤ sumEntries
   pub apart : Apart i (i + n) p
 
 -- the term x, whose inside t lies from i on
@@ -45,14 +46,14 @@ pub record Sums (b : Book) (i n j m p left : ℕ) : Type 0 where
   pub second : Operand b j m p left t
   pub able : mulable s t ≡ true
 
--- where the result goes: the sum of n cells from p on, with room for 64
+-- where the result goes: the sum of n cells from p on, with room for sumEntries
 pub record Result (b : Book) (p n : ℕ) : Type 0 where
-  pub few : n ≤ 64
-  pub room : Room b (p + 64)
-  pub held : Held b p (p + n) 4
+  pub few : n ≤ sumEntries
+  pub room : Room b (p + sumEntries)
+  pub held : Held b p (p + n) sumLevels
 
--- the n cells of b from i on are copied to 0, and the m from j on to 64
+-- the n cells of b from i on are copied to 0, and the m from j on to sumEntries
 pub record Beside (b b′ : Book) (i n j m : ℕ) : Type 0 where
   pub first : (k : ℕ) → k < n → cell b′ (0 + k) ≡ cell b (i + k)
-  pub second : (k : ℕ) → k < m → cell b′ (64 + k) ≡ cell b (j + k)
-  pub room : Room b′ 192
+  pub second : (k : ℕ) → k < m → cell b′ (sumEntries + k) ≡ cell b (j + k)
+  pub room : Room b′ (3 * sumEntries)

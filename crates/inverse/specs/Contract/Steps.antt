@@ -21,6 +21,10 @@ use Rattle.inverse.specs.Inverse.{Word, spell, low, ofQuadratic, ofPower
 use Rattle.inverse.specs.declared.Others.{Others}
 use Rattle.inverse.specs.declared.Others.the-variants.{Nothing, Power, TooMuch}
 
+-- the longest list that undoes a sum: a root of 8 records, the larger of two in 8 more, and a division in 2
+abbrev pub inverseRecords : ℕ
+inverseRecords = 18
+
 -- ---- what there is besides x to the 0, 1 and 2
 
 -- one more entry

@@ -4,6 +4,7 @@ use mathlib.Core.Path.{_≡_}
 use mathlib.Core.Bool.{true, cond}
 use lib.Dec.{eqb}
 use lib.Ieee.{Float}
+use Rattle.limits.specs.Limits.{sumEntries, sumLevels}
 use Rattle.numbers.specs.Ops.{_⊗_}
 use Rattle.numbers.specs.Signs.{zero64}
 use Rattle.cells.specs.declared.Entry.{Entry}
@@ -15,8 +16,8 @@ use Rattle.sums.specs.Contract.Lies.{Lies}
 
 -- such a sum lies in the n cells from i on
 pub record Rooting (b : Book) (i n : ℕ) (s : Sum) : Type 0 where
-  pub lies : Lies b i (i + n) 4 s
-  pub few : n ≤ 64
+  pub lies : Lies b i (i + n) sumLevels s
+  pub few : n ≤ sumEntries
   pub single : rootable s ≡ true
   pub units : unitCoefs s ≡ true
 

@@ -4,6 +4,7 @@ use mathlib.Core.Path.{_≡_}
 use mathlib.Core.Bool.{true}
 use mathlib.Core.List.{List}
 use lib.ListN.{length}
+use Rattle.limits.specs.Limits.{stackEntries}
 use Rattle.trees.specs.Sums.{Sum}
 use Rattle.formats.specs.declared.record.Record.{Record}
 use Rattle.formats.specs.declared.record.Kind.the-variants.{Modifier}
@@ -42,18 +43,18 @@ pub record Planned (s : List ℕ) (p : Plan) (left : ℕ) : Type 0 where
 pub record Round (a : Arena) (v m : ℕ) (env : AlgebraEnv) : Type 0 where
   pub ready : Ready a (v - m) env
   pub few : m ≤ v
-  pub within : v ≤ 1024
+  pub within : v ≤ stackEntries
   pub held : (ss : List Sum) × Stacked a (v - m) v ss
 
 pub record Rounds (a a′ : Arena) (v m : ℕ) (env : AlgebraEnv) (r : Ran) (s : List ℕ) (p : Plan) : Type 0 where
   pub kept : Outside a a′ 0 v
-  pub agrees : (ss : List Sum) (st : State) → Stacked a (v - m) v ss → Stands a (v - m) env st → Agree r a′ v (planned s p (1024 - v) ss st)
+  pub agrees : (ss : List Sum) (st : State) → Stacked a (v - m) v ss → Stands a (v - m) env st → Agree r a′ v (planned s p (stackEntries - v) ss st)
 
 -- k sums of m cells are held from v on
 pub record Many (a : Arena) (v m k : ℕ) : Type 0 where
-  pub within : v + m ≤ 1024
+  pub within : v + m ≤ stackEntries
   pub held : (ss : List Sum) × Stacked a v (v + m) ss × (length ss ≡ k)
 
 pub record Forks (a a′ : Arena) (v m k : ℕ) (env : AlgebraEnv) (r : Ran) (s : List ℕ) (at from to : ℕ) : Type 0 where
   pub kept : Outside a a′ 0 v
-  pub forks : (ss : List Sum) → Stacked a v (v + m) ss → length ss ≡ k → Does a a′ v env r (λ st. forked at (1024 - v) ss (runners from (forest s from to)) st)
+  pub forks : (ss : List Sum) → Stacked a v (v + m) ss → length ss ≡ k → Does a a′ v env r (λ st. forked at (stackEntries - v) ss (runners from (forest s from to)) st)

@@ -5,6 +5,7 @@ use mathlib.Core.Bool.{Bool}
 use mathlib.Core.List.{List, [], _∷_}
 use lib.ListN.{length, getD}
 use lib.Ieee.{Float, nan}
+use Rattle.limits.specs.Limits.{listRecords, runValues}
 use Rattle.formats.specs.declared.record.Record.{Record}
 use Rattle.formats.specs.declared.record.Kind.the-variants.{Modifier}
 use Rattle.formats.specs.Rules.{isA}
@@ -37,22 +38,22 @@ abbrev pub viewRan : List Float → Ran → Out
 viewRan xs (Done st) = done (viewState xs st)
 viewRan xs (Refused q at) = refusedAt q at
 
--- at most 256 numbers with the h held, and at most m steps
+-- at most runValues numbers with the h held, and at most m steps
 abbrev pub Room : ℕ → ℕ → Ran → Type 0
-Room h m (Done st) = (st .n + h ≤ 256) × (st .steps ≤ m)
+Room h m (Done st) = (st .n + h ≤ runValues) × (st .steps ≤ m)
 Room h m (Refused q at) = Unit {0}
 
 -- the records from a up to e may be run: there is room for the numbers, and for a step for each record
 pub record Ready (s : List ℕ) (a e : ℕ) (xs : List Float) (st : State) (h left : ℕ) : Type 0 where
   pub stretch : (b : Bool) × Stretch s a e b left
-  pub values : length xs ≡ 259
-  pub room : st .n + h ≤ 256
-  pub steps : st .steps + (e - a) ≤ 2048
+  pub values : length xs ≡ runValues + 3
+  pub room : st .n + h ≤ runValues
+  pub steps : st .steps + (e - a) ≤ listRecords
 
 -- the record r at a place may be run, with what is inside it
 pub record ReadyOne (s : List ℕ) (at : ℕ) (r : Record) (xs : List Float) (st : State) (h left : ℕ) : Type 0 where
   pub levels : 0 < left
   pub inside : Stretch s (at + 1) (at + 1 + r .inside) (isA r Modifier) (left - 1)
-  pub values : length xs ≡ 259
-  pub room : st .n + h ≤ 256
-  pub steps : st .steps + 1 + r .inside ≤ 2048
+  pub values : length xs ≡ runValues + 3
+  pub room : st .n + h ≤ runValues
+  pub steps : st .steps + 1 + r .inside ≤ listRecords

@@ -2,6 +2,7 @@
 use Prim.Native.Nat.{ℕ, _≤_}
 use mathlib.Core.Path.{_≡_}
 use mathlib.Core.Bool.{Bool}
+use Rattle.limits.specs.Limits.{stackEntries}
 use Rattle.limits.specs.declared.Refusal.{Refusal}
 use Rattle.arena.specs.Contract.Arena.{Arena, Space}
 use Rattle.arena.specs.Contract.Stacked.{Stacked}
@@ -20,8 +21,8 @@ pub record Stands (a : Arena) (v : ℕ) (env : AlgebraEnv) (st : State) : Type 0
 
 -- what a step asks for
 pub record Ready (a : Arena) (v : ℕ) (env : AlgebraEnv) : Type 0 where
-  pub space : Space a 1024
-  pub within : v ≤ 1024
+  pub space : Space a stackEntries
+  pub within : v ≤ stackEntries
   pub some : (st : State) × Stands a v env st
 
 -- the same refusal, at the same place

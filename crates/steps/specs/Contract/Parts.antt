@@ -3,6 +3,7 @@ use Prim.Native.Nat.{ℕ, suc, _≤_, min}
 use mathlib.Core.Path.{_≡_}
 use mathlib.Core.Bool.{Bool, _||_, cond}
 use mathlib.Core.List.{List, _++_}
+use Rattle.limits.specs.Limits.{sumEntries}
 use Rattle.trees.specs.Sums.{Sum}
 use Rattle.sums.specs.declared.Formed.{Formed}
 use Rattle.sums.specs.declared.Formed.the-variants.{Done, Refused}
@@ -22,7 +23,7 @@ Tops a u ns = (ss : List Sum) → Stacked a 0 u ss → (ms : List ℕ) × (sizes
 
 -- a sum that was formed has an entry
 abbrev pub Filled : Formed → Type 0
-Filled (Done n) = (1 ≤ n) × (n ≤ 64)
+Filled (Done n) = (1 ≤ n) × (n ≤ sumEntries)
 Filled (Refused q) = Unit {0}
 
 -- after a step: one more is handled, if so, and a complex number was met, if so

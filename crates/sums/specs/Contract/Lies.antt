@@ -1,6 +1,7 @@
 -- A sum lying in a book of cells, and what an answer of the code says of one.
 use Prim.Native.Nat.{ℕ, _+_, _≤_}
 use mathlib.Core.Path.{_≡_}
+use Rattle.limits.specs.Limits.{sumEntries, sumLevels}
 use Rattle.cells.specs.declared.Entry.{Entry}
 use Rattle.cells.specs.Book.{Book, at, Room}
 use Rattle.limits.specs.declared.Refusal.{Refusal}
@@ -29,7 +30,7 @@ Held b i e left = (s : Sum) × Lies b i e left s
 
 -- the code's answer is the definition's: the sum lies from p on, or the same refusal
 abbrev pub Agrees : Formed → Book → ℕ → Outcome → Type 0
-Agrees (Done n) b p (sum s) = (n ≤ 64) × Lies b p (p + n) 4 s
+Agrees (Done n) b p (sum s) = (n ≤ sumEntries) × Lies b p (p + n) sumLevels s
 Agrees (Done n) b p (refused q) = ⊥
 Agrees (Refused r) b p (sum s) = ⊥
 Agrees (Refused r) b p (refused q) = r ≡ q
