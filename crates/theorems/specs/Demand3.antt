@@ -1,35 +1,54 @@
--- Demand 3, from bytes to bits: the list that `derivative` writes for a formula of whole powers, and its run.
+-- Demand 3, from bytes to bits: how many records `derivative` writes for a formula of whole powers, and what `run` of those very bytes gives.
 use Prim.Native.Nat.{ℕ, _*_, _≤_}
 use mathlib.Core.Path.{_≡_}
+use mathlib.Core.Bool.{Bool, false}
 use mathlib.Core.List.{List}
-use mathlib.Core.Option.{none, some}
 use lib.Dec.{T}
 use lib.Ieee.{Float}
 use lib.Ieee.Scale.{finite}
 use lib.ListN.{take}
 use Rattle.limits.specs.declared.Refusal.the-variants.{NotFinite}
+use Rattle.trees.specs.Sums.{Sum}
+use Rattle.trees.specs.Map.{sum}
 use Rattle.formats.specs.Tree.{recordsIn}
-use Rattle.writer.specs.Count.{recordsFor}
+use Rattle.bodies.specs.Reading.{done}
+use Rattle.calculus.specs.Derivative.{derive}
 use Rattle.running.specs.declared.RunAnswer.the-variants.{Value, Refused}
 use Rattle.running.specs.Running.{runList}
-use Rattle.theorems.specs.Value.{Power, value}
-use Rattle.theorems.specs.Places.{shapes, inAll, firstNotFinite}
-use Rattle.theorems.specs.Promise.{peakOf}
 use Rattle.answers.specs.declared.Answer.{Answer}
 use Rattle.answers.specs.declared.Answer.the-variants.{Done}
 use Rattle.answers.specs.Making.{Gives}
+use Rattle.algebra.specs.Reading.{readList}
 use Rattle.algebra.specs.Entries.{derivative}
+use Rattle.theorems.specs.Value.{Power, Terms, Rising, value}
+use Rattle.theorems.specs.Records.{records, peakOf}
 
--- document 01's number of records for these terms
-abbrev pub records : List Power → ℕ
-records ts = recordsFor (shapes ts)
+-- ---- of which lists
 
--- Of the list l, the terms of whose derivative are ts. `derivative`, lent an output with room for it, writes exactly that many records. `run` of those very bytes, at a finite x,
--- takes exactly that many steps, has document 01's peak and gives the terms added in rising power, where every value formed on the way is finite; else it refuses with 15,
--- at the record that forms the first that isn't.
+-- l is read as the sum s, without a complex step; d is its derivative, whose terms that aren't zero are whole powers from 0 to 64, and ts lists them
+pub record Formula (l : List ℕ) (ts : List Power) : Type 0 where
+  pub s : Sum
+  pub handled : Bool
+  pub read : readList l ≡ done s false handled
+  pub d : Sum
+  pub derived : derive s ≡ sum d
+  pub terms : Terms d ts
+
+-- ---- what is promised
+
+-- `run` of the bytes b at a finite x: where the terms added in rising power come to a finite value, it gives that value, takes as many steps as there are
+-- records, and has document 01's peak; where they don't, it refuses with 15, at some place
+pub record Runs (b : List ℕ) (ts : List Power) : Type 0 where
+  pub gives : (x : Float) → T (finite x) → T (finite (value x ts)) → runList b x ≡ Value (value x ts) (records ts) (peakOf ts)
+  pub refuses : (x : Float) → T (finite x) → (T (finite (value x ts)) → ⊥) → (at : ℕ) × (runList b x ≡ Refused NotFinite at)
+
+-- the powers rise strictly; `derivative`, lent an output with room for them, writes exactly document 01's number of records; and those very bytes run so
 pub record Speed (l : List ℕ) (ts : List Power) : Type 0 where
-  pub writes : (out out′ : List ℕ) (r : Answer) → records ts ≤ recordsIn out → Gives recordsIn (derivative l) out out′ r → r ≡ Done (records ts)
-  pub gives : (out out′ : List ℕ) (r : Answer) (x : Float) → records ts ≤ recordsIn out → Gives recordsIn (derivative l) out out′ r → T (finite x) → firstNotFinite (inAll x ts) ≡ none
-      → runList (take (24 * records ts) out′) x ≡ Value (value x ts) (records ts) (peakOf ts)
-  pub refuses : (out out′ : List ℕ) (r : Answer) (x : Float) (at : ℕ) → records ts ≤ recordsIn out → Gives recordsIn (derivative l) out out′ r → T (finite x) → firstNotFinite (inAll x ts) ≡ some at
-      → runList (take (24 * records ts) out′) x ≡ Refused NotFinite at
+  pub rises : Rising 0 ts
+  pub writes : (out out′ : List ℕ) (r : Answer) → records ts ≤ recordsIn out → Gives recordsIn (derivative l) out out′ r → (r ≡ Done (records ts)) × Runs (take (24 * records ts) out′) ts
+
+-- ---- the demand
+
+-- for every list of bytes
+abbrev pub Demand3 : Type 0
+Demand3 = (l : List ℕ) (ts : List Power) → Formula l ts → Speed l ts

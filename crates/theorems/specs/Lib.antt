@@ -1,7 +1,7 @@
 -- The root of theorems's definitions.
 pub mod Contract
 pub mod Value
-pub mod Places
-pub mod Promise
+pub mod Records
 pub mod Demand3
+pub mod Places
 pub mod Cases

@@ -1,35 +1,27 @@
--- The values that the list of a sum of whole powers forms on the way, each with the place of the record that forms it.
-use Prim.Native.Nat.{ℕ, zero, suc, _+_, _-_, _*_}
+-- At which record the run of demand 3 gives 15: the values that it forms on the way, each with the place of the record that forms it.
+use Prim.Native.Nat.{ℕ, zero, suc, _+_, _-_, _*_, _≤_}
+use mathlib.Core.Path.{_≡_}
 use mathlib.Core.Bool.{Bool, true, false, cond}
 use mathlib.Core.List.{List, [], _∷_, _++_}
+use mathlib.Core.Logic.{_↔_}
 use mathlib.Core.Option.{Option, none, some}
-use lib.ListN.{length}
+use lib.Dec.{T}
+use lib.ListN.{length, take}
 use lib.Ieee.{Float, eq}
 use lib.Ieee.Scale.{finite}
 use Rattle.numbers.specs.Signs.{zero64, one64}
 use Rattle.numbers.specs.Ops.{_⊕_, _⊗_}
-use Rattle.writer.specs.ToNodes.{Form}
-use Rattle.writer.specs.Count.{Shape, shape, cost, bareX}
+use Rattle.limits.specs.declared.Refusal.the-variants.{NotFinite}
+use Rattle.formats.specs.Tree.{recordsIn}
+use Rattle.running.specs.declared.RunAnswer.the-variants.{Refused}
 use Rattle.running.specs.Primitives.{times}
-use Rattle.theorems.specs.Value.{Power, power, termValue}
-
--- ---- the records of a term, as they are counted
-
-abbrev pub formOf : ℕ → Form
-formOf zero = Form.constant
-formOf (suc zero) = Form.bare
-formOf (suc (suc zero)) = Form.square
-formOf (suc (suc (suc n))) = Form.power
-
-unfoldable pub shapes : List Power → List Shape
-shapes [] = []
-shapes (power k c ∷ ts) = shape (formOf k) (eq c one64) ∷ shapes ts
-
-abbrev pub costOf : ℕ → Float → ℕ
-costOf k c = cost (formOf k) (eq c one64)
-
-abbrev pub isX : ℕ → Float → Bool
-isX k c = bareX (formOf k) (eq c one64)
+use Rattle.running.specs.Running.{runList}
+use Rattle.answers.specs.declared.Answer.{Answer}
+use Rattle.answers.specs.Making.{Gives}
+use Rattle.algebra.specs.Entries.{derivative}
+use Rattle.theorems.specs.Value.{Power, power, termValue, value}
+use Rattle.theorems.specs.Records.{costOf, isX, records}
+use Rattle.theorems.specs.Demand3.{Formula}
 
 -- ---- the values formed
 
@@ -37,6 +29,7 @@ isX k c = bareX (formOf k) (eq c one64)
 pub data Formed : Type 0 where
   formed : ℕ → Float → Formed
 
+-- a value that is formed only where the test fails
 abbrev pub formedUnless : Bool → ℕ → Float → List Formed
 formedUnless true at v = []
 formedUnless false at v = formed at v ∷ []
@@ -60,6 +53,7 @@ inAll x (power k c ∷ ts) =
     let at = 2 * length ts - cond (isX k c) 1 0 in
     inTerm at x k c ++ inSum (at + costOf k c) x (termValue x k c) ts
 
+-- the place, unless the value is finite
 abbrev pub unlessFinite : Bool → ℕ → Option ℕ → Option ℕ
 unlessFinite true at o = o
 unlessFinite false at o = some at
@@ -68,3 +62,16 @@ unlessFinite false at o = some at
 unfoldable pub firstNotFinite : List Formed → Option ℕ
 firstNotFinite [] = none
 firstNotFinite (formed at v ∷ fs) = unlessFinite (finite v) at (firstNotFinite fs)
+
+-- ---- the place of 15
+
+-- `run` of what `derivative` wrote refuses with 15 at the record that forms the first value that isn't finite; there is no such record exactly where the value of
+-- the terms is finite
+pub record Place (l : List ℕ) (ts : List Power) : Type 0 where
+  pub none-exactly : (x : Float) → T (finite x) → (firstNotFinite (inAll x ts) ≡ none) ↔ T (finite (value x ts))
+  pub refuses : (out out′ : List ℕ) (r : Answer) → records ts ≤ recordsIn out → Gives recordsIn (derivative l) out out′ r
+      → (x : Float) (at : ℕ) → T (finite x) → firstNotFinite (inAll x ts) ≡ some at → runList (take (24 * records ts) out′) x ≡ Refused NotFinite at
+
+-- for the lists of demand 3
+abbrev pub PlaceOf15 : Type 0
+PlaceOf15 = (l : List ℕ) (ts : List Power) → Formula l ts → Place l ts

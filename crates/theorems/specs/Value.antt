@@ -1,5 +1,5 @@
 -- Sums of whole powers of x, and their value at x, from their terms alone.
-use Prim.Native.Nat.{ℕ, zero, suc}
+use Prim.Native.Nat.{ℕ, zero, suc, _≤_}
 use mathlib.Core.Path.{_≡_}
 use mathlib.Core.Bool.{Bool, true, false}
 use mathlib.Core.List.{List, [], _∷_}
@@ -26,6 +26,11 @@ pub data Terms : Sum → List Power → Type 0 where
   term : {p : Float} {k : ℕ} {j : Sum} {c : Complex} {r : Sum} {ts : List Power}
       → complex.same c complex.zero ≡ false → smallWhole p ≡ Is k → Terms r ts
       → Terms (and kinds.X p j c r) (power k (c .re) ∷ ts)
+
+-- the powers rise strictly, from lo on
+abbrev pub Rising : ℕ → List Power → Type 0
+Rising lo [] = Unit {0}
+Rising lo (power k c ∷ ts) = (lo ≤ k) × Rising (suc k) ts
 
 -- ---- the value
 

@@ -19,7 +19,8 @@ use Rattle.formats.specs.Tree.{Nodes, size}
 use Rattle.drafts.specs.Writing.{push, does, append, one, two, wrapped}
 use Rattle.drafts.proofs.Fine.{Fine, fine-more, fine-one, fine-append, fine-say, fine-wrapped, plain-does}
 use Rattle.theorems.specs.Value.{Power, power, termValue}
-use Rattle.theorems.specs.Places.{costOf, isX, Formed, formed, inTerm, inSum, unlessFinite, firstNotFinite}
+use Rattle.theorems.specs.Records.{costOf, isX}
+use Rattle.theorems.specs.Places.{Formed, formed, inTerm, inSum, unlessFinite, firstNotFinite}
 use Rattle.theorems.proofs.Speed.Steps.{or, or-join, bad, restate, identity-out, multiplies}
 use Rattle.theorems.proofs.Speed.Pieces.{Yields, end-yields, then-yields, join-yields, dup-yields}
 use Rattle.theorems.proofs.Speed.Terms.{piece, piece-yields, piece-fine, zero-number, zero-fine, or-unless, reyield}

@@ -26,9 +26,10 @@ use Rattle.running.specs.declared.RunAnswer.the-variants.{Value, Refused}
 use Rattle.running.specs.Primitives.{times, power, leave, apply, act}
 use Rattle.running.specs.Running.{runs, runNodes}
 use Rattle.theorems.specs.Value.{Power, Terms, nothing, term, termValue, plusTerms, value}
-use Rattle.theorems.specs.Places.{shapes, inTerm, inSum, inAll, firstNotFinite}
+use Rattle.theorems.specs.Records.{shapes, peakOf}
+use Rattle.theorems.specs.Places.{inTerm, inSum, inAll, firstNotFinite}
+use Rattle.theorems.specs.Contract.PowerSum.{PowerSum}
 use Rattle.theorems.specs.Value as value
-use Rattle.theorems.specs.Promise.{peakOf, PowerSum}
 use Rattle.theorems.proofs.Speed.Theorem.{power-sum}
 
 abbrev three64 : Float

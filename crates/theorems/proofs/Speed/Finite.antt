@@ -17,7 +17,8 @@ use Rattle.numbers.proofs.Bools.{bool-ext, and-true, T-of}
 use Rattle.numbers.proofs.Finite.{add-finite, mul-finite}
 use Rattle.running.specs.Primitives.{times}
 use Rattle.theorems.specs.Value.{Power, power, termValue, timesUnless, plusTerms, value}
-use Rattle.theorems.specs.Places.{costOf, isX, formedUnless, inTerm, inSum, inAll, unlessFinite, firstNotFinite}
+use Rattle.theorems.specs.Records.{costOf, isX}
+use Rattle.theorems.specs.Places.{formedUnless, inTerm, inSum, inAll, unlessFinite, firstNotFinite}
 use Rattle.theorems.proofs.Speed.Steps.{or, bad}
 use Rattle.theorems.proofs.Speed.Building.{in-sum}
 use Rattle.theorems.proofs.Speed.Whole.{in-all}

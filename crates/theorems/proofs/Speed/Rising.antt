@@ -2,7 +2,7 @@
 use Prim.Native.Nat.{ℕ, suc, _+_, _-_, _≤_, _<_}
 use mathlib.Core.Path.{_≡_, refl, sym, _∙_}
 use mathlib.Core.Bool.{true}
-use mathlib.Core.List.{List, [], _∷_}
+use mathlib.Core.List.{List}
 use native.Mathlib.Omega.{arith}
 use lib.Dec.{ltb→lt}
 use lib.ListN.{length}
@@ -22,13 +22,8 @@ use Rattle.trees.specs.Good.{isEmpty, Before, Good}
 use Rattle.trees.specs.Order.{cmpEach, cmpTerm}
 use Rattle.trees.proofs.Order.{Key, good-key, term-chain}
 use Rattle.sums.proofs.Walk.{GoodFirst, good-and}
-use Rattle.theorems.specs.Value.{Power, power}
+use Rattle.theorems.specs.Value.{Power, Rising}
 use Rattle.theorems.proofs.Speed.Listed.{Listed, nothing, zero-term, term}
-
--- strictly rising, from lo on
-abbrev pub Rising : ℕ → List Power → Type 0
-Rising lo [] = Unit {0}
-Rising lo (power k c ∷ ts) = (lo ≤ k) × Rising (suc k) ts
 
 is-none : (i : Sum) → isEmpty i ≡ true → i ≡ none
 is-none none e = refl

@@ -39,7 +39,8 @@ use Rattle.writer.specs.ToNodes.{Form, form, isBare, isConstant, isEmpty, befor
 use Rattle.writer.specs.Count.{cost}
 use Rattle.running.specs.Primitives.{times}
 use Rattle.theorems.specs.Value.{termValue, timesUnless}
-use Rattle.theorems.specs.Places.{formOf, costOf, isX, formedUnless, inTerm, unlessFinite, firstNotFinite}
+use Rattle.theorems.specs.Records.{formOf, costOf, isX}
+use Rattle.theorems.specs.Places.{formedUnless, inTerm, unlessFinite, firstNotFinite}
 use Rattle.theorems.proofs.Speed.Steps.{state, out, or, or-none, bad, number-finite, adds, multiplies, raises}
 use Rattle.theorems.proofs.Speed.Pieces.{Yields, end-yields, then-yields, square-yields}
 

@@ -25,8 +25,9 @@ use Rattle.theorems.specs.Contract.Reals.{RealSum}
 use Rattle.running.specs.declared.RunAnswer.the-variants.{Value, Refused}
 use Rattle.running.specs.Running.{ended, runNodes, runList}
 use Rattle.theorems.specs.Value.{Power, Terms, value}
-use Rattle.theorems.specs.Places.{shapes, inAll, firstNotFinite}
-use Rattle.theorems.specs.Promise.{peakOf, PowerSum}
+use Rattle.theorems.specs.Records.{shapes, peakOf}
+use Rattle.theorems.specs.Places.{inAll, firstNotFinite}
+use Rattle.theorems.specs.Contract.PowerSum.{PowerSum}
 use Rattle.theorems.proofs.Speed.Listed.{Listed, listed, nothing, zero-term, term}
 use Rattle.theorems.proofs.Speed.Steps.{state, out}
 use Rattle.theorems.proofs.Speed.Terms.{form-is, can-write, one-real}

@@ -29,14 +29,13 @@ use Rattle.writer.specs.ToNodes.{isBare, write}
 use Rattle.writer.specs.Count.{cost}
 use Rattle.running.specs.Primitives.{times}
 use Rattle.running.specs.Running.{runs}
-use Rattle.theorems.specs.Value.{Power, power, termValue, plusTerms, value}
-use Rattle.theorems.specs.Places.{formOf, costOf, isX, inTerm, inSum, inAll, firstNotFinite}
-use Rattle.theorems.specs.Promise.{peakOf}
+use Rattle.theorems.specs.Value.{Power, power, Rising, termValue, plusTerms, value}
+use Rattle.theorems.specs.Records.{formOf, costOf, isX, peakOf}
+use Rattle.theorems.specs.Places.{inTerm, inSum, inAll, firstNotFinite}
 use Rattle.theorems.proofs.Speed.Listed.{Listed, nothing, zero-term, term}
 use Rattle.theorems.proofs.Speed.Steps.{state, out, or, or-none, bad}
 use Rattle.theorems.proofs.Speed.Terms.{piece, piece-size, write-zero, write-term}
 use Rattle.theorems.proofs.Speed.Building.{first-append, same-places, Built, rebuild, built-zero, built-x, built-term, built-join, built-dup}
-use Rattle.theorems.proofs.Speed.Rising.{Rising}
 
 -- ---- after the first term
 

@@ -1,11 +1,10 @@
--- What document 01 owes for the list of a sum of whole powers: how many records it has, and the value, the steps and the peak of its run, or its refusal and the place.
-use Prim.Native.Nat.{ℕ, suc}
+-- The list of a sum of whole powers: how many records it has, and how it runs.
+use Prim.Native.Nat.{ℕ}
 use mathlib.Core.Path.{_≡_}
-use mathlib.Core.Bool.{false, cond}
-use mathlib.Core.List.{List, [], _∷_}
+use mathlib.Core.Bool.{false}
+use mathlib.Core.List.{List}
 use mathlib.Core.Option.{none, some}
 use lib.Dec.{T}
-use lib.ListN.{length}
 use lib.Ieee.{Float}
 use lib.Ieee.Scale.{finite}
 use Rattle.limits.specs.declared.Refusal.the-variants.{NotFinite}
@@ -16,14 +15,9 @@ use Rattle.writer.specs.ToNodes.{toNodes}
 use Rattle.writer.specs.Count.{recordsFor}
 use Rattle.running.specs.declared.RunAnswer.the-variants.{Value, Refused}
 use Rattle.running.specs.Running.{runNodes, runList}
-use Rattle.theorems.specs.Value.{Power, power, value}
-use Rattle.theorems.specs.Places.{shapes, isX, inAll, firstNotFinite}
-
--- n terms: n + 1, but 1 for bare x and 2 for none
-unfoldable pub peakOf : List Power → ℕ
-peakOf [] = 2
-peakOf (power k c ∷ []) = cond (isX k c) 1 2
-peakOf (power k c ∷ t ∷ ts) = suc (length (power k c ∷ t ∷ ts))
+use Rattle.theorems.specs.Value.{Power, value}
+use Rattle.theorems.specs.Records.{shapes, peakOf}
+use Rattle.theorems.specs.Places.{inAll, firstNotFinite}
 
 -- ns is the list of s, whose terms that aren't zero are ts: the number of its records, and its run at every finite x.
 -- Where every value formed is finite, the run gives the value of the terms, in as many steps as there are records; else it is refused with 15 at the record that forms the first that isn't. Its bytes run alike.
