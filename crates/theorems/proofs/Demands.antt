@@ -2,9 +2,9 @@
 -- output byte as it was; and any two answers that a promise allows are the same. Assumes nothing.
 use Prim.Native.Nat.{ℕ, _≤_}
 use native.Mathlib.Omega.{arith}
-use mathlib.Core.Path.{_≡_, refl, sym, ap, _∙_}
+use mathlib.Core.Path.{_≡_, refl, sym, ap, subst, _∙_}
 use mathlib.Core.List.{List}
-use mathlib.Core.Logic.{_⊎_, inl, inr}
+use mathlib.Core.Logic.{inl, inr}
 use Rattle.limits.specs.declared.Refusal.{Refusal}
 use Rattle.limits.specs.declared.Refusal.the-variants as refusals
 use Rattle.limits.specs.Refusals.{refusalNo}
@@ -22,17 +22,11 @@ use Rattle.algebra.specs.declared.ReadAnswer.the-variants as answer
 use Rattle.algebra.specs.Reading.{readList}
 use Rattle.algebra.specs.Entries as lists
 use Rattle.algebra.specs.Replies
-use Rattle.algebra.specs.Replies.{Entry, Reply, refusing, ofRead, ofAnswer, ofRun, Promised}
+use Rattle.algebra.specs.Replies.{Reply, refusing, ofRead, ofAnswer, ofRun}
+use Rattle.theorems.specs.Demands.{Answers, Demand1, Determined}
 use Rattle.theorems.proofs.Reading as reading
 
 -- ---- demand 1
-
--- a refusal of the table, at a place, with zero counts; no output byte was changed
-pub record Refuses (out out′ : List ℕ) (r : Reply) : Type 0 where
-  pub refusal : Refusal
-  pub place : ℕ
-  pub is : r ≡ refusing refusal place
-  pub quiet : out′ ≡ out
 
 -- the table's numbers are 1 to 17, so a refusal is no result
 pub numbered : (q : Refusal) → (1 ≤ refusalNo q) × (refusalNo q ≤ 17)
@@ -54,23 +48,22 @@ numbered refusals.NotFinite = (omega arith, omega arith)
 numbered refusals.BigPower = (omega arith, omega arith)
 numbered refusals.OutputRoom = (omega arith, omega arith)
 
-abbrev pub Answers : List ℕ → List ℕ → Reply → Type 0
-Answers out out′ r = (r .number ≡ 0) ⊎ Refuses out out′ r
+refuses : {out out′ : List ℕ} {r : Reply} (q : Refusal) (at : ℕ) → r ≡ refusing q at → out′ ≡ out → Answers out out′ r
+refuses q at e f = inr (record { refusal = q; place = at; is = e; numbered = subst (λ (k : ℕ). (1 ≤ k) × (k ≤ 17)) (ap (λ z. z .number) (sym e)) (numbered q); quiet = f })
 
 by-answer : (a : Answer) {out out′ : List ℕ} {r : Reply} → r ≡ ofAnswer a → ((q : Refusal) (at : ℕ) → a ≡ given.Refused q at → out′ ≡ out) → Answers out out′ r
 by-answer (given.Done n) e f = inl (ap (λ z. z .number) e)
-by-answer (given.Refused q at) e f = inr (record { refusal = q; place = at; is = e; quiet = f q at refl })
+by-answer (given.Refused q at) e f = refuses q at e (f q at refl)
 
 by-read : (a : ReadAnswer) {out out′ : List ℕ} {r : Reply} → r ≡ ofRead a → ((q : Refusal) (at : ℕ) → a ≡ answer.Refused q at → out′ ≡ out) → Answers out out′ r
 by-read (answer.Sum n c) e f = inl (ap (λ z. z .number) e)
-by-read (answer.Refused q at) e f = inr (record { refusal = q; place = at; is = e; quiet = f q at refl })
+by-read (answer.Refused q at) e f = refuses q at e (f q at refl)
 
 by-run : (a : RunAnswer) {out out′ : List ℕ} {r : Reply} → r ≡ ofRun a → out′ ≡ out → Answers out out′ r
 by-run (ran.Value v s p) e f = inl (ap (λ z. z .number) e)
-by-run (ran.Refused q at) e f = inr (record { refusal = q; place = at; is = e; quiet = f })
+by-run (ran.Refused q at) e f = refuses q at e f
 
--- whatever the entry, its input and the output lent to it
-pub demand-1 : (e : Entry) (l out out′ : List ℕ) (r : Reply) → Promised e l out out′ r → Answers out out′ r
+pub demand-1 : Demand1
 demand-1 Replies.read l out out′ r p = by-read (p .0) (p .1) (λ q at i. reading.refusal-quiet (readList l) (p .2) i)
 demand-1 Replies.derive l out out′ r p = by-answer (p .0) (p .1) (λ q at i. bytes-quiet (p .2) i)
 demand-1 Replies.integrate l out out′ r p = by-answer (p .0) (p .1) (λ q at i. bytes-quiet (p .2) i)
@@ -85,8 +78,7 @@ demand-1 (Replies.run x) l out out′ r p = by-run (runList l x) (p .0) (p .1)
 same-reply : {A : Type 0} (f : A → Reply) {a b : A} {r s : Reply} {out₁ out₂ : List ℕ} → r ≡ f a → s ≡ f b → (a ≡ b) × (out₁ ≡ out₂) → (r ≡ s) × (out₁ ≡ out₂)
 same-reply f e g h = (e ∙ ap f (h .0) ∙ sym g, h .1)
 
--- any two answers that an entry's promise allows are the same, and so is every byte of the output
-pub determined : (e : Entry) (l out out₁ out₂ : List ℕ) (r₁ r₂ : Reply) → Promised e l out out₁ r₁ → Promised e l out out₂ r₂ → (r₁ ≡ r₂) × (out₁ ≡ out₂)
+pub determined : Determined
 determined Replies.read l out out₁ out₂ r₁ r₂ p q = same-reply ofRead (p .1) (q .1) (promises.determined (p .2) (q .2))
 determined Replies.derive l out out₁ out₂ r₁ r₂ p q = same-reply ofAnswer (p .1) (q .1) (bytes-determined (p .2) (q .2))
 determined Replies.integrate l out out₁ out₂ r₁ r₂ p q = same-reply ofAnswer (p .1) (q .1) (bytes-determined (p .2) (q .2))

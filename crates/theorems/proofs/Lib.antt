@@ -4,6 +4,7 @@ pub mod Composing
 pub mod Demands
 pub mod Reading
 pub mod Demand3
+pub mod Functions
 pub mod Written
 pub mod Real
 pub mod Speed

@@ -2,6 +2,8 @@
 pub mod Contract
 pub mod Value
 pub mod Records
+pub mod Demands
 pub mod Demand3
 pub mod Places
+pub mod Functions
 pub mod Cases
