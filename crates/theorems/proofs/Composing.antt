@@ -1,5 +1,4 @@
--- The entries compose: derivative is read, derive and write, through bytes or not; integral likewise. What read, derive and integrate write is a good sum,
--- and what write, derivative, integral and inverse write is a good list. Assumes nothing.
+-- The entries compose: derivative is read, derive and write, each handed the bytes that the one before wrote; integral likewise. Assumes nothing.
 use Prim.Native.Nat.{ℕ, _*_, _≤_}
 use native.Mathlib.Omega.{arith}
 use mathlib.Core.Path.{_≡_, refl, sym, ap, subst, _∙_}
@@ -22,25 +21,18 @@ use Rattle.calculus.specs.Integral as integrals
 use Rattle.calculus.proofs.Good.{derive-good, integrate-good}
 use Rattle.answers.specs.declared.Answer.{Answer}
 use Rattle.answers.specs.declared.Answer.the-variants as given
-use Rattle.answers.specs.Promises.{Promise}
 use Rattle.answers.specs.Making as making
 use Rattle.answers.specs.Making.{Made, ofOutcome, ofSum, write, derive, integrate, deriveAndWrite, integrateAndWrite, Gives, OfBytes}
 use Rattle.answers.proofs.Giving.{gives-refusal}
 use Rattle.answers.proofs.Taking.{of-good}
 use Rattle.answers.proofs.Told.{Success, success, refusal, not-made, refused-same, sum-same, SumMade, sum-made, refused-outcome, first-bytes}
-use Rattle.algebra.specs.Reading.{readList, madeOf, flagOf, answerOf, bytesOf}
+use Rattle.algebra.specs.Reading.{readList, madeOf, flagOf}
 use Rattle.algebra.specs.Entries.{afterRead, derivative, integral}
 use Rattle.algebra.specs.declared.ReadAnswer.the-variants as answer
+use Rattle.theorems.specs.Composing.{ReadGives, ReadTold, Composes, DerivativeComposes, IntegralComposes}
 use Rattle.theorems.proofs.Reading.{sum-good, unflagged, sum-flagged, refusal-flagged}
 
 -- ---- what `read` tells
-
--- the sum's bytes are the output's first
-pub record ReadTold (x : Read) (n : ℕ) (c : Bool) (out′ : List ℕ) : Type 0 where
-  pub s : Sum
-  pub handled : Bool
-  pub is : x ≡ done s c handled
-  pub bytes : take (32 * n) out′ ≡ encodeSum s
 
 sum-read : (x : Read) {n : ℕ} {c : Bool} {bytes out′ : List ℕ} (out : List ℕ) → madeOf x ≡ making.made n bytes → flagOf x ≡ c → n ≤ entriesIn out → out′ ≡ sets out 0 bytes → ReadTold x n c out′
 sum-read (done s d h) {n} out e f fits w =
@@ -53,7 +45,7 @@ sum-read (done s d h) {n} out e f fits w =
     }
 sum-read (refusedAt q at h) out e f fits w = absurd (not-made e)
 
-pub read-told : (x : Read) {out out′ : List ℕ} {n : ℕ} {c : Bool} → Promise (answerOf x) (bytesOf x) out out′ (answer.Sum n c) → ReadTold x n c out′
+pub read-told : (x : Read) {out out′ : List ℕ} {n : ℕ} {c : Bool} → ReadGives x out out′ (answer.Sum n c) → ReadTold x n c out′
 read-told x {out} {out′} p =
     let u = unflagged x p in
     let f = sum-flagged (flagOf x) (u .answer) (u .is) in
@@ -64,20 +56,21 @@ refusal-read : (x : Read) {q : Refusal} {at : ℕ} → madeOf x ≡ making.refus
 refusal-read (refusedAt p i h) e = let z = refused-same e in (h, rw (z .0, z .1) refl)
 refusal-read (done s c h) e = absurd (not-made (sym e))
 
-pub read-refusal : (x : Read) {out out′ : List ℕ} {q : Refusal} {at : ℕ} → Promise (answerOf x) (bytesOf x) out out′ (answer.Refused q at) → (q ≡ OutputRoom → ⊥) → (h : Bool) × (x ≡ refusedAt q at h)
+pub read-refusal : (x : Read) {out out′ : List ℕ} {q : Refusal} {at : ℕ} → ReadGives x out out′ (answer.Refused q at) → (q ≡ OutputRoom → ⊥) → (h : Bool) × (x ≡ refusedAt q at h)
 read-refusal x {out} {out′} p n =
     let u = unflagged x p in
     refusal-read x (refusal entriesIn (madeOf x) (subst (λ (a : Answer). Gives entriesIn (madeOf x) out out′ a) (refusal-flagged (flagOf x) (u .answer) (u .is)) (u .gives)) n)
 
 -- reading refused, and not for want of room
-pub after-refusal : (l : List ℕ) {out₁ out₁′ : List ℕ} {q : Refusal} {at : ℕ} (f : Bool → Sum → Made) (out : List ℕ) → Promise (answerOf (readList l)) (bytesOf (readList l)) out₁ out₁′ (answer.Refused q at) → (q ≡ OutputRoom → ⊥) → Gives recordsIn (afterRead (readList l) f) out out (given.Refused q at)
+after-refusal : (l : List ℕ) {out₁ out₁′ : List ℕ} {q : Refusal} {at : ℕ} (f : Bool → Sum → Made) (out : List ℕ) → ReadGives (readList l) out₁ out₁′ (answer.Refused q at) → (q ≡ OutputRoom → ⊥)
+    → Gives recordsIn (afterRead (readList l) f) out out (given.Refused q at)
 after-refusal l {out₁} {out₁′} {q} {at} f out p n = let w = read-refusal (readList l) p n in rw (w .1) (gives-refusal recordsIn q at out)
 
 -- ---- through bytes
 
 -- g derives or integrates: of a good sum it makes a good one
 module _ (g : Sum → Outcome) (keeps : (s d : Sum) → GoodSum s → g s ≡ sum d → GoodSum d) (l : List ℕ) {out₁ out₁′ : List ℕ} where
-  module _ {n : ℕ} {c : Bool} (p : Promise (answerOf (readList l)) (bytesOf (readList l)) out₁ out₁′ (answer.Sum n c)) (out₂ out₂′ : List ℕ) where
+  module _ {n : ℕ} {c : Bool} (p : ReadGives (readList l) out₁ out₁′ (answer.Sum n c)) (out₂ out₂′ : List ℕ) where
     told : ReadTold (readList l) n c out₁′
     told = read-told (readList l) p
 
@@ -88,7 +81,7 @@ module _ (g : Sum → Outcome) (keeps : (s d : Sum) → GoodSum s → g s ≡ su
     of-told {r} q = of-good (told .s) (good .good) (good-some good) (good .room) (subst (λ z. OfBytes entriesIn (λ s. ofOutcome (g s) ofSum) z out₂ out₂′ r) (told .bytes) q)
 
     -- g refused, and not for want of room
-    pub composed-refusal : {q : Refusal} {at : ℕ} (out : List ℕ) → OfBytes entriesIn (λ s. ofOutcome (g s) ofSum) (take (32 * n) out₁′) out₂ out₂′ (given.Refused q at) → (q ≡ OutputRoom → ⊥)
+    composed-refusal : {q : Refusal} {at : ℕ} (out : List ℕ) → OfBytes entriesIn (λ s. ofOutcome (g s) ofSum) (take (32 * n) out₁′) out₂ out₂′ (given.Refused q at) → (q ≡ OutputRoom → ⊥)
         → Gives recordsIn (afterRead (readList l) (λ f s. ofOutcome (g s) (write f))) out out (given.Refused q at)
     composed-refusal {q} {at} out b m =
         let e = refusal entriesIn (ofOutcome (g (told .s)) ofSum) (of-told b) m in
@@ -112,41 +105,26 @@ module _ (g : Sum → Outcome) (keeps : (s d : Sum) → GoodSum s → g s ≡ su
           ∙ first-bytes (encodeSum (formed .s)) out₂ (32 * m) (omega (arith, formed .many, length-sum (formed .s))) (omega (arith, made .fits))
 
       -- what write answers to those bytes is what comes of the list in one
-      pub composed : {out out′ : List ℕ} {r : Answer} → OfBytes recordsIn (write c) (take (32 * m) out₂′) out out′ r → Gives recordsIn (afterRead (readList l) (λ f s. ofOutcome (g s) (write f))) out out′ r
+      composed : {out out′ : List ℕ} {r : Answer} → OfBytes recordsIn (write c) (take (32 * m) out₂′) out out′ r
+          → Gives recordsIn (afterRead (readList l) (λ f s. ofOutcome (g s) (write f))) out out′ r
       composed {out} {out′} {r} w =
           let k = of-good (formed .s) (kept .good) (good-some kept) (kept .room) (subst (λ z. OfBytes recordsIn (write c) z out out′ r) bytes w) in
           rw (told .is) (rw (formed .is) k)
 
 -- ---- derivative and integral
 
--- read wrote n entries, of whose bytes derive wrote m, to whose bytes write answers r: so does derivative to the list
-pub derivative-composed : (l : List ℕ) {out₁ out₁′ : List ℕ} {n : ℕ} {c : Bool} {m : ℕ} {out out′ : List ℕ} {r : Answer} → Promise (answerOf (readList l)) (bytesOf (readList l)) out₁ out₁′ (answer.Sum n c) → (out₂ out₂′ : List ℕ)
-    → OfBytes entriesIn derive (take (32 * n) out₁′) out₂ out₂′ (given.Done m) → OfBytes recordsIn (write c) (take (32 * m) out₂′) out out′ r → Gives recordsIn (derivative l) out out′ r
+composes : (g : Sum → Outcome) → ((s d : Sum) → GoodSum s → g s ≡ sum d → GoodSum d)
+    → Composes (λ s. ofOutcome (g s) ofSum) (λ l. afterRead (readList l) (λ f s. ofOutcome (g s) (write f)))
+composes g keeps = record {
+  writes = λ l out₁ out₁′ out₂ out₂′ out out′ n m c r p b w. composed g keeps l p out₂ out₂′ b w;
+  refuses = λ l out₁ out₁′ out₂ out₂′ out n c q at k p b. composed-refusal g keeps l p out₂ out₂′ out b k;
+  unread = λ l out₁ out₁′ out q at k p. after-refusal l (λ f s. ofOutcome (g s) (write f)) out p k;
+}
+
+pub derivative-composes : DerivativeComposes
 unfolding derive deriveAndWrite derivative
-derivative-composed l p out₂ out₂′ b w = composed derivatives.derive (λ s d g e. derive-good s g e) l p out₂ out₂′ b w
+derivative-composes = composes derivatives.derive (λ s d g e. derive-good s g e)
 
--- what derive refuses, but for want of room, derivative refuses
-pub derivative-refuses : (l : List ℕ) {out₁ out₁′ : List ℕ} {n : ℕ} {c : Bool} {q : Refusal} {at : ℕ} → Promise (answerOf (readList l)) (bytesOf (readList l)) out₁ out₁′ (answer.Sum n c) → (out₂ out₂′ out : List ℕ)
-    → OfBytes entriesIn derive (take (32 * n) out₁′) out₂ out₂′ (given.Refused q at) → (q ≡ OutputRoom → ⊥) → Gives recordsIn (derivative l) out out (given.Refused q at)
-unfolding derive deriveAndWrite derivative
-derivative-refuses l p out₂ out₂′ out b n = composed-refusal derivatives.derive (λ s d g e. derive-good s g e) l p out₂ out₂′ out b n
-
--- what read refuses, but for want of room, derivative refuses
-pub derivative-unread : (l : List ℕ) {out₁ out₁′ : List ℕ} {q : Refusal} {at : ℕ} (out : List ℕ) → Promise (answerOf (readList l)) (bytesOf (readList l)) out₁ out₁′ (answer.Refused q at) → (q ≡ OutputRoom → ⊥) → Gives recordsIn (derivative l) out out (given.Refused q at)
-unfolding derivative
-derivative-unread l out p n = after-refusal l deriveAndWrite out p n
-
--- likewise integral
-pub integral-composed : (l : List ℕ) {out₁ out₁′ : List ℕ} {n : ℕ} {c : Bool} {m : ℕ} {out out′ : List ℕ} {r : Answer} → Promise (answerOf (readList l)) (bytesOf (readList l)) out₁ out₁′ (answer.Sum n c) → (out₂ out₂′ : List ℕ)
-    → OfBytes entriesIn integrate (take (32 * n) out₁′) out₂ out₂′ (given.Done m) → OfBytes recordsIn (write c) (take (32 * m) out₂′) out out′ r → Gives recordsIn (integral l) out out′ r
+pub integral-composes : IntegralComposes
 unfolding integrate integrateAndWrite integral
-integral-composed l p out₂ out₂′ b w = composed integrals.integrate (λ s d g e. integrate-good s g e) l p out₂ out₂′ b w
-
-pub integral-refuses : (l : List ℕ) {out₁ out₁′ : List ℕ} {n : ℕ} {c : Bool} {q : Refusal} {at : ℕ} → Promise (answerOf (readList l)) (bytesOf (readList l)) out₁ out₁′ (answer.Sum n c) → (out₂ out₂′ out : List ℕ)
-    → OfBytes entriesIn integrate (take (32 * n) out₁′) out₂ out₂′ (given.Refused q at) → (q ≡ OutputRoom → ⊥) → Gives recordsIn (integral l) out out (given.Refused q at)
-unfolding integrate integrateAndWrite integral
-integral-refuses l p out₂ out₂′ out b n = composed-refusal integrals.integrate (λ s d g e. integrate-good s g e) l p out₂ out₂′ out b n
-
-pub integral-unread : (l : List ℕ) {out₁ out₁′ : List ℕ} {q : Refusal} {at : ℕ} (out : List ℕ) → Promise (answerOf (readList l)) (bytesOf (readList l)) out₁ out₁′ (answer.Refused q at) → (q ≡ OutputRoom → ⊥) → Gives recordsIn (integral l) out out (given.Refused q at)
-unfolding integral
-integral-unread l out p n = after-refusal l integrateAndWrite out p n
+integral-composes = composes integrals.integrate (λ s d g e. integrate-good s g e)

@@ -1,5 +1,6 @@
 -- The lists to try that document 01 marks with a star: for each the entry, the bytes handed over, and the answer with the bytes written.
 use Prim.Native.Nat.{ℕ}
+use mathlib.Core.Path.{_≡_}
 use mathlib.Core.Bool.{Bool, false}
 use mathlib.Core.List.{List, [], _∷_, _++_}
 use lib.Ieee.{Float, binary64, ofBits}
@@ -126,3 +127,18 @@ table =
     ∷ case read (does prim.Dup ∷ []) (refused TooManyOutputs 0)
     ∷ case read (does prim.Flip ∷ []) (refused TooManyVariables 0)
     ∷ []
+
+-- ---- the theorem
+
+-- what the entries answer, and what the table says
+abbrev pub results : List Case → List Shown
+results [] = []
+results (c ∷ cs) = shown (c .entry) (c .given) ∷ results cs
+
+abbrev pub answers : List Case → List Shown
+answers [] = []
+answers (c ∷ cs) = c .answer ∷ answers cs
+
+-- are the same, case by case
+abbrev pub Cases : Type 0
+Cases = results table ≡ answers table

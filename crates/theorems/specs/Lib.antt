@@ -6,4 +6,5 @@ pub mod Demands
 pub mod Demand3
 pub mod Places
 pub mod Functions
+pub mod Composing
 pub mod Cases

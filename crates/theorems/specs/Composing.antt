@@ -1,0 +1,50 @@
+-- The entries compose through bytes: `derivative` is read, derive and write, and `integral` is read, integrate and write.
+use Prim.Native.Nat.{ℕ, _*_}
+use mathlib.Core.Path.{_≡_}
+use mathlib.Core.Bool.{Bool}
+use mathlib.Core.List.{List}
+use lib.ListN.{take}
+use Rattle.limits.specs.declared.Refusal.{Refusal}
+use Rattle.limits.specs.declared.Refusal.the-variants.{OutputRoom}
+use Rattle.trees.specs.Sums.{Sum}
+use Rattle.formats.specs.Tree.{recordsIn}
+use Rattle.entries.specs.Encoding.{entriesIn, encodeSum}
+use Rattle.bodies.specs.Reading.{Read, done}
+use Rattle.answers.specs.declared.Answer.{Answer}
+use Rattle.answers.specs.declared.Answer.the-variants as given
+use Rattle.answers.specs.Promises.{Promise}
+use Rattle.answers.specs.Making as making
+use Rattle.answers.specs.Making.{Made, Gives, OfBytes}
+use Rattle.algebra.specs.declared.ReadAnswer.{ReadAnswer}
+use Rattle.algebra.specs.declared.ReadAnswer.the-variants as answer
+use Rattle.algebra.specs.Reading.{readList, answerOf, bytesOf}
+use Rattle.algebra.specs.Entries as lists
+
+-- what `read` promises where x is read
+abbrev pub ReadGives : Read → List ℕ → List ℕ → ReadAnswer → Type 0
+ReadGives x out out′ a = Promise (answerOf x) (bytesOf x) out out′ a
+
+-- it tells n entries and the flag c: x is a sum with that flag, and the sum's bytes are the output's first
+pub record ReadTold (x : Read) (n : ℕ) (c : Bool) (out′ : List ℕ) : Type 0 where
+  pub s : Sum
+  pub handled : Bool
+  pub is : x ≡ done s c handled
+  pub bytes : take (32 * n) out′ ≡ encodeSum s
+
+-- The whole, of a list, is what the part makes of a sum, between read and write.
+-- Read wrote n entries, of whose bytes the part wrote m, to whose bytes write answers r: so does the whole to the list.
+-- What the part or read refuses, but for want of room, the whole refuses.
+pub record Composes (part : Sum → Made) (whole : List ℕ → Made) : Type 0 where
+  pub writes : (l out₁ out₁′ out₂ out₂′ out out′ : List ℕ) (n m : ℕ) (c : Bool) (r : Answer) → ReadGives (readList l) out₁ out₁′ (answer.Sum n c)
+      → OfBytes entriesIn part (take (32 * n) out₁′) out₂ out₂′ (given.Done m) → OfBytes recordsIn (making.write c) (take (32 * m) out₂′) out out′ r
+      → Gives recordsIn (whole l) out out′ r
+  pub refuses : (l out₁ out₁′ out₂ out₂′ out : List ℕ) (n : ℕ) (c : Bool) (q : Refusal) (at : ℕ) → (q ≡ OutputRoom → ⊥) → ReadGives (readList l) out₁ out₁′ (answer.Sum n c)
+      → OfBytes entriesIn part (take (32 * n) out₁′) out₂ out₂′ (given.Refused q at) → Gives recordsIn (whole l) out out (given.Refused q at)
+  pub unread : (l out₁ out₁′ out : List ℕ) (q : Refusal) (at : ℕ) → (q ≡ OutputRoom → ⊥) → ReadGives (readList l) out₁ out₁′ (answer.Refused q at)
+      → Gives recordsIn (whole l) out out (given.Refused q at)
+
+abbrev pub DerivativeComposes : Type 0
+DerivativeComposes = Composes making.derive lists.derivative
+
+abbrev pub IntegralComposes : Type 0
+IntegralComposes = Composes making.integrate lists.integral
