@@ -41,6 +41,7 @@ sum-read (done s d h) {n} out e f fits w =
       s = s;
       handled = h;
       is = rw f refl;
+      many = z .0;
       bytes = ap (take (32 * n)) (w ∙ ap (sets out 0) (z .1)) ∙ first-bytes (encodeSum s) out (32 * n) (omega (arith, z .0, length-sum s)) (omega (arith, fits));
     }
 sum-read (refusedAt q at h) out e f fits w = absurd (not-made e)

@@ -1,4 +1,4 @@
--- What the entries write is good: a sum that derive or integrate writes is never refused by what takes sums, and a list that write, derivative, integral or
+-- What the entries write is good: a sum that read, derive or integrate writes is never refused by what takes sums, and a list that write, derivative, integral or
 -- inverse writes keeps the rules of 11 and 13. Assumes nothing.
 use Prim.Native.Nat.{ℕ, _*_}
 use native.Mathlib.Omega.{arith}
@@ -40,17 +40,21 @@ use Rattle.answers.specs.Making.{Made, refusedAt, ofOutcome, ofSum, ofList, wri
 use Rattle.answers.proofs.Told.{success, sum-made, list-made, not-made, first-bytes}
 use Rattle.algebra.specs.Reading.{readList}
 use Rattle.algebra.specs.Entries.{afterRead, inverseOf, derivative, integral, inverse}
-use Rattle.theorems.proofs.Reading.{sum-good}
+use Rattle.algebra.specs.declared.ReadAnswer.the-variants as answer
+use Rattle.theorems.specs.Composing.{ReadGives}
+use Rattle.theorems.specs.Written.{SumTaken, ListGood, WritesGood}
+use Rattle.theorems.proofs.Reading.{sum-good, sum-taken}
+use Rattle.theorems.proofs.Composing.{read-told}
 
 -- ---- of a sum that was handed over
 
 -- it was taken, and is good
-pub record TakenSum (f : Sum → Made) (room : List ℕ → ℕ) (out out′ : List ℕ) (n : ℕ) : Type 0 where
-  pub s : Sum
-  pub good : GoodSum s
-  pub gives : Gives room (f s) out out′ (given.Done n)
+record TakenSum (f : Sum → Made) (room : List ℕ → ℕ) (out out′ : List ℕ) (n : ℕ) : Type 0 where
+  s : Sum
+  good : GoodSum s
+  gives : Gives room (f s) out out′ (given.Done n)
 
-pub was-taken : {room : List ℕ → ℕ} {f : Sum → Made} {l out out′ : List ℕ} {n : ℕ} → OfBytes room f l out out′ (given.Done n) → TakenSum f room out out′ n
+was-taken : {room : List ℕ → ℕ} {f : Sum → Made} {l out out′ : List ℕ} {n : ℕ} → OfBytes room f l out out′ (given.Done n) → TakenSum f room out out′ n
 was-taken {room} {f} {l} {out} {out′} {n} p = go (p .weight) refl
   where
     go : (t : Taken) → p .weight ≡ t → TakenSum f room out out′ n
@@ -61,8 +65,9 @@ was-taken {room} {f} {l} {out} {out′} {n} p = go (p .weight) refl
 
 -- ---- sums
 
-made-taken : (g : Sum → Outcome) → ((s d : Sum) → GoodSum s → g s ≡ sum d → GoodSum d) → {l out out′ : List ℕ} {n : ℕ} (t : Taken) → OfBytes entriesIn (λ s. ofOutcome (g s) ofSum) l out out′ (given.Done n) → Weighed (take (32 * n) out′) t → t ≡ taken.Sum n
-made-taken g keeps {l} {out} {out′} {n} t p w =
+made-taken : (g : Sum → Outcome) → ((s d : Sum) → GoodSum s → g s ≡ sum d → GoodSum d) → {l out out′ : List ℕ} {n : ℕ}
+    → OfBytes entriesIn (λ s. ofOutcome (g s) ofSum) l out out′ (given.Done n) → SumTaken n out′
+made-taken g keeps {l} {out} {out′} {n} p t w =
     let k = was-taken p in
     let o = success entriesIn (ofOutcome (g (k .s)) ofSum) (k .gives) in
     let d = sum-made (g (k .s)) (o .is) in
@@ -70,60 +75,76 @@ made-taken g keeps {l} {out} {out′} {n} t p w =
     let bytes = ap (take (32 * n)) (o .written ∙ ap (sets out 0) (d .these)) ∙ first-bytes (encodeSum (d .s)) out (32 * n) (omega (arith, d .many, length-sum (d .s))) (omega (arith, o .fits)) in
     good-taken (d .s) t (good .good) (good-some good) (good .room) (subst (λ z. Weighed z t) bytes w) ∙ ap taken.Sum (sym (d .many))
 
--- what derive writes is taken as the n entries that it is
-pub derived-taken : {l out out′ : List ℕ} {n : ℕ} (t : Taken) → OfBytes entriesIn derive l out out′ (given.Done n) → Weighed (take (32 * n) out′) t → t ≡ taken.Sum n
+derived-taken : {l out out′ : List ℕ} {n : ℕ} → OfBytes entriesIn derive l out out′ (given.Done n) → SumTaken n out′
 unfolding derive
-derived-taken t p w = made-taken derivatives.derive (λ s d g e. derive-good s g e) t p w
+derived-taken p = made-taken derivatives.derive (λ s d g e. derive-good s g e) p
 
-pub integrated-taken : {l out out′ : List ℕ} {n : ℕ} (t : Taken) → OfBytes entriesIn integrate l out out′ (given.Done n) → Weighed (take (32 * n) out′) t → t ≡ taken.Sum n
+integrated-taken : {l out out′ : List ℕ} {n : ℕ} → OfBytes entriesIn integrate l out out′ (given.Done n) → SumTaken n out′
 unfolding integrate
-integrated-taken t p w = made-taken integrals.integrate (λ s d g e. integrate-good s g e) t p w
+integrated-taken p = made-taken integrals.integrate (λ s d g e. integrate-good s g e) p
+
+read-taken : (l : List ℕ) {out out′ : List ℕ} {n : ℕ} {c : Bool} → ReadGives (readList l) out out′ (answer.Sum n c) → SumTaken n out′
+read-taken l p t w =
+    let r = read-told (readList l) p in
+    sum-taken l t (r .is) (subst (λ z. Weighed z t) (r .bytes) w) ∙ ap taken.Sum (sym (r .many))
 
 -- ---- lists
 
-list-good : {out out′ : List ℕ} {n : ℕ} (w : Written) → Gives recordsIn (ofList w) out out′ (given.Done n) → ((ns : Nodes) → w ≡ wrote ns → verdict (encode ns) ≡ verdicts.Good) → verdict (take (24 * n) out′) ≡ verdicts.Good
+list-good : {out out′ : List ℕ} {n : ℕ} (w : Written) → Gives recordsIn (ofList w) out out′ (given.Done n) → ((ns : Nodes) → w ≡ wrote ns → verdict (encode ns) ≡ verdicts.Good) → ListGood n out′
 list-good {out} {out′} {n} w g h =
     let o = success recordsIn (ofList w) g in
     let d = list-made w (o .is) in
     let bytes = ap (take (24 * n)) (o .written ∙ ap (sets out 0) (d .these)) ∙ first-bytes (encode (d .ns)) out (24 * n) (omega (arith, d .many, length-encode (d .ns))) (omega (arith, o .fits)) in
     ap verdict bytes ∙ h (d .ns) (d .is)
 
-sum-list-good : {out out′ : List ℕ} {n : ℕ} (c : Bool) (s : Sum) → GoodSum s → Gives recordsIn (write c s) out out′ (given.Done n) → verdict (take (24 * n) out′) ≡ verdicts.Good
+sum-list-good : {out out′ : List ℕ} {n : ℕ} (c : Bool) (s : Sum) → GoodSum s → Gives recordsIn (write c s) out out′ (given.Done n) → ListGood n out′
 unfolding write
 sum-list-good c s k g = list-good (toNodes c s) g (λ ns e. written-good c s ns k e)
 
--- what write writes is a good list
-pub write-good : (c : Bool) {l out out′ : List ℕ} {n : ℕ} → OfBytes recordsIn (write c) l out out′ (given.Done n) → verdict (take (24 * n) out′) ≡ verdicts.Good
+write-good : (c : Bool) {l out out′ : List ℕ} {n : ℕ} → OfBytes recordsIn (write c) l out out′ (given.Done n) → ListGood n out′
 write-good c p = let k = was-taken p in sum-list-good c (k .s) (k .good) (k .gives)
 
-after-good : (x : Read) (f : Bool → Sum → Made) {out out′ : List ℕ} {n : ℕ} → ((s : Sum) (c h : Bool) → x ≡ done s c h → Gives recordsIn (f c s) out out′ (given.Done n) → verdict (take (24 * n) out′) ≡ verdicts.Good)
-    → Gives recordsIn (afterRead x f) out out′ (given.Done n) → verdict (take (24 * n) out′) ≡ verdicts.Good
+after-good : (x : Read) (f : Bool → Sum → Made) {out out′ : List ℕ} {n : ℕ} → ((s : Sum) (c h : Bool) → x ≡ done s c h → Gives recordsIn (f c s) out out′ (given.Done n) → ListGood n out′)
+    → Gives recordsIn (afterRead x f) out out′ (given.Done n) → ListGood n out′
 after-good (done s c h) f k g = k s c h refl g
 after-good (reading.refusedAt q at h) f k g = absurd (not-made (success recordsIn (refusedAt q at) g .is))
 
-outcome-good : (o : Outcome) (c : Bool) {out out′ : List ℕ} {n : ℕ} → ((d : Sum) → o ≡ sum d → GoodSum d) → Gives recordsIn (ofOutcome o (write c)) out out′ (given.Done n) → verdict (take (24 * n) out′) ≡ verdicts.Good
+outcome-good : (o : Outcome) (c : Bool) {out out′ : List ℕ} {n : ℕ} → ((d : Sum) → o ≡ sum d → GoodSum d) → Gives recordsIn (ofOutcome o (write c)) out out′ (given.Done n) → ListGood n out′
 outcome-good (sum d) c k g = sum-list-good c d (k d refl) g
 outcome-good (refused q) c k g = absurd (not-made (success recordsIn (refusedAt q 0) g .is))
 
-pub derivative-good : (l : List ℕ) {out out′ : List ℕ} {n : ℕ} → Gives recordsIn (derivative l) out out′ (given.Done n) → verdict (take (24 * n) out′) ≡ verdicts.Good
+derivative-good : (l : List ℕ) {out out′ : List ℕ} {n : ℕ} → Gives recordsIn (derivative l) out out′ (given.Done n) → ListGood n out′
 unfolding derivative deriveAndWrite
 derivative-good l g = after-good (readList l) deriveAndWrite (λ s c h e k. outcome-good (derivatives.derive s) c (λ d i. derive-good s (sum-good l e) i) k) g
 
-pub integral-good : (l : List ℕ) {out out′ : List ℕ} {n : ℕ} → Gives recordsIn (integral l) out out′ (given.Done n) → verdict (take (24 * n) out′) ≡ verdicts.Good
+integral-good : (l : List ℕ) {out out′ : List ℕ} {n : ℕ} → Gives recordsIn (integral l) out out′ (given.Done n) → ListGood n out′
 unfolding integral integrateAndWrite
 integral-good l g = after-good (readList l) integrateAndWrite (λ s c h e k. outcome-good (integrals.integrate s) c (λ d i. integrate-good s (sum-good l e) i) k) g
 
-inverse-of-good : (x : Read) {out out′ : List ℕ} {n : ℕ} → ((s : Sum) (c h : Bool) → x ≡ done s c h → GoodSum s) → Gives recordsIn (inverseOf x) out out′ (given.Done n) → verdict (take (24 * n) out′) ≡ verdicts.Good
+inverse-of-good : (x : Read) {out out′ : List ℕ} {n : ℕ} → ((s : Sum) (c h : Bool) → x ≡ done s c h → GoodSum s) → Gives recordsIn (inverseOf x) out out′ (given.Done n) → ListGood n out′
 unfolding invert
 inverse-of-good (done s c true) k g = list-good (inverses.inverse c s) g (λ ns e. inverse-laws.inverse-good c 4 s (k s c true refl .good) ns e)
 inverse-of-good (done s c false) k g = absurd (not-made (success recordsIn (refusedAt NotHandled 0) g .is))
 inverse-of-good (reading.refusedAt q at true) k g = absurd (not-made (success recordsIn (refusedAt q at) g .is))
 inverse-of-good (reading.refusedAt q at false) {out} {out′} {n} k g = by-number (leb (refusalNo q) 9) g
   where
-    by-number : (b : Bool) → Gives recordsIn (cond b (refusedAt NotHandled 0) (refusedAt q at)) out out′ (given.Done n) → verdict (take (24 * n) out′) ≡ verdicts.Good
+    by-number : (b : Bool) → Gives recordsIn (cond b (refusedAt NotHandled 0) (refusedAt q at)) out out′ (given.Done n) → ListGood n out′
     by-number true g = absurd (not-made (success recordsIn (refusedAt NotHandled 0) g .is))
     by-number false g = absurd (not-made (success recordsIn (refusedAt q at) g .is))
 
-pub inverse-good : (l : List ℕ) {out out′ : List ℕ} {n : ℕ} → Gives recordsIn (inverse l) out out′ (given.Done n) → verdict (take (24 * n) out′) ≡ verdicts.Good
+inverse-good : (l : List ℕ) {out out′ : List ℕ} {n : ℕ} → Gives recordsIn (inverse l) out out′ (given.Done n) → ListGood n out′
 unfolding inverse
 inverse-good l g = inverse-of-good (readList l) (λ s c h e. sum-good l e) g
+
+-- ---- the theorem
+
+pub writes-good : WritesGood
+writes-good = record {
+  read = λ l out out′ n c p. read-taken l p;
+  derive = λ l out out′ n p. derived-taken p;
+  integrate = λ l out out′ n p. integrated-taken p;
+  write = λ c l out out′ n p. write-good c p;
+  derivative = λ l out out′ n g. derivative-good l g;
+  integral = λ l out out′ n g. integral-good l g;
+  inverse = λ l out out′ n g. inverse-good l g;
+}

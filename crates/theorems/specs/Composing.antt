@@ -6,7 +6,7 @@ use mathlib.Core.List.{List}
 use lib.ListN.{take}
 use Rattle.limits.specs.declared.Refusal.{Refusal}
 use Rattle.limits.specs.declared.Refusal.the-variants.{OutputRoom}
-use Rattle.trees.specs.Sums.{Sum}
+use Rattle.trees.specs.Sums.{Sum, size}
 use Rattle.formats.specs.Tree.{recordsIn}
 use Rattle.entries.specs.Encoding.{entriesIn, encodeSum}
 use Rattle.bodies.specs.Reading.{Read, done}
@@ -24,11 +24,12 @@ use Rattle.algebra.specs.Entries as lists
 abbrev pub ReadGives : Read → List ℕ → List ℕ → ReadAnswer → Type 0
 ReadGives x out out′ a = Promise (answerOf x) (bytesOf x) out out′ a
 
--- it tells n entries and the flag c: x is a sum with that flag, and the sum's bytes are the output's first
+-- it tells n entries and the flag c: x is a sum of n entries with that flag, and the sum's bytes are the output's first
 pub record ReadTold (x : Read) (n : ℕ) (c : Bool) (out′ : List ℕ) : Type 0 where
   pub s : Sum
   pub handled : Bool
   pub is : x ≡ done s c handled
+  pub many : n ≡ size s
   pub bytes : take (32 * n) out′ ≡ encodeSum s
 
 -- The whole, of a list, is what the part makes of a sum, between read and write.

@@ -7,4 +7,5 @@ pub mod Demand3
 pub mod Places
 pub mod Functions
 pub mod Composing
+pub mod Written
 pub mod Cases

@@ -1,0 +1,38 @@
+-- What the entries write is good: a sum is taken again by whatever is handed its bytes, and a list keeps the rules of 11 and 13.
+use Prim.Native.Nat.{ℕ, _*_}
+use mathlib.Core.Path.{_≡_}
+use mathlib.Core.Bool.{Bool}
+use mathlib.Core.List.{List}
+use lib.ListN.{take}
+use Rattle.formats.specs.declared.record.Verdict.the-variants as verdicts
+use Rattle.formats.specs.Rules.{verdict}
+use Rattle.formats.specs.Tree.{recordsIn}
+use Rattle.entries.specs.declared.Taken.{Taken}
+use Rattle.entries.specs.declared.Taken.the-variants as taken
+use Rattle.entries.specs.Encoding.{entriesIn}
+use Rattle.entries.specs.Taking.{Weighed}
+use Rattle.answers.specs.declared.Answer.the-variants as given
+use Rattle.answers.specs.Making as making
+use Rattle.answers.specs.Making.{Gives, OfBytes}
+use Rattle.algebra.specs.declared.ReadAnswer.the-variants as answer
+use Rattle.algebra.specs.Reading.{readList}
+use Rattle.algebra.specs.Entries as lists
+use Rattle.theorems.specs.Composing.{ReadGives}
+
+-- the output's first n entries are weighed as the n entries of a sum
+abbrev pub SumTaken : ℕ → List ℕ → Type 0
+SumTaken n out′ = (t : Taken) → Weighed (take (32 * n) out′) t → t ≡ taken.Sum n
+
+-- the output's first n records are a list that isn't refused with 11 or 13
+abbrev pub ListGood : ℕ → List ℕ → Type 0
+ListGood n out′ = verdict (take (24 * n) out′) ≡ verdicts.Good
+
+-- the seven entries that write, where they tell n entries or n records
+pub record WritesGood : Type 0 where
+  pub read : (l out out′ : List ℕ) (n : ℕ) (c : Bool) → ReadGives (readList l) out out′ (answer.Sum n c) → SumTaken n out′
+  pub derive : (l out out′ : List ℕ) (n : ℕ) → OfBytes entriesIn making.derive l out out′ (given.Done n) → SumTaken n out′
+  pub integrate : (l out out′ : List ℕ) (n : ℕ) → OfBytes entriesIn making.integrate l out out′ (given.Done n) → SumTaken n out′
+  pub write : (c : Bool) (l out out′ : List ℕ) (n : ℕ) → OfBytes recordsIn (making.write c) l out out′ (given.Done n) → ListGood n out′
+  pub derivative : (l out out′ : List ℕ) (n : ℕ) → Gives recordsIn (lists.derivative l) out out′ (given.Done n) → ListGood n out′
+  pub integral : (l out out′ : List ℕ) (n : ℕ) → Gives recordsIn (lists.integral l) out out′ (given.Done n) → ListGood n out′
+  pub inverse : (l out out′ : List ℕ) (n : ℕ) → Gives recordsIn (lists.inverse l) out out′ (given.Done n) → ListGood n out′
