@@ -3,6 +3,7 @@ use mathlib.Core.Bool.{Bool, true, false, cond}
 use mathlib.Core.List.{List}
 use Prim.Native.Nat.{ℕ}
 use lib.Dec.{leb}
+use Rattle.limits.specs.Limits.{lastReplaced}
 use Rattle.limits.specs.declared.Refusal.{Refusal}
 use Rattle.limits.specs.declared.Refusal.the-variants.{NotHandled}
 use Rattle.limits.specs.Refusals.{refusalNo}
@@ -25,7 +26,7 @@ integral l = afterRead (readList l) integrateAndWrite
 
 -- 10, at place 0, where what was read doesn't count as handled: it replaces 1 to 9, never 11 to 17
 abbrev pub unhandled : Refusal → ℕ → Made
-unhandled q at = cond (leb (refusalNo q) 9) (refusedAt NotHandled 0) (refusedAt q at)
+unhandled q at = cond (leb (refusalNo q) lastReplaced) (refusedAt NotHandled 0) (refusedAt q at)
 
 abbrev pub inverseOf : Read → Made
 inverseOf (done s c true) = invert c s

@@ -4,6 +4,7 @@ use answers::Numbers;
 use entries::Taken;
 use env::AlgebraData;
 use formats::record::Verdict;
+use limits::LAST_REPLACED;
 use limits::Refusal;
 use limits::SUM_ENTRIES;
 use running::RunAnswer;
@@ -175,7 +176,7 @@ fn refuse_inverse(q: Refusal, at: usize, handled: bool) -> Answer
     if handled {
         return Answer::Refused(q, at);
     }
-    if limits::refusal_no(q) <= 9 {
+    if limits::refusal_no(q) <= LAST_REPLACED {
         return Answer::Refused(Refusal::NotHandled, 0);
     }
     Answer::Refused(q, at)

@@ -1,6 +1,7 @@
 // The Rust's AlgebraEnv: a list read on a stack of sums that starts with x, to the one sum that is left.
 use cells::Entry;
 use complex::Complex;
+use limits::HANDLED_NEEDED;
 use limits::LIST_LEVELS;
 use limits::Refusal;
 use limits::STACK_ENTRIES;
@@ -69,7 +70,7 @@ fn last_of(
     requires { ⌜ Ready (arena ak ai an ar am az) stackEntries env × Room (lent wk wi wn wr wm) sumEntries ⌝ }
     ensures { λ r. ⌜ ((st : State) → Stands (arena (ak .entry) (ai .entry) (an .entry) (ar .entry) (am .entry) (az .entry)) stackEntries env st → DataAs r (lent (wk .exit) (wi .exit) (wn .exit) (wr .exit) (wm .exit)) (ended (went st))) ⌝ }
 {
-    let many = 2 <= env.handled;
+    let many = HANDLED_NEEDED <= env.handled;
     let handled = many | arena::any_complex(ak, ai, an, ar, am, az, env.used);
     if env.used == 0 {
         return AlgebraData::Refused(Refusal::NoOutput, 0, handled);

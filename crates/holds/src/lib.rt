@@ -1,11 +1,12 @@
 // What modifiers take off the stack and hold, with the laws of that. The stack lies in the arena from 0 on; from v on lies what is held.
 use arena::Deep;
+use limits::HANDLED_NEEDED;
 use limits::Refusal;
 use steps::AlgebraEnv;
 ghost use mathlib.Core.Path.{_≡_};
 ghost use Prim.Native.Nat.{_+_, _-_, _≤_};
 ghost use lib.Dec.{leb};
-ghost use Rattle.limits.specs.Limits.{stackEntries};
+ghost use Rattle.limits.specs.Limits.{stackEntries, handledNeeded};
 ghost use Rattle.limits.specs.declared.Refusal.the-variants.{TooManyVariables};
 ghost use Rattle.arena.specs.Contract.Arena.{arena};
 ghost use Rattle.steps.specs.State.{taking};
@@ -32,9 +33,9 @@ pub fn less(k: usize, c: usize) -> usize
 
 // The stack has too few: all of it is gone when a pop finds nothing.
 fn too_few(at: usize, env: AlgebraEnv) -> Begun
-    ensures { λ r. ⌜ r ≡ Halted TooManyVariables at (leb 2 (env .handled)) ⌝ }
+    ensures { λ r. ⌜ r ≡ Halted TooManyVariables at (leb handledNeeded (env .handled)) ⌝ }
 {
-    Begun::Halted(Refusal::TooManyVariables, at, 2 <= env.handled)
+    Begun::Halted(Refusal::TooManyVariables, at, HANDLED_NEEDED <= env.handled)
 }
 
 // The top k sums are taken off the stack and held, just below v.

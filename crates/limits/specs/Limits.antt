@@ -35,3 +35,11 @@ highestPower = 64
 -- on the runner's stack and held
 abbrev pub runValues : ℕ
 runValues = 256
+
+-- how many primitives have to be handled for a list to be undone, where no sum on the stack is complex
+abbrev pub handledNeeded : ℕ
+handledNeeded = 2
+
+-- where a list to be undone doesn't count as handled, the refusals of reading up to this number become 10
+abbrev pub lastReplaced : ℕ
+lastReplaced = 9

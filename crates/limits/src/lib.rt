@@ -28,6 +28,12 @@ pub const HIGHEST_POWER: f64 = 64.0;
 // On the runner's stack and held.
 pub const RUN_VALUES: usize = 256;
 
+// How many primitives have to be handled for a list to be undone, where no sum on the stack is complex.
+pub const HANDLED_NEEDED: usize = 2;
+
+// Where a list to be undone doesn't count as handled, the refusals of reading up to this number become NotHandled.
+pub const LAST_REPLACED: u64 = 9;
+
 // What a refusal is called; refusal_no gives its number.
 pub enum Refusal {
     TooManyVariables,

@@ -4,14 +4,14 @@ use mathlib.Core.Bool.{Bool, true, false, _||_, cond}
 use mathlib.Core.List.{List, [], _∷_, _++_}
 use lib.Dec.{leb}
 use lib.ListN.{length, take, drop}
-use Rattle.limits.specs.Limits.{stackEntries}
+use Rattle.limits.specs.Limits.{stackEntries, handledNeeded}
 use Rattle.limits.specs.declared.Refusal.{Refusal}
 use Rattle.limits.specs.declared.Refusal.the-variants.{TooManyVariables, NoRoom}
 use Rattle.trees.specs.Sums.{Sum}
 use Rattle.trees.specs.Map.{Outcome, sum, refused}
 use Rattle.arena.specs.Stack.{total, anyComplex}
 
--- the stack, its top first; how many primitives were handled, counted to 2; whether a complex number was met
+-- the stack, its top first; how many primitives were handled, counted to handledNeeded; whether a complex number was met
 pub record State : Type 0 where
   pub stack : List Sum
   pub handled : ℕ
@@ -29,9 +29,9 @@ abbrev pub andThen : Walked → (State → Walked) → Walked
 andThen (went st) f = f st
 andThen (stopped q at b) f = stopped q at b
 
--- two or more were handled, or a sum on the stack is complex
+-- handledNeeded or more were handled, or a sum on the stack is complex
 abbrev pub isHandled : State → Bool
-isHandled st = leb 2 (st .handled) || anyComplex (st .stack)
+isHandled st = leb handledNeeded (st .handled) || anyComplex (st .stack)
 
 abbrev pub stop : ℕ → Refusal → State → Walked
 stop at q st = stopped q at (isHandled st)

@@ -4,6 +4,7 @@ use mathlib.Core.Bool.{Bool, true, _||_, cond}
 use mathlib.Core.List.{List, [], _∷_}
 use lib.Dec.{eqb}
 use lib.Ieee.{binary64, ofBits}
+use Rattle.limits.specs.Limits.{handledNeeded}
 use Rattle.numbers.specs.Signs.{zero64}
 use Rattle.complex.specs.Arith as complex
 use Rattle.limits.specs.declared.Refusal.the-variants.{NotSupported, NonScalar, NonReal, NoInverse}
@@ -31,7 +32,7 @@ flagged b st = record { stack = st .stack; handled = st .handled; complex = st .
 
 -- one more is handled
 abbrev pub counted : Bool → State → State
-counted b st = record { stack = st .stack; handled = cond b (min 2 (suc (st .handled))) (st .handled); complex = st .complex }
+counted b st = record { stack = st .stack; handled = cond b (min handledNeeded (suc (st .handled))) (st .handled); complex = st .complex }
 
 -- what a primitive leaves of the one sum that it takes: nothing (Pop), what it forms, or the sum twice (Dup)
 abbrev pub leavesOfOne : ℕ → ℕ → Primitive → ℕ → Sum → State → Walked

@@ -1,5 +1,6 @@
 // The state of reading beside the arena, refusals, and sums put on the stack. The stack of sums lies in the arena from its first slot on;
 // from v on lies what is held.
+use limits::HANDLED_NEEDED;
 use limits::Refusal;
 use limits::SUM_ENTRIES;
 use sums::Formed;
@@ -9,7 +10,7 @@ ghost use mathlib.Core.List.{List};
 ghost use Prim.Native.Nat.{suc, _+_, _-_, _≤_, min};
 ghost use lib.Dec.{leb};
 ghost use lib.ListN.{length};
-ghost use Rattle.limits.specs.Limits.{sumEntries, sumLevels, stackEntries};
+ghost use Rattle.limits.specs.Limits.{sumEntries, sumLevels, stackEntries, handledNeeded};
 ghost use Rattle.cells.specs.Book.{lent, Room};
 ghost use Rattle.trees.specs.Sums.{Sum};
 ghost use Rattle.trees.specs.Map.{Outcome, sum};
@@ -21,7 +22,7 @@ ghost use Rattle.steps.specs.State.{push};
 ghost use Rattle.steps.specs.Contract.Agree.{Ready, Does};
 ghost use Rattle.steps.specs.Contract.Parts.{Filled, finished};
 
-// The state beside the arena: the cells that the stack takes, how many primitives were handled, counted to 2, and whether a complex number was met.
+// The state beside the arena: the cells that the stack takes, how many primitives were handled, counted to HANDLED_NEEDED, and whether a complex number was met.
 pub struct AlgebraEnv {
     pub used: usize,
     pub handled: usize,
@@ -34,7 +35,7 @@ pub enum Ran {
     Stopped(Refusal, usize, bool),
 }
 
-// A refusal. What was read counts as handled where two primitives were, or where a sum on the stack is complex.
+// A refusal. What was read counts as handled where HANDLED_NEEDED primitives were, or where a sum on the stack is complex.
 pub fn halt(
     q: Refusal,
     at: usize,
@@ -47,17 +48,17 @@ pub fn halt(
     env: AlgebraEnv,
 ) -> Ran
     requires { ⌜ (env .used ≤ length (now az)) × ((ss : List Sum) × Stacked (arena ak ai an ar am az) 0 (env .used) ss) ⌝ }
-    ensures { λ r. ⌜ ((ss : List Sum) → Stacked (arena (ak .entry) (ai .entry) (an .entry) (ar .entry) (am .entry) (az .entry)) 0 (env .used) ss → r ≡ Ran.Stopped q at (leb 2 (env .handled) || anyComplex ss)) ⌝ }
+    ensures { λ r. ⌜ ((ss : List Sum) → Stacked (arena (ak .entry) (ai .entry) (an .entry) (ar .entry) (am .entry) (az .entry)) 0 (env .used) ss → r ≡ Ran.Stopped q at (leb handledNeeded (env .handled) || anyComplex ss)) ⌝ }
 {
     let complex = arena::any_complex(ak, ai, an, ar, am, az, env.used);
-    Ran::Stopped(q, at, (2 <= env.handled) | complex)
+    Ran::Stopped(q, at, (HANDLED_NEEDED <= env.handled) | complex)
 }
 
 // A pop that finds nothing: the stack is empty then.
 pub fn short(at: usize, env: AlgebraEnv) -> Ran
-    ensures { λ r. ⌜ r ≡ Ran.Stopped Refusal.TooManyVariables at (leb 2 (env .handled)) ⌝ }
+    ensures { λ r. ⌜ r ≡ Ran.Stopped Refusal.TooManyVariables at (leb handledNeeded (env .handled)) ⌝ }
 {
-    Ran::Stopped(Refusal::TooManyVariables, at, 2 <= env.handled)
+    Ran::Stopped(Refusal::TooManyVariables, at, HANDLED_NEEDED <= env.handled)
 }
 
 // The sum of n cells is put on the stack, if there is room for it below what is held.
@@ -176,14 +177,18 @@ pub fn copy_up(
     )
 }
 
-// One more, counted to 2.
+// One more, counted to HANDLED_NEEDED.
 fn count(n: usize, more: bool) -> usize
-    ensures { λ r. ⌜ r ≡ cond more (min 2 (suc n)) n ⌝ }
+    ensures { λ r. ⌜ r ≡ cond more (min handledNeeded (suc n)) n ⌝ }
 {
     if !more {
         return n;
     }
-    if n < 2 { n + 1 } else { 2 }
+    if n < HANDLED_NEEDED {
+        n + 1
+    } else {
+        HANDLED_NEEDED
+    }
 }
 
 // After a step: whether one more is handled, and whether a complex number was met.

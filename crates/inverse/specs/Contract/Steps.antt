@@ -23,7 +23,7 @@ use Rattle.inverse.specs.declared.Others.the-variants.{Nothing, Power, T
 
 -- the longest list that undoes a sum: a root of 8 records, the larger of two in 8 more, and a division in 2
 abbrev pub inverseRecords : ℕ
-inverseRecords = 18
+inverseRecords = 8 + 8 + 2
 
 -- ---- what there is besides x to the 0, 1 and 2
 

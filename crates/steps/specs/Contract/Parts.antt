@@ -3,7 +3,7 @@ use Prim.Native.Nat.{ℕ, suc, _≤_, min}
 use mathlib.Core.Path.{_≡_}
 use mathlib.Core.Bool.{Bool, _||_, cond}
 use mathlib.Core.List.{List, _++_}
-use Rattle.limits.specs.Limits.{sumEntries}
+use Rattle.limits.specs.Limits.{sumEntries, handledNeeded}
 use Rattle.trees.specs.Sums.{Sum}
 use Rattle.sums.specs.declared.Formed.{Formed}
 use Rattle.sums.specs.declared.Formed.the-variants.{Done, Refused}
@@ -28,5 +28,5 @@ Filled (Refused q) = Unit {0}
 
 -- after a step: one more is handled, if so, and a complex number was met, if so
 abbrev pub finished : Bool → Bool → Ran → Ran
-finished h c (Went env) = Went (record { used = env .used; handled = cond h (min 2 (suc (env .handled))) (env .handled); complex = env .complex || c })
+finished h c (Went env) = Went (record { used = env .used; handled = cond h (min handledNeeded (suc (env .handled))) (env .handled); complex = env .complex || c })
 finished h c (Stopped q at b) = Stopped q at b
