@@ -1,19 +1,22 @@
 -- What an answer says of a list of bytes. Assumes nothing.
 use mathlib.Core.Path.{_≡_, refl, ap, _∙_, sym, subst}
-use mathlib.Core.Bool.{Bool, true}
+use mathlib.Core.Bool.{Bool, true, false}
 use mathlib.Core.Logic.{_↔_, _⊎_, inl, inr, ⊎-elim}
 use mathlib.Core.List.{List, [], append-nil}
 use Prim.Native.Nat.{ℕ, _+_, _*_, _≤_, _<_}
 use native.Mathlib.Omega.{arith}
+use lib.Dec.{eqb}
 use lib.ListN.{length}
 use lib.Seq.{take-all}
+use borrow.Author.Tests.{eqb-true, eqb-false}
 use Rattle.cells.specs.Book.{Book, cell, at, decoded, Room}
 use Rattle.trees.specs.Sums.{Sum, none, and, size, levels}
 use Rattle.trees.specs.Good.{Good}
 use Rattle.trees.proofs.Keeps.{good-levels, good-within}
 use Rattle.limits.specs.Refusals.{refusalNo}
 use Rattle.limits.specs.declared.Refusal.{Refusal}
-use Rattle.limits.specs.declared.Refusal.the-variants.{TooManyVariables, NotSupported, NoOutput, TooManyOutputs, NonScalar, NonReal, TooComplex, InterpreterBug, NoInverse, NotHandled, BadRecord, NoRoom, TooDeep, NeedsMath, NotFinite, BigPower, OutputRoom}
+use Rattle.limits.specs.declared.Refusal.the-variants.{BadRecord, TooDeep}
+use Rattle.limits.proofs.Refusals.{same-number}
 use Rattle.sums.specs.Contract.Lies.{Lies, Held}
 use Rattle.sums.proofs.Walk.{at-stays}
 use Rattle.formats.specs.Bytes.{Bytes}
@@ -160,23 +163,12 @@ other l r p q w = p (ap no (w .bad .1 (λ s e h. q (ap no (w .deep .1 (s, e, h, 
     no-sum e = let z : _≡_ {A = ℕ} 0 1 = cc in omega arith
 
 only : (l : List ℕ) (r : Refusal) → Weighed l (taken.Refused r) → (r ≡ TooDeep) ⊎ (r ≡ BadRecord)
-only l TooManyVariables w = absurd (other l TooManyVariables (λ e. omega arith) (λ e. omega arith) w)
-only l NotSupported w = absurd (other l NotSupported (λ e. omega arith) (λ e. omega arith) w)
-only l NoOutput w = absurd (other l NoOutput (λ e. omega arith) (λ e. omega arith) w)
-only l TooManyOutputs w = absurd (other l TooManyOutputs (λ e. omega arith) (λ e. omega arith) w)
-only l NonScalar w = absurd (other l NonScalar (λ e. omega arith) (λ e. omega arith) w)
-only l NonReal w = absurd (other l NonReal (λ e. omega arith) (λ e. omega arith) w)
-only l TooComplex w = absurd (other l TooComplex (λ e. omega arith) (λ e. omega arith) w)
-only l InterpreterBug w = absurd (other l InterpreterBug (λ e. omega arith) (λ e. omega arith) w)
-only l NoInverse w = absurd (other l NoInverse (λ e. omega arith) (λ e. omega arith) w)
-only l NotHandled w = absurd (other l NotHandled (λ e. omega arith) (λ e. omega arith) w)
-only l BadRecord w = inr refl
-only l NoRoom w = absurd (other l NoRoom (λ e. omega arith) (λ e. omega arith) w)
-only l TooDeep w = inl refl
-only l NeedsMath w = absurd (other l NeedsMath (λ e. omega arith) (λ e. omega arith) w)
-only l NotFinite w = absurd (other l NotFinite (λ e. omega arith) (λ e. omega arith) w)
-only l BigPower w = absurd (other l BigPower (λ e. omega arith) (λ e. omega arith) w)
-only l OutputRoom w = absurd (other l OutputRoom (λ e. omega arith) (λ e. omega arith) w)
+only l r w = go (eqb (refusalNo r) 13) (eqb (refusalNo r) 11) refl refl
+  where
+    go : (a b : Bool) → eqb (refusalNo r) 13 ≡ a → eqb (refusalNo r) 11 ≡ b → (r ≡ TooDeep) ⊎ (r ≡ BadRecord)
+    go true b d e = inl (same-number r TooDeep (eqb-true (refusalNo r) 13 d))
+    go false true d e = inr (same-number r BadRecord (eqb-true (refusalNo r) 11 e))
+    go false false d e = absurd (other l r (eqb-false (refusalNo r) 11 e) (eqb-false (refusalNo r) 13 d) w)
 
 -- so a list of bytes has one answer
 pub settled : (l : List ℕ) (t u : Taken) → Weighed l t → Weighed l u → t ≡ u

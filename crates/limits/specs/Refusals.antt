@@ -21,3 +21,7 @@ refusalNo NeedsMath = 14
 refusalNo NotFinite = 15
 refusalNo BigPower = 16
 refusalNo OutputRoom = 17
+
+-- the last number of the table
+abbrev pub lastNumber : ℕ
+lastNumber = 17

@@ -1,0 +1,2 @@
+-- The root of limits' laws.
+pub mod Refusals
