@@ -4,7 +4,7 @@ use mathlib.Core.Path.{_≡_, refl}
 use mathlib.Core.Bool.{true, false}
 use mathlib.Core.List.{[], _∷_}
 use lib.Ieee.{Float, neg, add, sub, mul, div, eq, lt, ofBits}
-use Rattle.numbers.specs.Constants.{euler}
+use Rattle.numbers.specs.Constants.{euler, two64}
 use Rattle.numbers.specs.Signs.{zero64, one64}
 use Rattle.complex.specs.declared.Complex.{Complex}
 use Rattle.complex.specs.Arith as complex
@@ -14,7 +14,7 @@ use Rattle.trees.specs.Order.{cmpEach}
 use Rattle.trees.specs.Same.{sameSum}
 use Rattle.trees.specs.Map.{sum, at, coefIn, putIn, formed, eachInto}
 use Rattle.terms.specs.Singles.{constant}
-use Rattle.calculus.specs.Derivative.{two64, primeFrom, deriveInto, derive}
+use Rattle.calculus.specs.Derivative.{primeFrom, deriveInto, derive}
 use Rattle.calculus.specs.Integral.{x, integrateInto, integrate}
 use Rattle.calculus.specs.Rules.{slopesAt, allVanish, lastAt, lastLog}
 

@@ -1,13 +1,11 @@
 -- Demand 1, and 'determined', over all eight entries: each answers with a result or with one refusal of the table; a refusal has zero counts and leaves every
 -- output byte as it was; and any two answers that a promise allows are the same. Assumes nothing.
-use Prim.Native.Nat.{ℕ, _≤_}
-use native.Mathlib.Omega.{arith}
+use Prim.Native.Nat.{ℕ}
 use mathlib.Core.Path.{_≡_, refl, sym, ap, subst, _∙_}
 use mathlib.Core.List.{List}
 use mathlib.Core.Logic.{inl, inr}
 use Rattle.limits.specs.declared.Refusal.{Refusal}
-use Rattle.limits.specs.declared.Refusal.the-variants as refusals
-use Rattle.limits.specs.Refusals.{refusalNo}
+use Rattle.limits.proofs.Refusals.{numbered}
 use Rattle.formats.specs.Tree.{recordsIn}
 use Rattle.running.specs.declared.RunAnswer.{RunAnswer}
 use Rattle.running.specs.declared.RunAnswer.the-variants as ran
@@ -23,33 +21,13 @@ use Rattle.algebra.specs.Reading.{readList}
 use Rattle.algebra.specs.Entries as lists
 use Rattle.algebra.specs.Replies
 use Rattle.algebra.specs.Replies.{Reply, refusing, ofRead, ofAnswer, ofRun}
-use Rattle.theorems.specs.Demands.{Answers, Demand1, Determined}
+use Rattle.theorems.specs.Demands.{Numbered, Answers, Demand1, Determined}
 use Rattle.theorems.proofs.Reading as reading
 
 -- ---- demand 1
 
--- the table's numbers are 1 to 17, so a refusal is no result
-pub numbered : (q : Refusal) → (1 ≤ refusalNo q) × (refusalNo q ≤ 17)
-numbered refusals.TooManyVariables = (omega arith, omega arith)
-numbered refusals.NotSupported = (omega arith, omega arith)
-numbered refusals.NoOutput = (omega arith, omega arith)
-numbered refusals.TooManyOutputs = (omega arith, omega arith)
-numbered refusals.NonScalar = (omega arith, omega arith)
-numbered refusals.NonReal = (omega arith, omega arith)
-numbered refusals.TooComplex = (omega arith, omega arith)
-numbered refusals.InterpreterBug = (omega arith, omega arith)
-numbered refusals.NoInverse = (omega arith, omega arith)
-numbered refusals.NotHandled = (omega arith, omega arith)
-numbered refusals.BadRecord = (omega arith, omega arith)
-numbered refusals.NoRoom = (omega arith, omega arith)
-numbered refusals.TooDeep = (omega arith, omega arith)
-numbered refusals.NeedsMath = (omega arith, omega arith)
-numbered refusals.NotFinite = (omega arith, omega arith)
-numbered refusals.BigPower = (omega arith, omega arith)
-numbered refusals.OutputRoom = (omega arith, omega arith)
-
 refuses : {out out′ : List ℕ} {r : Reply} (q : Refusal) (at : ℕ) → r ≡ refusing q at → out′ ≡ out → Answers out out′ r
-refuses q at e f = inr (record { refusal = q; place = at; is = e; numbered = subst (λ (k : ℕ). (1 ≤ k) × (k ≤ 17)) (ap (λ z. z .number) (sym e)) (numbered q); quiet = f })
+refuses q at e f = inr (record { refusal = q; place = at; is = e; numbered = subst Numbered (ap (λ z. z .number) (sym e)) (numbered q); quiet = f })
 
 by-answer : (a : Answer) {out out′ : List ℕ} {r : Reply} → r ≡ ofAnswer a → ((q : Refusal) (at : ℕ) → a ≡ given.Refused q at → out′ ≡ out) → Answers out out′ r
 by-answer (given.Done n) e f = inl (ap (λ z. z .number) e)

@@ -1,5 +1,5 @@
 -- The demands hold of the C functions, whose contracts tell an entry's reply. Assumes nothing.
-use Prim.Native.Nat.{ℕ, _≤_}
+use Prim.Native.Nat.{ℕ}
 use mathlib.Core.Path.{_≡_, refl, sym, ap, subst, _∙_}
 use mathlib.Core.List.{List, [], _∷_}
 use mathlib.Core.Logic.{_⊎_, inl, inr, ⊎-elim}
@@ -8,7 +8,7 @@ use Rattle.algebra.specs.Replies as entry
 use Rattle.algebra.specs.Replies.{Reply, refusing, ofAnswer, ofRun}
 use Rattle.uplink.specs.Told.{withCount, withFlag, withSteps}
 use Rattle.theorems.specs.Value.{Power}
-use Rattle.theorems.specs.Demands.{Refuses, Answers}
+use Rattle.theorems.specs.Demands.{Numbered, Refuses, Answers}
 use Rattle.theorems.specs.Demand3.{Runs}
 use Rattle.theorems.specs.Functions.{ToldRefusal, FunctionsAnswer, FunctionsDetermined, RunsTold, FunctionsSpeed}
 use Rattle.theorems.proofs.Demands.{demand-1, determined}
@@ -24,7 +24,7 @@ module _ (shown : Reply → List ℕ) (zeros : List ℕ) (zero : (q : Refusal) (
       refusal = u .refusal;
       place = u .place;
       returned = n ∙ ap (λ z. z .number) (u .is);
-      numbered = subst (λ (k : ℕ). (1 ≤ k) × (k ≤ 17)) (sym n) (u .numbered);
+      numbered = subst Numbered (sym n) (u .numbered);
       told = a ∙ ap shown (u .is) ∙ zero (u .refusal) (u .place);
       quiet = u .quiet;
     }

@@ -4,16 +4,21 @@ use mathlib.Core.Path.{_≡_}
 use mathlib.Core.List.{List}
 use mathlib.Core.Logic.{_⊎_}
 use Rattle.limits.specs.declared.Refusal.{Refusal}
+use Rattle.limits.specs.Refusals.{lastNumber}
 use Rattle.algebra.specs.Replies.{Entry, Reply, refusing, Promised}
 
 -- ---- demand 1
 
--- one refusal of the table, 1 to 17, at a place, with zero counts; no output byte was changed
+-- a refusal's number in document 01's table, so no 0
+abbrev pub Numbered : ℕ → Type 0
+Numbered n = (1 ≤ n) × (n ≤ lastNumber)
+
+-- one refusal of the table, at a place, with zero counts; no output byte was changed
 pub record Refuses (out out′ : List ℕ) (r : Reply) : Type 0 where
   pub refusal : Refusal
   pub place : ℕ
   pub is : r ≡ refusing refusal place
-  pub numbered : (1 ≤ r .number) × (r .number ≤ 17)
+  pub numbered : Numbered (r .number)
   pub quiet : out′ ≡ out
 
 -- a result, or a refusal

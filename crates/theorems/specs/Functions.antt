@@ -17,16 +17,17 @@ use Rattle.algebra.specs.Replies.{Entry, Reply}
 use Rattle.uplink.specs.Told.{Told, Ran, withCount, withFlag}
 use Rattle.theorems.specs.Value.{Power, value}
 use Rattle.theorems.specs.Records.{records, peakOf}
+use Rattle.theorems.specs.Demands.{Numbered}
 use Rattle.theorems.specs.Demand3.{Formula}
 
 -- ---- demand 1
 
--- the number of one refusal of the table, 1 to 17; `answer` is a place and then zeros; no output byte was changed
+-- the number of one refusal of the table; `answer` is a place and then zeros; no output byte was changed
 pub record ToldRefusal (zeros out out′ : List ℕ) (number : ℕ) (answer : List ℕ) : Type 0 where
   pub refusal : Refusal
   pub place : ℕ
   pub returned : number ≡ refusalNo refusal
-  pub numbered : (1 ≤ number) × (number ≤ 17)
+  pub numbered : Numbered number
   pub told : answer ≡ place ∷ zeros
   pub quiet : out′ ≡ out
 
