@@ -14,7 +14,7 @@ use Rattle.numbers.proofs.Zeros.{zero-of, zero-finite, add-zeros, sub-zeros, ne
 use Rattle.numbers.proofs.Finite.{neg-finite, div-finite, div-by-inf, div-by-nan}
 use Rattle.complex.specs.declared.Complex.{Complex}
 use Rattle.complex.specs.Arith.{plus, minus, negated, times, timesReal, norm, over, overReal, realOver, allFinite}
-use Rattle.complex.specs.Real.{Real}
+use Rattle.complex.specs.Contract.Real.{Real}
 
 pub real-plus : (a b : Complex) → Real a → Real b → Real (plus a b)
 real-plus a b p q = add-zeros binary64 (a .im) (b .im) p q

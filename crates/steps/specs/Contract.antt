@@ -1,3 +1,3 @@
--- What the contracts between own functions cite.
+-- What contracts between own functions, or laws, cite, and no promise to a user.
 pub mod Parts
 pub mod Agree

@@ -1,4 +1,4 @@
--- What the contracts between own functions cite.
+-- What contracts between own functions, or laws, cite, and no promise to a user.
 pub mod Heads
 pub mod Nests
 pub mod Place

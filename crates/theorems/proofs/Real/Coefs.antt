@@ -12,7 +12,7 @@ use Rattle.numbers.proofs.Zeros.{zero-of, mul-zero-left}
 use Rattle.numbers.proofs.Finite.{neg-finite, add-finite, sub-finite, mul-finite, div-finite}
 use Rattle.complex.specs.declared.Complex.{Complex}
 use Rattle.complex.specs.Arith as complex
-use Rattle.complex.specs.Real.{Real}
+use Rattle.complex.specs.Contract.Real.{Real}
 use Rattle.complex.proofs.Real.{real-plus, real-minus, real-negated, real-times, real-timesReal, real-over, real-overReal}
 use Rattle.trees.specs.declared.Merge.{Merge}
 use Rattle.trees.specs.declared.Merge.the-variants.{Add, Take, Store}

@@ -14,7 +14,7 @@ use Rattle.numbers.specs.declared.SmallWhole.the-variants.{Is, Other}
 use Rattle.numbers.proofs.Bools.{T-of}
 use Rattle.complex.specs.declared.Complex.{Complex}
 use Rattle.complex.specs.Arith as complex
-use Rattle.complex.specs.Real.{Real}
+use Rattle.complex.specs.Contract.Real.{Real}
 use Rattle.complex.proofs.Real.{real-negated}
 use Rattle.cells.specs.declared.Entry.{Entry}
 use Rattle.trees.specs.declared.Merge.{Merge}

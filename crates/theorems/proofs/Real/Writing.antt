@@ -12,7 +12,7 @@ use Rattle.numbers.specs.Signs.{±0, sign, Zero}
 use Rattle.numbers.proofs.Zeros.{zero-is}
 use Rattle.complex.specs.declared.Complex.{Complex}
 use Rattle.complex.specs.Arith as complex
-use Rattle.complex.specs.Real.{Real}
+use Rattle.complex.specs.Contract.Real.{Real}
 use Rattle.trees.specs.Kinds as kinds
 use Rattle.trees.specs.Sums.{Sum, none, and}
 use Rattle.trees.specs.Good.{GoodEntry, Good}

@@ -25,7 +25,7 @@ use Rattle.numbers.proofs.Order.{eq-symmetric}
 use Rattle.numbers.proofs.Wholes.{means-eq, means-fin, means-1, means-whole, eq-means, small-whole}
 use Rattle.complex.specs.declared.Complex.{Complex}
 use Rattle.complex.specs.Arith as complex
-use Rattle.complex.specs.Real.{Real}
+use Rattle.complex.specs.Contract.Real.{Real}
 use Rattle.trees.specs.Kinds as kinds
 use Rattle.trees.specs.Good.{isNumber}
 use Rattle.trees.specs.Sums.{Sum, and}

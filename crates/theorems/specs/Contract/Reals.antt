@@ -1,5 +1,5 @@
 -- Sums without imaginary parts.
-use Rattle.complex.specs.Real.{Real}
+use Rattle.complex.specs.Contract.Real.{Real}
 use Rattle.trees.specs.Sums.{Sum, none, and}
 
 -- every coefficient, at every level, has the imaginary part +0 or -0
