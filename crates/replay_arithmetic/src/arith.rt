@@ -1,6 +1,8 @@
-// One primitive on sums that are laid out: n cells from 0 on, and m cells from 64 on where it takes two. The result is formed from 0 on
+// One primitive on sums that are laid out: n cells from 0 on, and m cells from SUM_ENTRIES on where it takes two. The result is formed from 0 on
 // in another book.
 use crate::cases;
+use limits::SUM_ENTRIES;
+use limits::SUM_LEVELS;
 ghost use mathlib.Core.Path.{_≡_};
 ghost use mathlib.Core.Bool.{true};
 ghost use Prim.Native.Nat.{_+_, _*_, _≤_};
@@ -8,6 +10,7 @@ ghost use lib.ListN.{length};
 ghost use Rattle.cells.specs.Book.{lent, Room};
 ghost use Rattle.sums.specs.Contract.Lies.{Held};
 ghost use Rattle.replay_arithmetic.specs.Contract.Ready.{Ready};
+ghost use Rattle.limits.specs.Limits.{entryBytes, sumEntries, sumLevels};
 
 // Whether the primitive takes one sum, or two where the second has entries, and leaves one.
 fn takes(code: u8, m: usize) -> bool {
@@ -18,22 +21,22 @@ fn takes(code: u8, m: usize) -> bool {
 
 // Whether two good sums lie there, the first with an entry or more.
 fn ready(ak: &[u8], ai: &[u8], an: &[u64], ar: &[u64], am: &[u64], n: usize, m: usize) -> bool
-    requires { ⌜ Room (lent ak ai an ar am) 128 ⌝ }
+    requires { ⌜ Room (lent ak ai an ar am) (2 * sumEntries) ⌝ }
     ensures { λ r. ⌜ (r ≡ true → Ready (lent (ak .entry) (ai .entry) (an .entry) (ar .entry) (am .entry)) n m) ⌝ }
 {
     if n == 0 {
         return false;
     }
-    if 64 < n {
+    if SUM_ENTRIES < n {
         return false;
     }
-    if 64 < m {
+    if SUM_ENTRIES < m {
         return false;
     }
-    if !checks::good_sum(ak, ai, an, ar, am, 0, n, 4) {
+    if !checks::good_sum(ak, ai, an, ar, am, 0, n, SUM_LEVELS) {
         return false;
     }
-    checks::good_sum(ak, ai, an, ar, am, 64, m, 4)
+    checks::good_sum(ak, ai, an, ar, am, SUM_ENTRIES, m, SUM_LEVELS)
 }
 
 // Whether what the primitive forms of the first sum, in arrays of this call's own, is what is stored.
@@ -50,13 +53,13 @@ fn one_stored(
     am: &[u64],
     n: usize,
 ) -> bool
-    requires { ⌜ (1 ≤ n) × (n ≤ 64) × Held (lent ak ai an ar am) 0 (0 + n) 4 × (r ≤ 64) × (q + 32 * r ≤ length (now b)) ⌝ }
+    requires { ⌜ (1 ≤ n) × (n ≤ sumEntries) × Held (lent ak ai an ar am) 0 (0 + n) sumLevels × (r ≤ sumEntries) × (q + entryBytes * r ≤ length (now b)) ⌝ }
 {
-    let mut wk = [0u8; 64];
-    let mut wi = [0u8; 64];
-    let mut wn = [0u64; 64];
-    let mut wr = [0u64; 64];
-    let mut wm = [0u64; 64];
+    let mut wk = [0u8; SUM_ENTRIES];
+    let mut wi = [0u8; SUM_ENTRIES];
+    let mut wn = [0u64; SUM_ENTRIES];
+    let mut wr = [0u64; SUM_ENTRIES];
+    let mut wm = [0u64; SUM_ENTRIES];
     let f = singles::form_one(
         formats::record::primitive_of(code),
         ak,
@@ -90,13 +93,13 @@ fn two_stored(
     n: usize,
     m: usize,
 ) -> bool
-    requires { ⌜ (1 ≤ m) × Ready (lent ak ai an ar am) n m × (r ≤ 64) × (q + 32 * r ≤ length (now b)) ⌝ }
+    requires { ⌜ (1 ≤ m) × Ready (lent ak ai an ar am) n m × (r ≤ sumEntries) × (q + entryBytes * r ≤ length (now b)) ⌝ }
 {
-    let mut wk = [0u8; 64];
-    let mut wi = [0u8; 64];
-    let mut wn = [0u64; 64];
-    let mut wr = [0u64; 64];
-    let mut wm = [0u64; 64];
+    let mut wk = [0u8; SUM_ENTRIES];
+    let mut wi = [0u8; SUM_ENTRIES];
+    let mut wn = [0u64; SUM_ENTRIES];
+    let mut wr = [0u64; SUM_ENTRIES];
+    let mut wm = [0u64; SUM_ENTRIES];
     let f = pairs::form_two(
         formats::record::primitive_of(code),
         ak,
@@ -106,7 +109,7 @@ fn two_stored(
         am,
         0,
         n,
-        64,
+        SUM_ENTRIES,
         m,
         &mut wk,
         &mut wi,
@@ -132,7 +135,7 @@ pub fn gives_stored(
     n: usize,
     m: usize,
 ) -> bool
-    requires { ⌜ Room (lent ak ai an ar am) 128 × (r ≤ 64) × (q + 32 * r ≤ length (now b)) ⌝ }
+    requires { ⌜ Room (lent ak ai an ar am) (2 * sumEntries) × (r ≤ sumEntries) × (q + entryBytes * r ≤ length (now b)) ⌝ }
 {
     if !takes(code, m) {
         return false;

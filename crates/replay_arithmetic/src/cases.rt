@@ -1,17 +1,20 @@
 // A case is five bytes, the code, the entries of the two operands, the refusal's number or 0, and the entries of the result; and then the
 // entries, 32 bytes each.
 use crate::text;
+use limits::ENTRY_BYTES;
+use limits::SUM_ENTRIES;
 use sums::Formed;
 ghost use Prim.Native.Nat.{_+_, _*_, _≤_, _<_};
 ghost use lib.ListN.{length};
 ghost use Rattle.cells.specs.Book.{lent, Room};
+ghost use Rattle.limits.specs.Limits.{entryBytes, sumEntries};
 
-// The cell of the entry j of two operands: the first, of n entries, lies from 0 on, and the second from 64 on.
+// The cell of the entry j of two operands: the first, of n entries, lies from 0 on, and the second from SUM_ENTRIES on.
 fn cell_of(j: usize, n: usize) -> usize
-    requires { ⌜ (n ≤ 64) × (j < n + 64) ⌝ }
-    ensures { λ r. ⌜ r < 128 ⌝ }
+    requires { ⌜ (n ≤ sumEntries) × (j < n + sumEntries) ⌝ }
+    ensures { λ r. ⌜ r < (2 * sumEntries) ⌝ }
 {
-    if j < n { j } else { 64 + (j - n) }
+    if j < n { j } else { SUM_ENTRIES + (j - n) }
 }
 
 // Lays two operands out, of n and m entries, which are stored from p on.
@@ -26,11 +29,11 @@ pub fn lay(
     ar: &mut [u64],
     am: &mut [u64],
 )
-    requires { ⌜ (p + 32 * (n + m) ≤ length (now b)) × (n ≤ 64) × (m ≤ 64) × Room (lent ak ai an ar am) 128 ⌝ }
+    requires { ⌜ (p + entryBytes * (n + m) ≤ length (now b)) × (n ≤ sumEntries) × (m ≤ sumEntries) × Room (lent ak ai an ar am) (2 * sumEntries) ⌝ }
 {
     let mut j = 0usize;
     while j < n + m {
-        let q = p + 32 * j;
+        let q = p + ENTRY_BYTES * j;
         let k = cell_of(j, n);
         ak[k] = b[q];
         ai[k] = b[q + 4];
@@ -60,11 +63,11 @@ fn same_cells(
     wr: &[u64],
     wm: &[u64],
 ) -> bool
-    requires { ⌜ (p + 32 * n ≤ length (now b)) × Room (lent wk wi wn wr wm) n ⌝ }
+    requires { ⌜ (p + entryBytes * n ≤ length (now b)) × Room (lent wk wi wn wr wm) n ⌝ }
 {
     let mut j = 0usize;
     while j < n {
-        if !same_cell(b, p + 32 * j, wk[j], wi[j], wn[j], wr[j], wm[j]) {
+        if !same_cell(b, p + ENTRY_BYTES * j, wk[j], wi[j], wn[j], wr[j], wm[j]) {
             return false;
         }
         j = j + 1;
@@ -85,7 +88,7 @@ pub fn is_stored(
     wr: &[u64],
     wm: &[u64],
 ) -> bool
-    requires { ⌜ (p + 32 * n ≤ length (now b)) × Room (lent wk wi wn wr wm) n ⌝ }
+    requires { ⌜ (p + entryBytes * n ≤ length (now b)) × Room (lent wk wi wn wr wm) n ⌝ }
 {
     match f {
         Formed::Done(k) => {

@@ -1,4 +1,7 @@
 // Replays stored answers of arithmetic on sums: standard input has operands and results in hex, and each operation has to give what is stored.
+use limits::ENTRY_BYTES;
+use limits::SUM_ENTRIES;
+
 mod arith;
 mod cases;
 mod text;
@@ -7,6 +10,7 @@ use libc::STDIN_FILENO;
 use libc::STDOUT_FILENO;
 ghost use Prim.Native.Nat.{_+_, _*_, _≤_};
 ghost use lib.ListN.{length};
+ghost use Rattle.limits.specs.Limits.{entryBytes, sumEntries};
 
 // The head of a case.
 struct Case {
@@ -38,19 +42,19 @@ fn head(b: &[u8], p: usize) -> Case
 
 // Whether the case whose entries are stored from p on gives what is stored.
 fn laid_agrees(b: &[u8], p: usize, c: Case) -> bool
-    requires { ⌜ (p + 32 * (c .n + c .m + c .r) ≤ length (now b)) × (c .n ≤ 64) × (c .m ≤ 64) × (c .r ≤ 64) ⌝ }
+    requires { ⌜ (p + entryBytes * (c .n + c .m + c .r) ≤ length (now b)) × (c .n ≤ sumEntries) × (c .m ≤ sumEntries) × (c .r ≤ sumEntries) ⌝ }
 {
-    let mut ak = [0u8; 128];
-    let mut ai = [0u8; 128];
-    let mut an = [0u64; 128];
-    let mut ar = [0u64; 128];
-    let mut am = [0u64; 128];
+    let mut ak = [0u8; 2 * SUM_ENTRIES];
+    let mut ai = [0u8; 2 * SUM_ENTRIES];
+    let mut an = [0u64; 2 * SUM_ENTRIES];
+    let mut ar = [0u64; 2 * SUM_ENTRIES];
+    let mut am = [0u64; 2 * SUM_ENTRIES];
     cases::lay(b, p, c.n, c.m, &mut ak, &mut ai, &mut an, &mut ar, &mut am);
     arith::gives_stored(
         c.code,
         c.number,
         b,
-        p + 32 * (c.n + c.m),
+        p + ENTRY_BYTES * (c.n + c.m),
         c.r,
         &ak,
         &ai,
@@ -63,15 +67,15 @@ fn laid_agrees(b: &[u8], p: usize, c: Case) -> bool
 }
 
 fn agrees(b: &[u8], p: usize, c: Case) -> bool
-    requires { ⌜ p + 32 * (c .n + c .m + c .r) ≤ length (now b) ⌝ }
+    requires { ⌜ p + entryBytes * (c .n + c .m + c .r) ≤ length (now b) ⌝ }
 {
-    if 64 < c.n {
+    if SUM_ENTRIES < c.n {
         return false;
     }
-    if 64 < c.m {
+    if SUM_ENTRIES < c.m {
         return false;
     }
-    if 64 < c.r {
+    if SUM_ENTRIES < c.r {
         return false;
     }
     laid_agrees(b, p, c)
@@ -89,7 +93,7 @@ fn report(k: u64, before: u64) {
 
 // 1 where the case agrees; else 0, and it is reported.
 fn tally(b: &[u8], p: usize, c: Case, k: u64, before: u64) -> u64
-    requires { ⌜ p + 32 * (c .n + c .m + c .r) ≤ length (now b) ⌝ }
+    requires { ⌜ p + entryBytes * (c .n + c .m + c .r) ≤ length (now b) ⌝ }
     ensures { λ r. ⌜ r ≤ 1 ⌝ }
 {
     if agrees(b, p, c) {
@@ -119,7 +123,7 @@ fn replay(b: &[u8], n: usize)
     let mut agree = 0u64;
     while p + 5 <= n {
         let c = head(b, p);
-        let q = p + 5 + 32 * (c.n + c.m + c.r);
+        let q = p + 5 + ENTRY_BYTES * (c.n + c.m + c.r);
         if n < q {
             cut_short();
             return;

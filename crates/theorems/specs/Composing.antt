@@ -4,6 +4,7 @@ use mathlib.Core.Path.{_≡_}
 use mathlib.Core.Bool.{Bool}
 use mathlib.Core.List.{List}
 use lib.ListN.{take}
+use Rattle.limits.specs.Limits.{entryBytes}
 use Rattle.limits.specs.declared.Refusal.{Refusal}
 use Rattle.limits.specs.declared.Refusal.the-variants.{OutputRoom}
 use Rattle.trees.specs.Sums.{Sum, size}
@@ -30,17 +31,17 @@ pub record ReadTold (x : Read) (n : ℕ) (c : Bool) (out′ : List ℕ) : Type 0
   pub handled : Bool
   pub is : x ≡ done s c handled
   pub many : n ≡ size s
-  pub bytes : take (32 * n) out′ ≡ encodeSum s
+  pub bytes : take (entryBytes * n) out′ ≡ encodeSum s
 
 -- The whole, of a list, is what the part makes of a sum, between read and write.
 -- Read wrote n entries, of whose bytes the part wrote m, to whose bytes write answers r: so does the whole to the list.
 -- What the part or read refuses, but for want of room, the whole refuses.
 pub record Composes (part : Sum → Made) (whole : List ℕ → Made) : Type 0 where
   pub writes : (l out₁ out₁′ out₂ out₂′ out out′ : List ℕ) (n m : ℕ) (c : Bool) (r : Answer) → ReadGives (readList l) out₁ out₁′ (answer.Sum n c)
-      → OfBytes entriesIn part (take (32 * n) out₁′) out₂ out₂′ (given.Done m) → OfBytes recordsIn (making.write c) (take (32 * m) out₂′) out out′ r
+      → OfBytes entriesIn part (take (entryBytes * n) out₁′) out₂ out₂′ (given.Done m) → OfBytes recordsIn (making.write c) (take (entryBytes * m) out₂′) out out′ r
       → Gives recordsIn (whole l) out out′ r
   pub refuses : (l out₁ out₁′ out₂ out₂′ out : List ℕ) (n : ℕ) (c : Bool) (q : Refusal) (at : ℕ) → (q ≡ OutputRoom → ⊥) → ReadGives (readList l) out₁ out₁′ (answer.Sum n c)
-      → OfBytes entriesIn part (take (32 * n) out₁′) out₂ out₂′ (given.Refused q at) → Gives recordsIn (whole l) out out (given.Refused q at)
+      → OfBytes entriesIn part (take (entryBytes * n) out₁′) out₂ out₂′ (given.Refused q at) → Gives recordsIn (whole l) out out (given.Refused q at)
   pub unread : (l out₁ out₁′ out : List ℕ) (q : Refusal) (at : ℕ) → (q ≡ OutputRoom → ⊥) → ReadGives (readList l) out₁ out₁′ (answer.Refused q at)
       → Gives recordsIn (whole l) out out (given.Refused q at)
 

@@ -9,6 +9,7 @@ use lib.Ieee.{Float}
 use lib.Ieee.Scale.{finite}
 use lib.ListN.{take}
 use Rattle.numbers.specs.Signs.{zero64}
+use Rattle.limits.specs.Limits.{recordBytes}
 use Rattle.limits.specs.declared.Refusal.{Refusal}
 use Rattle.limits.specs.Refusals.{refusalNo}
 use Rattle.formats.specs.Tree.{recordsIn}
@@ -59,7 +60,7 @@ pub record RunsTold (b : List ℕ) (ts : List Power) : Type 0 where
 -- uplink_derivative, lent an output with room for them, returns 0 and tells exactly document 01's number of records; and the bytes that it wrote run so
 pub record SpeedTold (l : List ℕ) (ts : List Power) : Type 0 where
   pub writes : (out out′ : List ℕ) (no : ℕ) (answer : List ℕ) → records ts ≤ recordsIn out → Told entry.derivative withCount l out out′ no answer
-      → (no ≡ 0) × (answer ≡ 0 ∷ records ts ∷ []) × RunsTold (take (24 * records ts) out′) ts
+      → (no ≡ 0) × (answer ≡ 0 ∷ records ts ∷ []) × RunsTold (take (recordBytes * records ts) out′) ts
 
 -- for every list of bytes
 abbrev pub FunctionsSpeed : Type 0

@@ -11,6 +11,7 @@ use lib.Ieee.{Float, eq}
 use lib.Ieee.Scale.{finite}
 use Rattle.numbers.specs.Signs.{zero64, one64}
 use Rattle.numbers.specs.Ops.{_⊕_, _⊗_}
+use Rattle.limits.specs.Limits.{recordBytes}
 use Rattle.limits.specs.declared.Refusal.the-variants.{NotFinite}
 use Rattle.formats.specs.Tree.{recordsIn}
 use Rattle.running.specs.declared.RunAnswer.the-variants.{Refused}
@@ -70,7 +71,7 @@ firstNotFinite (formed at v ∷ fs) = unlessFinite (finite v) at (firstNotFinite
 pub record Place (l : List ℕ) (ts : List Power) : Type 0 where
   pub none-exactly : (x : Float) → T (finite x) → (firstNotFinite (inAll x ts) ≡ none) ↔ T (finite (value x ts))
   pub refuses : (out out′ : List ℕ) (r : Answer) → records ts ≤ recordsIn out → Gives recordsIn (derivative l) out out′ r
-      → (x : Float) (at : ℕ) → T (finite x) → firstNotFinite (inAll x ts) ≡ some at → runList (take (24 * records ts) out′) x ≡ Refused NotFinite at
+      → (x : Float) (at : ℕ) → T (finite x) → firstNotFinite (inAll x ts) ≡ some at → runList (take (recordBytes * records ts) out′) x ≡ Refused NotFinite at
 
 -- for the lists of demand 3
 abbrev pub PlaceOf15 : Type 0

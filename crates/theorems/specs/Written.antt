@@ -4,6 +4,7 @@ use mathlib.Core.Path.{_≡_}
 use mathlib.Core.Bool.{Bool}
 use mathlib.Core.List.{List}
 use lib.ListN.{take}
+use Rattle.limits.specs.Limits.{recordBytes, entryBytes}
 use Rattle.formats.specs.declared.record.Verdict.the-variants as verdicts
 use Rattle.formats.specs.Rules.{verdict}
 use Rattle.formats.specs.Tree.{recordsIn}
@@ -21,11 +22,11 @@ use Rattle.theorems.specs.Composing.{ReadGives}
 
 -- the output's first n entries are weighed as the n entries of a sum
 abbrev pub SumTaken : ℕ → List ℕ → Type 0
-SumTaken n out′ = (t : Taken) → Weighed (take (32 * n) out′) t → t ≡ taken.Sum n
+SumTaken n out′ = (t : Taken) → Weighed (take (entryBytes * n) out′) t → t ≡ taken.Sum n
 
 -- the output's first n records are a list that isn't refused with 11 or 13
 abbrev pub ListGood : ℕ → List ℕ → Type 0
-ListGood n out′ = verdict (take (24 * n) out′) ≡ verdicts.Good
+ListGood n out′ = verdict (take (recordBytes * n) out′) ≡ verdicts.Good
 
 -- the seven entries that write, where they tell n entries or n records
 pub record WritesGood : Type 0 where
