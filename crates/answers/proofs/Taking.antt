@@ -11,7 +11,8 @@ use Rattle.sums.specs.Contract.Lies.{Lies, Held}
 use Rattle.entries.specs.declared.Taken.{Taken}
 use Rattle.entries.specs.declared.Taken.the-variants as taken
 use Rattle.entries.specs.Encoding.{encodeSum}
-use Rattle.entries.specs.Taking.{Weighed, Laid}
+use Rattle.entries.specs.Taking.{Weighed}
+use Rattle.entries.specs.Contract.Laid.{Laid}
 use Rattle.entries.proofs.Theorem.{good-taken, settled}
 use Rattle.answers.specs.declared.Answer.{Answer}
 use Rattle.answers.specs.declared.Answer.the-variants as answer

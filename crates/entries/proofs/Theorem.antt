@@ -21,7 +21,8 @@ use Rattle.sums.specs.Contract.Lies.{Lies, Held}
 use Rattle.sums.proofs.Walk.{at-stays}
 use Rattle.formats.specs.Bytes.{Bytes}
 use Rattle.entries.specs.Encoding.{encodeSum}
-use Rattle.entries.specs.Taking.{Handed, Weighed, Laid}
+use Rattle.entries.specs.Taking.{Handed, Weighed}
+use Rattle.entries.specs.Contract.Laid.{Laid}
 use Rattle.entries.specs.Contract.Steps.{cleanAt, cellAt, Answered, good, deep, bad}
 use Rattle.entries.specs.declared.Taken.{Taken}
 use Rattle.entries.specs.declared.Taken.the-variants as taken

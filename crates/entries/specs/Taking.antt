@@ -5,11 +5,9 @@ use mathlib.Core.Logic.{_↔_}
 use mathlib.Core.List.{List}
 use Prim.Native.Nat.{ℕ, _≤_}
 use Rattle.limits.specs.Limits.{sumEntries, sumLevels}
-use Rattle.cells.specs.Book.{Book}
 use Rattle.trees.specs.Sums.{Sum, size}
 use Rattle.trees.specs.Good.{Good}
 use Rattle.limits.specs.declared.Refusal.the-variants.{BadRecord, TooDeep}
-use Rattle.sums.specs.Contract.Lies.{Lies}
 use Rattle.entries.specs.Encoding.{encodeSum}
 use Rattle.entries.specs.declared.Taken.{Taken}
 use Rattle.entries.specs.declared.Taken.the-variants as taken
@@ -25,9 +23,3 @@ pub record Weighed (l : List ℕ) (t : Taken) : Type 0 where
   pub good : (n : ℕ) → (t ≡ taken.Sum n) ↔ ((s : Sum) × (encodeSum s ≡ l) × Handed s × Good sumLevels s × (size s ≡ n))
   pub deep : (t ≡ taken.Refused TooDeep) ↔ ((s : Sum) × (encodeSum s ≡ l) × Handed s × (Good sumLevels s → ⊥))
   pub bad : (t ≡ taken.Refused BadRecord) ↔ ((s : Sum) → encodeSum s ≡ l → Handed s → ⊥)
-
--- n entries were taken in, and the sum of these bytes lies in the first n cells
-pub record Laid (l : List ℕ) (b : Book) (n : ℕ) : Type 0 where
-  pub few : n ≤ sumEntries
-  pub some : (s : Sum) × (encodeSum s ≡ l) × Lies b 0 n sumLevels s
-  pub every : (s : Sum) → encodeSum s ≡ l → Good sumLevels s → Lies b 0 n sumLevels s

@@ -12,7 +12,8 @@ ghost use Rattle.cells.specs.Book.{lent, Room};
 ghost use Rattle.trees.specs.Sums.{Sum};
 ghost use Rattle.sums.specs.Contract.Lies.{Lies, Held};
 ghost use Rattle.entries.specs.Encoding.{encodeCell, entriesIn, encodeSum};
-ghost use Rattle.entries.specs.Taking.{Weighed, Laid};
+ghost use Rattle.entries.specs.Taking.{Weighed};
+ghost use Rattle.entries.specs.Contract.Laid.{Laid};
 ghost use Rattle.entries.specs.Contract.Steps.{cleanAt, Loaded, Answered};
 
 // What handing over bytes gives: a sum of so many entries, or a refusal.

@@ -1,4 +1,4 @@
--- The root of formats's definitions.
+-- The root of formats' definitions.
 pub mod Names
 pub mod Table
 pub mod Bytes

@@ -61,5 +61,6 @@ ofTwos =
 abbrev pub ofOne : Primitive → Sum → Outcome
 ofOne = listed sum ofOnes
 
+-- every primitive that takes two sums and leaves one is in the list
 abbrev pub ofTwo : Primitive → Sum → Sum → Outcome
 ofTwo = listed (λ b a. sum b) ofTwos

@@ -21,7 +21,7 @@ use Rattle.terms.specs.Powers.{coefAt}
 use Rattle.sums.specs.Contract.Lies.{Lies, Held}
 use Rattle.sums.proofs.Walk.{Next, next, lies-none}
 use Rattle.drafts.specs.Writing.{refused}
-use Rattle.inverse.specs.Inverse.{found, coefOf, low, others, ofPower, ofOthers, inverse}
+use Rattle.inverse.specs.Inverse.{orZero, coefOf, low, others, ofPower, ofOthers, inverse}
 use Rattle.inverse.specs.Contract.Steps.{oneMore, nextOther, othersOf, byOthers}
 use Rattle.inverse.specs.declared.Others.{Others}
 use Rattle.inverse.specs.declared.Others.the-variants.{Nothing, Power, TooMuch}
@@ -45,7 +45,7 @@ pub coef-first : (q : Float) (k : ℕ) (p : Float) (i : Sum) (c : Complex) (r : 
 unfolding coefOf coefAt
 coef-first q k p i c r = by (eqb k kinds.X && eq p q)
   where
-    by : (b : Bool) → found (cond b (at c) (coefAt q r)) ≡ cond b c (found (coefAt q r))
+    by : (b : Bool) → orZero (cond b (at c) (coefAt q r)) ≡ cond b c (orZero (coefAt q r))
     by true = refl
     by false = refl
 

@@ -40,13 +40,13 @@ abbrev pub minusOne64 : Float
 minusOne64 = ofBits binary64 0xbff0000000000000
 
 -- the coefficient that was found; +0 where there is none
-abbrev pub found : Found → Complex
-found absent = complex.zero
-found (at c) = c
+abbrev pub orZero : Found → Complex
+orZero absent = complex.zero
+orZero (at c) = c
 
 -- the coefficient of x to the q
 unfoldable pub coefOf : Float → Sum → Complex
-coefOf q s = found (coefAt q s)
+coefOf q s = orZero (coefAt q s)
 
 -- x to the 0, 1 or 2
 abbrev pub low : ℕ → Float → Bool

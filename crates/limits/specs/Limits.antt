@@ -1,13 +1,16 @@
 -- Document 01's limits by name, as the code's constants have them.
-use Prim.Native.Nat.{ℕ}
+use Prim.Native.Nat.{ℕ, suc}
 
 -- a sum, insides counted
 abbrev pub sumEntries : ℕ
 sumEntries = 64
 
--- how many entries of a sum may lie one inside the other
+-- how many others an entry of a sum may be inside, and so how many may lie one inside the other
+abbrev pub entryInside : ℕ
+entryInside = 3
+
 abbrev pub sumLevels : ℕ
-sumLevels = 4
+sumLevels = suc entryInside
 
 -- on the stack and held, while a list is read
 abbrev pub stackEntries : ℕ
@@ -17,9 +20,12 @@ stackEntries = 1024
 abbrev pub listRecords : ℕ
 listRecords = 2048
 
--- how many records may lie one inside the other: a node may be inside 128 others
+-- how many others a node of a list may be inside, and so how many may lie one inside the other
+abbrev pub nodeInside : ℕ
+nodeInside = 128
+
 abbrev pub listLevels : ℕ
-listLevels = 129
+listLevels = suc nodeInside
 
 -- a node record and a sum entry as bytes
 abbrev pub recordBytes : ℕ

@@ -5,8 +5,10 @@ ghost use Rattle.limits.specs.Refusals.{refusalNo};
 // A sum, insides counted.
 pub const SUM_ENTRIES: usize = 64;
 
-// How many entries of a sum may lie one inside the other.
-pub const SUM_LEVELS: usize = 4;
+// How many others an entry of a sum may be inside, and so how many may lie one inside the other.
+pub const ENTRY_INSIDE: usize = 3;
+
+pub const SUM_LEVELS: usize = ENTRY_INSIDE + 1;
 
 // On the stack and held, while a list is read.
 pub const STACK_ENTRIES: usize = 1024;
@@ -14,8 +16,10 @@ pub const STACK_ENTRIES: usize = 1024;
 // A list that is handed over.
 pub const LIST_RECORDS: usize = 2048;
 
-// How many records may lie one inside the other: a node may be inside 128 others.
-pub const LIST_LEVELS: usize = 129;
+// How many others a node of a list may be inside, and so how many may lie one inside the other.
+pub const NODE_INSIDE: usize = 128;
+
+pub const LIST_LEVELS: usize = NODE_INSIDE + 1;
 
 // A node record and a sum entry as bytes.
 pub const RECORD_BYTES: usize = 24;

@@ -1,4 +1,5 @@
 -- The modules here.
+pub mod Computing
 pub mod Cases
 pub mod Composing
 pub mod Demands

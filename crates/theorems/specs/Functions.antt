@@ -11,6 +11,7 @@ use lib.ListN.{take}
 use Rattle.numbers.specs.Signs.{zero64}
 use Rattle.limits.specs.Limits.{recordBytes}
 use Rattle.limits.specs.declared.Refusal.{Refusal}
+use Rattle.limits.specs.declared.Refusal.the-variants.{NotFinite}
 use Rattle.limits.specs.Refusals.{refusalNo}
 use Rattle.formats.specs.Tree.{recordsIn}
 use Rattle.algebra.specs.Replies as entry
@@ -55,7 +56,7 @@ pub record RunsTold (b : List ℕ) (ts : List Power) : Type 0 where
   pub gives : (x : Float) (no : ℕ) (v : Float) (answer : List ℕ) → T (finite x) → T (finite (value x ts)) → Ran x b no v answer
       → (no ≡ 0) × (v ≡ value x ts) × (answer ≡ 0 ∷ records ts ∷ peakOf ts ∷ [])
   pub refuses : (x : Float) (no : ℕ) (v : Float) (answer : List ℕ) → T (finite x) → (T (finite (value x ts)) → ⊥) → Ran x b no v answer
-      → (no ≡ 15) × (v ≡ zero64) × ((at : ℕ) × (answer ≡ at ∷ 0 ∷ 0 ∷ []))
+      → (no ≡ refusalNo NotFinite) × (v ≡ zero64) × ((at : ℕ) × (answer ≡ at ∷ 0 ∷ 0 ∷ []))
 
 -- uplink_derivative, lent an output with room for them, returns 0 and tells exactly document 01's number of records; and the bytes that it wrote run so
 pub record SpeedTold (l : List ℕ) (ts : List Power) : Type 0 where

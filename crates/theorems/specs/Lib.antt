@@ -1,4 +1,4 @@
--- The root of theorems's definitions.
+-- The root of theorems' definitions.
 pub mod Contract
 pub mod Value
 pub mod Records

@@ -8,7 +8,8 @@ use mathlib.Core.Bool.{true, true≢false}
 use lib.ListN.{length}
 use Rattle.cells.specs.Book.{Book, book, Room}
 use Rattle.formats.specs.Bytes.{Bytes}
-use Rattle.entries.specs.Taking.{Weighed, Laid}
+use Rattle.entries.specs.Taking.{Weighed}
+use Rattle.entries.specs.Contract.Laid.{Laid}
 use Rattle.entries.specs.Contract.Steps.{Answered}
 use Rattle.entries.specs.declared.Taken.{Taken}
 use Rattle.entries.specs.declared.Taken.the-variants as taken

@@ -1,1 +1,0 @@
--- The root of replay_lists's definitions.
