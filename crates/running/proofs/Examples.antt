@@ -69,7 +69,7 @@ cases =
     ∷ record { list = over modi.Dip 0 end end; x = number 1 1; gives = Refused NotSupported 0 }
     ∷ record { list = rec (plain kind.Modifier (modifierNo modi.On) 0 0) end end; x = number 1 1; gives = Refused InterpreterBug 0 }
     ∷ record { list = listed (push three-bits ∷ does prim.Pow ∷ []); x = number 1 1; gives = Value (number 1 3) 2 2 }
-    ∷ record { list = listed (push 0 ∷ does prim.Pow ∷ []); x = number 1 1; gives = Value (number 0 0) 2 2 }
+    ∷ record { list = listed (push 0 ∷ does prim.Pow ∷ []); x = number 1 1; gives = Value (number 1 0) 2 2 }
     ∷ record { list = listed (does prim.Pop ∷ []); x = number 1 1; gives = Refused NoOutput 0 }
     ∷ record { list = listed (does prim.Dup ∷ []); x = number 1 1; gives = Refused TooManyOutputs 0 }
     ∷ record { list = listed (does prim.Flip ∷ []); x = number 1 1; gives = Refused TooManyVariables 0 }

@@ -10,7 +10,9 @@ use lib.Ieee.{Float, nan, binary64, ofBits, nanBits}
 use lib.Ieee.Bits.{nanBits-is}
 use lib.Ieee.Scale.{finite}
 use Rattle.numbers.specs.Ops.{_⊗_}
-use Rattle.numbers.specs.Signs.{zero64}
+use Rattle.numbers.specs.Signs.{one64, Zero}
+use Rattle.numbers.proofs.Zeros.{zero-test}
+use Rattle.numbers.proofs.Small.{small-zero}
 use Rattle.numbers.proofs.Finite.{mul-not-finite-left}
 use Rattle.numbers.specs.Numbers.{smallWhole}
 use Rattle.numbers.specs.declared.SmallWhole.{SmallWhole}
@@ -102,9 +104,13 @@ module _ (b a : Float) where
   unfolding power
   power-other q = rw q
 
-  pub power-zero : (n : ℕ) → smallWhole a ≡ Is n → n ≡ 0 → power b a ≡ One zero64
+  pub power-zero : (n : ℕ) → smallWhole a ≡ Is n → n ≡ 0 → power b a ≡ One one64
   unfolding power
   power-zero n q z = rw (q, z)
+
+  -- both zeros, and every base
+  pub power-nought : Zero a → power b a ≡ One one64
+  power-nought z = power-zero 0 (small-zero a (zero-test a .1 z)) refl
 
   pub power-more : (n : ℕ) → smallWhole a ≡ Is n → 0 < n → power b a ≡ One (times (n - 1) b b)
   unfolding power

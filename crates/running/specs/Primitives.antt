@@ -4,7 +4,7 @@ use mathlib.Core.Bool.{Bool, true, false}
 use mathlib.Core.List.{List, [], _∷_}
 use lib.Ieee.{Float, binary64, ofBits, neg}
 use lib.Ieee.Scale.{finite}
-use Rattle.numbers.specs.Signs.{zero64, one64}
+use Rattle.numbers.specs.Signs.{one64}
 use Rattle.numbers.specs.Ops.{_⊕_, _⊖_, _⊗_, _⊘_}
 use Rattle.numbers.specs.Numbers.{smallWhole}
 use Rattle.numbers.specs.declared.SmallWhole.{SmallWhole}
@@ -38,9 +38,9 @@ unfoldable pub times : ℕ → Float → Float → Float
 times zero b p = p
 times (suc n) b p = times n b (p ⊗ b)
 
--- a whole exponent from 0 to highestPower: 0 gives 0, as in reading
+-- a whole exponent from 0 to highestPower: 0 gives 1 for every base, as IEEE 754 has it for pown
 abbrev pub powerOf : Float → SmallWhole → Left
-powerOf b (Is zero) = One zero64
+powerOf b (Is zero) = One one64
 powerOf b (Is (suc n)) = One (times n b b)
 powerOf b Other = Refused NeedsMath
 

@@ -39,7 +39,7 @@ fn raise(b: f64, a: f64) -> Left
         return Left::Refused(Refusal::NeedsMath);
     };
     if n == 0 {
-        return Left::One(0.0);
+        return Left::One(1.0);
     }
     Left::One(multiplied(b, n))
 }

@@ -1,6 +1,7 @@
 -- The modules here.
 pub mod Computing
 pub mod Cases
+pub mod Nought
 pub mod Composing
 pub mod Demands
 pub mod Reading

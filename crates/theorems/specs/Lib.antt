@@ -9,3 +9,4 @@ pub mod Functions
 pub mod Composing
 pub mod Written
 pub mod Cases
+pub mod Nought
