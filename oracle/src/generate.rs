@@ -880,6 +880,75 @@ pub fn near_limits_of_the_run() -> Vec<Vec<u8>> {
     lists
 }
 
+/// Formulas of dives, whose derivatives are run.
+const FORMULAS: [&str; 12] = [
+    "",
+    "0 Pow",
+    "2 Pow",
+    "3 Pow",
+    "64 Pow",
+    "-1 Mul 5 Add",
+    "Dup 3 Pow Add",
+    "Dup 2 Pow Sub",
+    "On(1: 4 Pow 0.5 Mul) 7 Pow Add",
+    "On(1: 3 Pow) On(1: 9 Pow) 33 Pow Add Add",
+    "1 Add 7 Pow",
+    "1 Add 63 Pow",
+];
+
+/// Lists whose runs are stored whatever else they meet: a power of every
+/// sort, alone, on a number that was pushed, inside On, where nothing lies
+/// below and where all other values do; derivatives; lists at the limits of a
+/// list and of the run, and just past them.
+pub fn runs_to_store() -> Vec<Vec<u8>> {
+    let mut lists: Vec<Vec<u8>> = FORMULAS
+        .iter()
+        .filter_map(|words| judge::derivative(&text::list(words)).done())
+        .collect();
+    let mut add = |words: &str| lists.push(text::list(words));
+    for words in [
+        "",
+        "Dup Mul",
+        "Dup 3 Pow Add",
+        "Dup 0 Pow Mul",
+        "0 Flip Pow",
+    ] {
+        add(words);
+    }
+    for power in [
+        "0", "-0", "1", "2", "64", "65", "-1", "0.5", "5e-324", "1e308", "inf",
+    ] {
+        add(&format!("{power} Pow"));
+        add(&format!("Pop {power} Pow"));
+        add(&format!("On(1: {power} Pow) Add"));
+        add(&format!(
+            "{}{power} Pow{}",
+            "Dup ".repeat(254),
+            " Pop".repeat(254)
+        ));
+        for base in ["0", "-0", "5e-324", "-7", "1e308"] {
+            add(&format!("Pop {base} {power} Pow"));
+        }
+    }
+    for count in [MOST_RECORDS, MOST_RECORDS + 1] {
+        add(&"Neg ".repeat(count));
+    }
+    for levels in [MOST_LEVELS, MOST_LEVELS + 1] {
+        nested(levels).iter().for_each(|words| add(words));
+    }
+    for count in [255, 256] {
+        let (dups, pops) = ("Dup ".repeat(count), "Pop ".repeat(count));
+        add(&format!("{dups} {pops}"));
+    }
+    for held in [127, 128] {
+        let dups = "Dup ".repeat(255 - held);
+        let pops = "Pop ".repeat(255 - held);
+        let (on, end) = ("On(1: ".repeat(held / 2), ") Pop".repeat(held / 2));
+        add(&format!("{dups}{on}Neg{end} {pops}"));
+    }
+    lists
+}
+
 /// Lists at each limit and just past it.
 pub fn at_limits() -> Vec<Vec<u8>> {
     let mut lists = Vec::new();

@@ -4,6 +4,7 @@
 
 use crate::{
     answer::{Refusal, number::*},
+    features::Features,
     records::{self, Record, kind},
 };
 
@@ -22,13 +23,40 @@ pub struct Ran {
     pub peak: usize,
 }
 
+/// What runs meet on their way, for those who ask.
+#[derive(Debug, Default)]
+pub struct Met {
+    /// Names for what each record does.
+    pub features: Features,
+    /// How often something was raised to the power nought.
+    pub noughts: u64,
+}
+
 /// The value of a list at `x`.
 pub fn run(list: &[u8], x: f64) -> Result<Ran, Refusal> {
-    let records = records::check(list).map_err(records::Fault::refusal)?;
+    run_meeting(list, x, &mut Met::default())
+}
+
+/// The value of a list at `x`, and what the run meets.
+pub fn run_meeting(list: &[u8], x: f64, met: &mut Met) -> Result<Ran, Refusal> {
+    let result = run_checked(list, x, met);
+    met.features.note(|| match result {
+        Ok(ran) => format!("the whole: {}, at most {}", sort(ran.value), few(ran.peak)),
+        Err(refusal) => format!("the whole: {}", refusal.number),
+    });
+    result
+}
+
+fn run_checked(list: &[u8], x: f64, met: &mut Met) -> Result<Ran, Refusal> {
+    let records = records::check(list).map_err(|fault| {
+        met.features.note(|| format!("no list: {fault:?}"));
+        fault.refusal()
+    })?;
     if !x.is_finite() {
         return Err(Refusal::whole(NOT_FINITE));
     }
     let mut runner = Runner {
+        met,
         records: &records,
         stack: vec![x],
         held: 0,
@@ -48,6 +76,7 @@ pub fn run(list: &[u8], x: f64) -> Result<Ran, Refusal> {
 }
 
 struct Runner<'a> {
+    met: &'a mut Met,
     records: &'a [Record],
     stack: Vec<f64>,
     held: usize,
@@ -71,6 +100,50 @@ impl Runner<'_> {
     }
 
     fn record(&mut self, at: usize, end: usize) -> Result<(), Refusal> {
+        let meets = self.met.features.is_on().then(|| self.meets(at));
+        let result = self.run_record(at, end);
+        if let Some(meets) = meets {
+            self.note(meets, at, result);
+        }
+        result
+    }
+
+    /// A record's name, with the sorts of what an arithmetic primitive takes.
+    fn meets(&self, at: usize) -> String {
+        let record = self.records[at];
+        let top = |count: usize| -> Vec<&str> {
+            let values = self.stack.iter().rev().take(count);
+            values.map(|&value| sort(value)).collect()
+        };
+        match (record.kind, record.code) {
+            (kind::REAL, _) => format!("push {}", sort(f64::from_bits(record.re))),
+            (kind::PRIMITIVE, 8..=12) => format!("primitive {} {:?}", record.code, top(2)),
+            (kind::PRIMITIVE, 5 | 6 | 16) => format!("primitive {} {:?}", record.code, top(1)),
+            (kind, code) => format!("{kind} {code}"),
+        }
+    }
+
+    /// What came of a record, unless one inside it refused.
+    fn note(&mut self, meets: String, at: usize, result: Result<(), Refusal>) {
+        let comes_to = match result {
+            Ok(()) => "done".into(),
+            Err(refusal) if refusal.place == at => refusal.number.to_string(),
+            Err(_) => return,
+        };
+        let record = self.records[at];
+        let held = if self.held > 0 {
+            "held"
+        } else {
+            "nothing held"
+        };
+        let values = few(self.stack.len() + self.held);
+        let features = &mut self.met.features;
+        features.note(|| format!("{meets}: {comes_to}"));
+        features.note(|| format!("{} {} {held}: {comes_to}", record.kind, record.code));
+        features.note(|| format!("{values} values: {comes_to}"));
+    }
+
+    fn run_record(&mut self, at: usize, end: usize) -> Result<(), Refusal> {
         self.steps += 1;
         let record = self.records[at];
         let refuse = |number| Refusal::new(number, at);
@@ -163,6 +236,7 @@ impl Runner<'_> {
             11 => self.binary(|b, a| b / a),
             12 => {
                 let (power, base) = self.pop_two()?;
+                self.met.noughts += u64::from(power == 0.0);
                 self.leave(whole_power(base, power)?)
             }
             16 => self.unary(|a| 1.0 / a),
@@ -179,13 +253,34 @@ impl Runner<'_> {
     }
 }
 
-/// The base multiplied from the left; power 0 gives 0, as in reading.
+/// The base multiplied from the left; power 0 gives 1 for every base.
 fn whole_power(base: f64, power: f64) -> Result<f64, u8> {
     if power.fract() != 0.0 || !(0.0..=MOST_POWER).contains(&power) {
         return Err(NEEDS_MATH);
     }
     if power == 0.0 {
-        return Ok(0.0);
+        return Ok(1.0);
     }
     Ok((1..power as usize).fold(base, |product, _| product * base))
+}
+
+/// What sort of number it is, for the names of what a run meets.
+fn sort(number: f64) -> &'static str {
+    match (number.is_sign_negative(), number.abs()) {
+        (false, 0.0) => "0",
+        (true, 0.0) => "-0",
+        (_, size) if size < f64::MIN_POSITIVE => "subnormal",
+        (_, size) if size > 1e150 => "large",
+        (_, size) if size > MOST_POWER || size.fract() != 0.0 => "not multiplied out",
+        (false, _) => "whole",
+        (true, _) => "-whole",
+    }
+}
+
+/// How many values there are: some, or a number near the limit.
+fn few(values: usize) -> String {
+    match values {
+        0..=3 | 254.. => values.to_string(),
+        _ => "some".into(),
+    }
 }

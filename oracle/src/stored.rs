@@ -5,6 +5,7 @@ use crate::{
     answer::Answer,
     judge,
     records::RECORD,
+    runner,
     sums::ENTRY,
     text::{from_hex, hex},
 };
@@ -17,6 +18,9 @@ pub enum Decider {
     /// The paper's: malformed bytes, and limits that the Rust lacks.
     Paper,
 }
+
+/// The numbers at which stored lists are run.
+pub const RUN_AT: [f64; 8] = [2.0, 0.0, -0.0, 0.5, -3.0, 5e-324, 1e308, f64::INFINITY];
 
 /// What an entry is asked about.
 #[derive(Debug, Clone, PartialEq, Eq, PartialOrd, Ord)]
@@ -40,6 +44,14 @@ impl Input {
         match self {
             Input::List(list) => format!("list{}\n", hex(list, RECORD)),
             Input::Sum(sum) => format!("sum{}\n", hex(sum, ENTRY)),
+        }
+    }
+
+    /// A list's line and the lines of its runs at each of [`RUN_AT`].
+    pub fn run_item(&self) -> Option<String> {
+        match self {
+            Input::List(list) => Some(self.line() + &RUN_AT.map(|x| run_line(list, x)).concat()),
+            Input::Sum(_) => None,
         }
     }
 
@@ -103,5 +115,23 @@ fn answer_line(name: &str, answer: Option<Result<Vec<u8>, Refusal>>, size: usize
         None => String::new(),
         Some(Ok(bytes)) => format!("{name} 0 0{}\n", hex(&bytes, size)),
         Some(Err(Refusal { number, place })) => format!("{name} {number} {place}\n"),
+    }
+}
+
+/// A number, and a value, as its bits in hex; on a refusal value, steps and
+/// peak are 0.
+fn run_line(list: &[u8], x: f64) -> String {
+    let at = x.to_bits();
+    match runner::run(list, x) {
+        Ok(ran) => {
+            let value = ran.value.to_bits();
+            format!(
+                "run {at:016x} 0 0 {value:016x} {} {}\n",
+                ran.steps, ran.peak
+            )
+        }
+        Err(Refusal { number, place }) => {
+            format!("run {at:016x} {number} {place} {:016x} 0 0\n", 0)
+        }
     }
 }

@@ -7,7 +7,7 @@ use oracle::{
     Answer, Complex, Refusal,
     algebra::values::{sum_text, sum_value},
     evaluate::list_value,
-    judge, records, rust,
+    judge, records, runner, rust,
     stand_ins::{RELEASE_DEPTH, with_depth_limit},
     text,
 };
@@ -194,6 +194,33 @@ mod reading {
         let list = text::list(&nested(63));
         assert!(list.len() <= 128 * records::RECORD);
         assert_eq!(judge::read(&list), Answer::TooLong);
+    }
+}
+
+mod reading_and_running {
+    use super::*;
+
+    fn runs(words: &str, x: f64) -> f64 {
+        let ran = runner::run(&text::list(words), x);
+        ran.expect("a value").value
+    }
+
+    #[test]
+    fn power_nought() {
+        for words in ["push 0, Pow", "push -0, Pow"] {
+            assert_eq!(reads(words), "(01)");
+            assert_eq!(runs(words, 2.0), 1.0);
+            close(value(words, 2.0), 1.0);
+        }
+    }
+
+    #[test]
+    fn times_a_power_nought() {
+        let words = "Dup, push 0, Pow, Mul";
+        assert_eq!(reads(words), "(0x)");
+        assert_eq!(derivative(words), "push 0, Mul");
+        assert_eq!(runs(words, 2.0), 2.0);
+        close(value(words, 2.0), 2.0);
     }
 }
 

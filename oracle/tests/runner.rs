@@ -38,7 +38,7 @@ fn lists_to_try() {
     gives("", 2.0, 2.0, 0, 1);
     gives("Dup Mul", 3.0, 9.0, 2, 2);
     gives("push 3, Pow", 2.0, 8.0, 2, 2);
-    gives("push 0, Pow", 2.0, 0.0, 2, 2);
+    gives("push 0, Pow", 2.0, 1.0, 2, 2);
     refuses("Pop", 2.0, 3, 0);
     refuses("Dup", 2.0, 4, 0);
     refuses("Flip", 2.0, 1, 0);
@@ -54,12 +54,34 @@ fn lists_to_try() {
 fn powers_from_0_to_64() {
     gives("push 64, Pow", 2.0, 2f64.powi(64), 2, 2);
     gives("push 1, Pow", 7.0, 7.0, 2, 2);
-    gives("push -0, Pow", 7.0, 0.0, 2, 2);
+    gives("push -0, Pow", 7.0, 1.0, 2, 2);
     for power in ["65", "-1", "0.5", "2^53", "1e308"] {
         refuses(&format!("push {power}, Pow"), 2.0, 14, 1);
     }
     refuses("push 64, Pow", 1e5, 15, 1);
     refuses("push 0.5, Flip, Pow, Pow", 2.0, 1, 3);
+}
+
+/// Anything to the power nought is 1, whatever is raised and wherever it lies.
+#[test]
+fn powers_of_nought() {
+    for power in ["0", "-0"] {
+        let pow = format!("push {power}, Pow");
+        for base in [0.0, -0.0, 5e-324, -5e-324, -7.0, -0.5, 1.0, 1e308, -1e308] {
+            gives(&pow, base, 1.0, 2, 2);
+            gives(&format!("Pop {base:e} {pow}"), 2.0, 1.0, 4, 2);
+        }
+        gives(&format!("On(1: {pow}) Add"), 5.0, 6.0, 5, 3);
+        gives(&format!("Run({pow})"), 5.0, 1.0, 3, 2);
+        gives(&format!("Dup {pow} Mul"), -0.0, -0.0, 4, 3);
+        let below = |count: usize| "Dup ".repeat(count) + &pow + &" Pop".repeat(count);
+        gives(&below(254), 5.0, 5.0, 254 + 2 + 254, 256);
+        refuses(&below(255), 5.0, 12, 255);
+        refuses(&format!("Pop {pow}"), 5.0, 1, 2);
+        refuses(&pow, f64::NAN, 15, 0);
+    }
+    refuses("push 5e-324, Pow", 2.0, 14, 1);
+    refuses("push -5e-324, Pow", 2.0, 14, 1);
 }
 
 #[test]

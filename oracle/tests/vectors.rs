@@ -3,8 +3,10 @@
 use std::{fs, path::Path};
 
 use oracle::{
+    features::Features,
     generate,
-    stored::{Decider, Input},
+    runner::{self, Met},
+    stored::{Decider, Input, RUN_AT},
 };
 
 fn stored(name: &str) -> String {
@@ -51,8 +53,49 @@ fn limits() {
 }
 
 #[test]
+fn runs() {
+    let items = items(&stored("runs.txt"));
+    assert!(items.len() >= 450, "{} lists", items.len());
+    for (input, item) in items {
+        assert_eq!(input.run_item().as_deref(), Some(&item[..]));
+    }
+}
+
+/// Every number that the run answers, powers of nought, and the most values
+/// and steps there can be.
+#[test]
+fn runs_reach_what_a_run_can() {
+    let text = stored("runs.txt");
+    for number in [0, 1, 2, 3, 4, 5, 6, 8, 11, 12, 13, 14, 15] {
+        let is_given = |line: &str| line.split(' ').nth(2) == Some(&number.to_string());
+        assert!(text.lines().any(is_given), "{number}");
+    }
+    let mut met = Met {
+        features: Features::on(),
+        ..Met::default()
+    };
+    for (input, _) in items(&text) {
+        let Input::List(list) = input else { continue };
+        for x in RUN_AT {
+            let _ = runner::run_meeting(&list, x, &mut met);
+        }
+    }
+    assert!(met.noughts > 100, "{} powers of nought", met.noughts);
+    let names = met.features.into_names();
+    for base in ["0", "-0", "subnormal", "whole", "-whole", "large"] {
+        for power in ["0", "-0"] {
+            let name = format!("primitive 12 {:?}: done", [power, base]);
+            assert!(names.contains(&name), "{name}");
+        }
+    }
+    for ends in [" 0 0 4000000000000000 0 1", " 2048 1", " 256"] {
+        assert!(text.lines().any(|line| line.ends_with(ends)), "{ends}");
+    }
+}
+
+#[test]
 fn inputs_stand_once() {
-    for name in ["lists.txt", "sums.txt", "limits.txt"] {
+    for name in ["lists.txt", "sums.txt", "limits.txt", "runs.txt"] {
         let items = items(&stored(name));
         let mut inputs: Vec<&Input> = items.iter().map(|(input, _)| input).collect();
         inputs.sort();
@@ -81,7 +124,7 @@ fn lists_at_limits_are_there() {
 
 #[test]
 fn small_enough_to_read_in_a_diff() {
-    let size: usize = ["lists.txt", "sums.txt", "limits.txt"]
+    let size: usize = ["lists.txt", "sums.txt", "limits.txt", "runs.txt"]
         .map(|name| stored(name).len())
         .iter()
         .sum();

@@ -34,6 +34,8 @@ pub const INTEGRAL: usize = 6;
 
 pub const INVERSE: usize = 7;
 
+pub const RUN: usize = 8;
+
 pub const ANSWERS: usize = 0;
 
 pub const SHORT_ROOMS: usize = 2;
@@ -41,8 +43,8 @@ pub const SHORT_ROOMS: usize = 2;
 pub const SHORT_INPUTS: usize = 4;
 
 // One more of these.
-fn note(counts: &mut [u64; 64], row: usize, column: usize)
-    requires { ⌜ (row < 8) × (column < 8) ⌝ }
+fn note(counts: &mut [u64; 72], row: usize, column: usize)
+    requires { ⌜ (row < 9) × (column < 8) ⌝ }
 {
     let i = row * 8 + column;
     let n = counts[i];
@@ -52,20 +54,20 @@ fn note(counts: &mut [u64; 64], row: usize, column: usize)
 }
 
 // One more line of this sort.
-pub fn note_line(counts: &mut [u64; 64], column: usize)
+pub fn note_line(counts: &mut [u64; 72], column: usize)
     requires { ⌜ column < 8 ⌝ }
 {
     note(counts, LINES, column);
 }
 
-fn print(counts: &[u64; 64], row: usize, column: usize)
-    requires { ⌜ (row < 8) × (column < 8) ⌝ }
+fn print(counts: &[u64; 72], row: usize, column: usize)
+    requires { ⌜ (row < 9) × (column < 8) ⌝ }
 {
     io::print_decimal(STDOUT_FILENO, counts[row * 8 + column]);
 }
 
 // Writes the place of a call that did not go as it should, if few did not before it.
-fn report(name: &[u8], counts: &[u64; 64], what: &[u8]) {
+fn report(name: &[u8], counts: &[u64; 72], what: &[u8]) {
     if 8 < counts[FAILED] {
         return;
     }
@@ -80,13 +82,13 @@ fn report(name: &[u8], counts: &[u64; 64], what: &[u8]) {
 // Counts a call, and whether it went as it should; where not, it is reported.
 pub fn tally(
     name: &[u8],
-    counts: &mut [u64; 64],
+    counts: &mut [u64; 72],
     row: usize,
     column: usize,
     goes: bool,
     what: &[u8],
 )
-    requires { ⌜ (row < 8) × (column < 7) ⌝ }
+    requires { ⌜ (row < 9) × (column < 7) ⌝ }
 {
     note(counts, row, column);
     if goes {
@@ -97,8 +99,8 @@ pub fn tally(
     report(name, counts, what);
 }
 
-fn print_both(counts: &[u64; 64], row: usize, column: usize, between: &[u8], after: &[u8])
-    requires { ⌜ (row < 8) × (column < 7) ⌝ }
+fn print_both(counts: &[u64; 72], row: usize, column: usize, between: &[u8], after: &[u8])
+    requires { ⌜ (row < 9) × (column < 7) ⌝ }
 {
     print(counts, row, column);
     io::write_all(STDOUT_FILENO, between);
@@ -106,8 +108,8 @@ fn print_both(counts: &[u64; 64], row: usize, column: usize, between: &[u8], aft
     io::write_all(STDOUT_FILENO, after);
 }
 
-fn summary_of(counts: &[u64; 64], row: usize, name: &[u8])
-    requires { ⌜ row < 8 ⌝ }
+fn summary_of(counts: &[u64; 72], row: usize, name: &[u8])
+    requires { ⌜ row < 9 ⌝ }
 {
     io::write_all(STDOUT_FILENO, name);
     print_both(counts, row, ANSWERS, b" answers, ", b" agree; ");
@@ -127,14 +129,27 @@ fn summary_of(counts: &[u64; 64], row: usize, name: &[u8])
     );
 }
 
-fn print_line(counts: &[u64; 64], column: usize, after: &[u8])
+// A run writes no bytes, so there is no room that could be short.
+fn summary_of_runs(counts: &[u64; 72]) {
+    io::write_all(STDOUT_FILENO, b"run: ");
+    print_both(counts, RUN, ANSWERS, b" answers, ", b" agree; ");
+    print_both(
+        counts,
+        RUN,
+        SHORT_INPUTS,
+        b" inputs a byte short, ",
+        b" refused\n",
+    );
+}
+
+fn print_line(counts: &[u64; 72], column: usize, after: &[u8])
     requires { ⌜ column < 8 ⌝ }
 {
     print(counts, LINES, column);
     io::write_all(STDOUT_FILENO, after);
 }
 
-pub fn summary(counts: &[u64; 64]) {
+pub fn summary(counts: &[u64; 72]) {
     print_line(counts, LISTS, b" lists, ");
     print_line(counts, SUMS, b" sums\n");
     summary_of(counts, READ, b"read: ");
@@ -144,6 +159,7 @@ pub fn summary(counts: &[u64; 64]) {
     summary_of(counts, DERIVATIVE, b"derivative: ");
     summary_of(counts, INTEGRAL, b"integral: ");
     summary_of(counts, INVERSE, b"inverse: ");
+    summary_of_runs(counts);
     print_line(counts, SKIPPED, b" lines skipped, ");
     print_line(counts, BROKEN, b" broken, ");
     print_line(counts, CUT_OFF, b" cut off or too long\n");

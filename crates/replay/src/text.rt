@@ -9,6 +9,12 @@ pub enum Number {
     Missing,
 }
 
+// Two numbers of a line, and where in the line the second ends.
+pub enum Numbers {
+    Both(u64, u64, usize),
+    Missing,
+}
+
 // The bytes that hex stands for: how many.
 pub enum Decoded {
     Bytes(usize),
@@ -108,6 +114,55 @@ pub fn number_at(line: &[u8], at: usize) -> Number {
         return Number::Missing;
     }
     Number::Found(n, next)
+}
+
+// The two numbers behind the spaces that stand here and behind the first.
+pub fn numbers_at(line: &[u8], at: usize) -> Numbers {
+    let first = number_at(line, at);
+    let Number::Found(a, i) = first else {
+        return Numbers::Missing;
+    };
+    let second = number_at(line, i);
+    let Number::Found(b, j) = second else {
+        return Numbers::Missing;
+    };
+    Numbers::Both(a, b, j)
+}
+
+// The number with one more hex digit, of which the last 16 count.
+fn with_hex_digit(n: u64, d: u8) -> u64 {
+    (n % 1152921504606846976) * 16 + (d % 16) as u64
+}
+
+// The number whose 16 hex digits start here.
+fn hex_digits(line: &[u8], from: usize) -> Number
+    requires { ⌜ from + 16 ≤ length (now line) ⌝ }
+{
+    let mut i = 0usize;
+    let mut n = 0u64;
+    while i < 16 {
+        let d = digit(line[from + i]);
+        if d == 16 {
+            return Number::Missing;
+        }
+        n = with_hex_digit(n, d);
+        i = i + 1;
+    }
+    Number::Found(n, from + 16)
+}
+
+// The 64 bits behind the space that stands here.
+pub fn bits_at(line: &[u8], at: usize) -> Number {
+    if line.len() <= at {
+        return Number::Missing;
+    }
+    if line.len() - at < 17 {
+        return Number::Missing;
+    }
+    if line[at] != b' ' {
+        return Number::Missing;
+    }
+    hex_digits(line, at + 1)
 }
 
 fn pair_at(line: &[u8], at: usize) -> Pair {

@@ -14,6 +14,7 @@ pub enum Keyword {
     Derivative,
     Integral,
     Inverse,
+    Run,
     Other,
 }
 
@@ -56,6 +57,9 @@ pub fn keyword_of(line: &[u8]) -> Keyword {
     if replay::text::is_keyword(line, b"inverse") {
         return Keyword::Inverse;
     }
+    if replay::text::is_keyword(line, b"run") {
+        return Keyword::Run;
+    }
     Keyword::Other
 }
 
@@ -72,13 +76,14 @@ pub fn word_len(k: Keyword) -> usize {
         Keyword::Derivative => 10,
         Keyword::Integral => 8,
         Keyword::Inverse => 7,
+        Keyword::Run => 3,
         Keyword::Other => 0,
     }
 }
 
 // The row in which an entry's calls are counted; a line that is no answer makes no call.
 pub fn row(k: Keyword) -> usize
-    ensures { λ r. ⌜ r < 8 ⌝ }
+    ensures { λ r. ⌜ r < 9 ⌝ }
 {
     match k {
         Keyword::Read => replay::count::READ,
@@ -89,6 +94,7 @@ pub fn row(k: Keyword) -> usize
         Keyword::Derivative => replay::count::DERIVATIVE,
         Keyword::Integral => replay::count::INTEGRAL,
         Keyword::Inverse => replay::count::INVERSE,
+        Keyword::Run => replay::count::RUN,
         _ => replay::count::LINES,
     }
 }

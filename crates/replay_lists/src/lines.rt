@@ -3,8 +3,10 @@ use crate::calls;
 use crate::entries;
 use crate::entries::Answer;
 use crate::entries::Keyword;
+use crate::runs;
 use replay::text::Decoded;
 use replay::text::Number;
+use replay::text::Numbers;
 ghost use Prim.Native.Nat.{_≤_};
 ghost use lib.ListN.{length};
 
@@ -26,19 +28,13 @@ pub struct Reached {
     pub held: Held,
 }
 
-// A refusal's number, or 0, and place, and where in the line they end.
-enum Told {
-    Both(u64, u64, usize),
-    Missing,
-}
-
 // An answer and how many bytes are written.
 enum Stored {
     Answer(Answer, usize),
     Broken,
 }
 
-fn list_line(line: &[u8], counts: &mut [u64; 64], input: &mut [u8]) -> Held {
+fn list_line(line: &[u8], counts: &mut [u64; 72], input: &mut [u8]) -> Held {
     let decoded = replay::text::decode(line, 4, RECORD, input);
     match decoded {
         Decoded::Bytes(n) => {
@@ -52,7 +48,7 @@ fn list_line(line: &[u8], counts: &mut [u64; 64], input: &mut [u8]) -> Held {
     }
 }
 
-fn sum_line(line: &[u8], counts: &mut [u64; 64], input: &mut [u8]) -> Held {
+fn sum_line(line: &[u8], counts: &mut [u64; 72], input: &mut [u8]) -> Held {
     let decoded = replay::text::decode(line, 3, ENTRY, input);
     match decoded {
         Decoded::Bytes(n) => {
@@ -64,18 +60,6 @@ fn sum_line(line: &[u8], counts: &mut [u64; 64], input: &mut [u8]) -> Held {
             Held::Nothing
         }
     }
-}
-
-fn number_place(line: &[u8], at: usize) -> Told {
-    let first = replay::text::number_at(line, at);
-    let Number::Found(number, i) = first else {
-        return Told::Missing;
-    };
-    let second = replay::text::number_at(line, i);
-    let Number::Found(place, j) = second else {
-        return Told::Missing;
-    };
-    Told::Both(number, place, j)
 }
 
 // Bytes of what the entry of this keyword writes one of.
@@ -115,8 +99,8 @@ fn stored_in(
 
 // The answer of a line; that of `read` has a flag behind the place.
 fn stored_of(line: &[u8], k: Keyword, want: &mut [u8]) -> Stored {
-    let both = number_place(line, entries::word_len(k));
-    let Told::Both(number, place, i) = both else {
+    let both = replay::text::numbers_at(line, entries::word_len(k));
+    let Numbers::Both(number, place, i) = both else {
         return Stored::Broken;
     };
     let Keyword::Read = k else {
@@ -132,7 +116,7 @@ fn stored_of(line: &[u8], k: Keyword, want: &mut [u8]) -> Stored {
 // The calls on the first n bytes of the input, of whose output the first m bytes of want are stored.
 fn replay(
     name: &[u8],
-    counts: &mut [u64; 64],
+    counts: &mut [u64; 72],
     k: Keyword,
     input: &[u8],
     n: usize,
@@ -171,7 +155,7 @@ fn held_bytes(held: Held) -> usize {
 fn answer_line(
     name: &[u8],
     line: &[u8],
-    counts: &mut [u64; 64],
+    counts: &mut [u64; 72],
     k: Keyword,
     held: Held,
     input: &[u8],
@@ -190,11 +174,23 @@ fn answer_line(
     replay(name, counts, k, input, n, answer, want, m);
 }
 
+fn run_line(name: &[u8], line: &[u8], counts: &mut [u64; 72], held: Held, input: &[u8]) {
+    let Held::List(n) = held else {
+        replay::count::note_line(counts, replay::count::BROKEN);
+        return;
+    };
+    if input.len() < n {
+        replay::count::note_line(counts, replay::count::BROKEN);
+        return;
+    }
+    runs::replay(name, counts, line, &input[..n]);
+}
+
 // One line: what is held after it.
 fn run(
     name: &[u8],
     line: &[u8],
-    counts: &mut [u64; 64],
+    counts: &mut [u64; 72],
     held: Held,
     input: &mut [u8],
     want: &mut [u8],
@@ -204,6 +200,10 @@ fn run(
     match k {
         Keyword::List => list_line(line, counts, input),
         Keyword::Sum => sum_line(line, counts, input),
+        Keyword::Run => {
+            run_line(name, line, counts, held, input);
+            held
+        }
         Keyword::Other => {
             replay::count::note_line(counts, replay::count::SKIPPED);
             held
@@ -235,7 +235,7 @@ pub fn run_all(
     name: &[u8],
     text: &[u8],
     n: usize,
-    counts: &mut [u64; 64],
+    counts: &mut [u64; 72],
     held: Held,
     input: &mut [u8],
     want: &mut [u8],

@@ -3,11 +3,13 @@ mod calls;
 mod entries;
 mod files;
 mod lines;
+mod runs;
 
 fn main() {
-    let mut counts = [0u64; 64];
+    let mut counts = [0u64; 72];
     files::run(b"lists.txt", &mut counts);
     files::run(b"sums.txt", &mut counts);
     files::run(b"limits.txt", &mut counts);
+    files::run(b"runs.txt", &mut counts);
     replay::count::summary(&counts);
 }

@@ -4,7 +4,7 @@ use oracle::{
     Answer, ReadSum, Refusal, judge,
     random::Random,
     records::RECORD,
-    runner::{self, Ran},
+    runner::{self, Met, Ran},
     sums::ENTRY,
 };
 use proved::{Library, Told};
@@ -249,7 +249,10 @@ impl<'a> Checker<'a> {
     }
 
     pub fn run(&mut self, list: &[u8], x: f64) -> Outcome {
-        let owed = match runner::run(list, x) {
+        let mut met = Met::default();
+        let ran = runner::run_meeting(list, x, &mut met);
+        self.tally.noughts += u64::from(met.noughts > 0);
+        let owed = match ran {
             Ok(Ran { value, steps, peak }) => proved::Ran {
                 value: value.to_bits(),
                 told: Told {

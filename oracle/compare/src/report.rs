@@ -38,6 +38,7 @@ pub fn report(settings: &Settings, compared: &Compared) -> String {
     line("lists compared, no two the same", lists(tally));
     line("sums compared, no two the same", thousands(tally.sums));
     line("answers compared", answers(tally));
+    line("runs that meet a power nought", thousands(tally.noughts));
     line("met again, and not compared again", again(tally));
     line(
         "unexplained differences",

@@ -92,6 +92,8 @@ pub struct Tally {
     /// Sums compared, no two the same.
     pub sums: u64,
     pub sums_again: u64,
+    /// Runs in which something was raised to the power nought.
+    pub noughts: u64,
     /// Calls with room for exactly what is written, and with more.
     pub exact: u64,
     pub ample: u64,
@@ -123,6 +125,7 @@ impl Tally {
         self.lists_again += other.lists_again;
         self.sums += other.sums;
         self.sums_again += other.sums_again;
+        self.noughts += other.noughts;
         self.exact += other.exact;
         self.ample += other.ample;
     }

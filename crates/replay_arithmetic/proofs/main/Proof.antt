@@ -1,4 +1,4 @@
--- `operations::main` meets its contract. Assumes nothing.
+-- `replay_arithmetic::main` meets its contract. Assumes nothing.
 use native.Mathlib.Omega.{arith}
 use borrow.Author.Needs.{needs}
 use Rattle.replay_arithmetic.proofs.main.Statement.{statement}

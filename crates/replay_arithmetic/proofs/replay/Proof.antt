@@ -1,4 +1,4 @@
--- `operations::replay` meets its contract. The loop keeps to the bytes, and counts no more cases than bytes. Assumes nothing.
+-- `replay_arithmetic::replay` meets its contract. The loop keeps to the bytes, and counts no more cases than bytes. Assumes nothing.
 use Prim.Native.Nat.{_≤_, _-_}
 use borrow.Author.Needs.{needs}
 use Rattle.replay_arithmetic.proofs.replay.Statement.{statement}

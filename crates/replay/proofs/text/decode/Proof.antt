@@ -1,4 +1,4 @@
--- `texts::decode` meets its contract. The loop keeps `to` as long as it was. Assumes nothing.
+-- `replay::text::decode` meets its contract. The loop keeps `to` as long as it was. Assumes nothing.
 use Prim.Native.Nat.{_≤_, _-_}
 use mathlib.Core.Path.{_≡_}
 use lib.ListN.{length}

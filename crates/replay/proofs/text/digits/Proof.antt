@@ -1,4 +1,4 @@
--- `texts::digits` meets its contract. Assumes nothing.
+-- `replay::text::digits` meets its contract. Assumes nothing.
 use Prim.Native.Nat.{_-_}
 use lib.ListN.{length}
 use borrow.Author.Needs.{needs}

@@ -1,4 +1,4 @@
--- `texts::is_start` meets its contract. Assumes nothing.
+-- `replay::text::is_start` meets its contract. Assumes nothing.
 use Prim.Native.Nat.{_≤_, _-_}
 use lib.ListN.{length}
 use borrow.Author.Needs.{needs}

@@ -1,4 +1,4 @@
--- `operations::arith::one_stored` meets its contract. Assumes nothing.
+-- `replay_arithmetic::arith::one_stored` meets its contract. Assumes nothing.
 use borrow.Author.Needs.{needs}
 use Rattle.cells.proofs.Laws.{room-fresh}
 use Rattle.replay_arithmetic.proofs.arith.one_stored.Statement.{statement}

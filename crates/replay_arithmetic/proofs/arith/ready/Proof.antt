@@ -1,4 +1,4 @@
--- `operations::arith::ready` meets its contract. Assumes nothing.
+-- `replay_arithmetic::arith::ready` meets its contract. Assumes nothing.
 use native.Mathlib.Omega.{arith}
 use borrow.Author.Needs.{needs}
 use borrow.Author.Tests.{not-false}

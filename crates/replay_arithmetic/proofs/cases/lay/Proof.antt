@@ -1,4 +1,4 @@
--- `operations::cases::lay` meets its contract. The loop keeps the slices as long as they were. Assumes nothing.
+-- `replay_arithmetic::cases::lay` meets its contract. The loop keeps the slices as long as they were. Assumes nothing.
 use Prim.Native.Nat.{_+_, _≤_, _-_}
 use borrow.Author.Needs.{needs}
 use mathlib.Core.Path.{_≡_}

@@ -1,4 +1,4 @@
--- `operations::cases::same_cells` meets its contract. Assumes nothing.
+-- `replay_arithmetic::cases::same_cells` meets its contract. Assumes nothing.
 use Prim.Native.Nat.{_≤_, _-_}
 use borrow.Author.Needs.{needs}
 use Rattle.replay_arithmetic.proofs.cases.same_cells.Statement.{statement}

@@ -1,4 +1,4 @@
--- `operations::text::decode` meets its contract. The loop's invariant: no more bytes are written than are read, and the text is as long as it was. Assumes nothing.
+-- `replay_arithmetic::text::decode` meets its contract. The loop's invariant: no more bytes are written than are read, and the text is as long as it was. Assumes nothing.
 use Prim.Native.Nat.{_≤_, _-_}
 use native.Mathlib.Omega.{arith}
 use borrow.Author.Needs.{needs}

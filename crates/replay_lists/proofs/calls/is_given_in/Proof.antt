@@ -1,4 +1,4 @@
--- `lists::calls::is_given_in` meets its contract. Assumes nothing.
+-- `replay_lists::calls::is_given_in` meets its contract. Assumes nothing.
 use native.Mathlib.Omega.{arith}
 use lib.ListN.{length-take}
 use borrow.Author.Needs.{needs}

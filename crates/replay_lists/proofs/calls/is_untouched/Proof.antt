@@ -1,4 +1,4 @@
--- `lists::calls::is_untouched` meets its contract. Assumes nothing.
+-- `replay_lists::calls::is_untouched` meets its contract. Assumes nothing.
 use Prim.Native.Nat.{_-_}
 use lib.ListN.{length}
 use borrow.Author.Needs.{needs}

@@ -1,4 +1,4 @@
--- `lists::calls::with_short_input` meets its contract. Assumes nothing.
+-- `replay_lists::calls::with_short_input` meets its contract. Assumes nothing.
 use native.Mathlib.Omega.{arith}
 use lib.ListN.{length-take}
 use borrow.Author.Needs.{needs}

@@ -1,4 +1,4 @@
--- `lists::files::keep` meets its contract. The loop keeps the text as long as it was. Assumes nothing.
+-- `replay_lists::files::keep` meets its contract. The loop keeps the text as long as it was. Assumes nothing.
 use Prim.Native.Nat.{_≤_, _-_}
 use mathlib.Core.Path.{_≡_}
 use lib.ListN.{length}

@@ -1,4 +1,4 @@
--- `lists::files::run_open` meets its contract. The loop keeps the slices as long as they were. Assumes nothing.
+-- `replay_lists::files::run_open` meets its contract. The loop keeps the slices as long as they were. Assumes nothing.
 use Prim.Native.Nat.{_≤_}
 use mathlib.Core.Path.{_≡_}
 use lib.ListN.{length}

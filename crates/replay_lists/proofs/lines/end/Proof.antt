@@ -1,4 +1,4 @@
--- `lists::lines::end` meets its contract. Assumes nothing.
+-- `replay_lists::lines::end` meets its contract. Assumes nothing.
 use Prim.Native.Nat.{_≤_, _-_}
 use borrow.Author.Needs.{needs}
 use Rattle.replay_lists.proofs.lines.end.Statement.{statement}

@@ -1,4 +1,4 @@
--- `lists::lines::replay` meets its contract. Assumes nothing.
+-- `replay_lists::lines::replay` meets its contract. Assumes nothing.
 use native.Mathlib.Omega.{arith}
 use lib.ListN.{length-take}
 use borrow.Author.Needs.{needs}

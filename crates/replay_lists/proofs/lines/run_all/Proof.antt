@@ -1,4 +1,4 @@
--- `lists::lines::run_all` meets its contract. Assumes nothing.
+-- `replay_lists::lines::run_all` meets its contract. Assumes nothing.
 use Prim.Native.Nat.{_≤_, _-_}
 use mathlib.Core.Path.{_≡_}
 use lib.ListN.{length}
