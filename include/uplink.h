@@ -157,7 +157,9 @@ uint64_t uplink_integral(const uint8_t *list, size_t list_bytes, uint8_t *out, s
 uint64_t uplink_inverse(const uint8_t *list, size_t list_bytes, uint8_t *out, size_t out_bytes,
                         struct uplink_answer *answer);
 
-/* The value of a list at x; +0 when refused. */
+/* The value of a list at x; +0 when refused. Pow raises to whole powers from 0 to 64, by products from
+ * the left, and to no others (UPLINK_NEEDS_MATH). To the power 0, and -0 counts as 0, every number gives
+ * 1; read as a formula, the same step makes the constant 0. */
 uint64_t uplink_run(const uint8_t *list, size_t list_bytes, double x, double *value,
                     struct uplink_run_answer *answer);
 

@@ -59,7 +59,10 @@ pub fn run(command: Command) -> Done {
 
 fn show(file: &str) -> Done {
     let list = Source::load(file)?.list()?;
-    Ok(words::shown(&list).into())
+    Ok(Printed {
+        text: words::shown(&list),
+        remarks: remarks::of_list(&list).into_iter().collect(),
+    })
 }
 
 fn assemble(file: &str, out: &str) -> Done {
@@ -94,8 +97,12 @@ fn read_list(file: &str, out: Option<&str>) -> Done {
     let source = Source::load(file)?;
     let mut room = [0; SUM_BYTES];
     let found = bytes::read(&source.bytes, &mut room).map_err(refuse(Asked::Read, &source))?;
+    let remarks = of_source(&source).into_iter().collect();
     if let Some(out) = out {
-        return save(out, found.sum, file).map(|()| Printed::default());
+        return save(out, found.sum, file).map(|()| Printed {
+            text: String::new(),
+            remarks,
+        });
     }
     let sum = decode_sum(found.sum).unwrap_or_default();
     let complex = if found.is_complex {
@@ -103,7 +110,15 @@ fn read_list(file: &str, out: Option<&str>) -> Done {
     } else {
         ""
     };
-    Ok(format!("{}\n\n{}{complex}", formula(&sum), term_table(&sum)).into())
+    Ok(Printed {
+        text: format!("{}\n\n{}{complex}", formula(&sum), term_table(&sum)),
+        remarks,
+    })
+}
+
+/// What is to be remarked of a list itself.
+fn of_source(source: &Source) -> Option<String> {
+    remarks::of_list(&source.list().ok()?)
 }
 
 fn make(asked: Asked, file: &str, out: Option<&str>) -> Done {
@@ -117,7 +132,8 @@ fn make(asked: Asked, file: &str, out: Option<&str>) -> Done {
     };
     let made = made.map_err(refuse(asked, &source))?;
     let list = decode_list(made).unwrap_or_default();
-    let (heading, remarks) = about(asked, &source, &list).unwrap_or_default();
+    let (heading, of_result) = about(asked, &source, &list).unwrap_or_default();
+    let remarks = of_source(&source).into_iter().chain(of_result).collect();
     match out {
         Some(out) => save(out, made, file).map(|()| Printed {
             text: String::new(),
@@ -182,7 +198,11 @@ fn table(file: &str, minutes: Minutes, csv: bool) -> Done {
 fn of_rows(source: &Source, rows: &[Row]) -> Vec<String> {
     let sum = source.list().ok().and_then(|list| read(&list).ok());
     let departure = sum.and_then(|sum| remarks::of_derivative(&sum.entries));
-    departure.into_iter().chain(table::gaps(rows)).collect()
+    of_source(source)
+        .into_iter()
+        .chain(departure)
+        .chain(table::gaps(rows))
+        .collect()
 }
 
 fn plot(file: &str, minutes: Minutes, out: &str) -> Done {

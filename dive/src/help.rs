@@ -114,6 +114,9 @@ were run (steps), and the most values that there were at once (peak).
 The runner adds, subtracts, multiplies and divides real numbers, raises to whole
 powers from 0 to 64, and has the modifier On. Anything else is refused, although
 it can be read and derived.
+
+Pow gives 1 for the power 0, whatever number is raised. Read as a formula the
+same step makes the constant 0, and the derivative goes by that.
 ",
     },
     Command {

@@ -1,8 +1,21 @@
 //! What is said beside a result that departs from calculus. The library follows the Rust that it ports; docs/DIFFERENCES.md lists where that departs.
 
-use uplink::{read, Entry, Record, Term};
+use uplink::{read, Entry, Primitive, Record, Term};
 
 use crate::formula::{formula, same_but_for_zeros};
+
+/// Of a list with the step 'to the power 0', which runs otherwise than it reads.
+pub fn of_list(list: &[Record]) -> Option<String> {
+    let pow = Record::Primitive(Primitive::Pow);
+    let is_nought = |pair: &[Record]| {
+        matches!(pair[0], Record::RealPush(power) if power == 0.0) && pair[1] == pow
+    };
+    let place = list.windows(2).position(is_nought)? + 1;
+    Some(format!(
+        "record {place} raises to the power 0, which gives 1 where the list is run and 0 where it is read as a formula: \
+         depth and speed may not belong together (docs/DIFFERENCES.md, Reading and running)"
+    ))
+}
 
 /// Of the derivative of a sum.
 pub fn of_derivative(sum: &[Entry]) -> Option<String> {
@@ -57,6 +70,22 @@ mod tests {
     fn sums_of_powers_need_no_remark() {
         let sum = [Entry::power(0.5, 2.0), Entry::power(2.0, 1.0)];
         assert_eq!((of_derivative(&sum), of_integral(&sum)), (None, None));
+    }
+
+    #[test]
+    fn a_power_nought_is_remarked() {
+        let raised = |power| [Record::RealPush(power), Primitive::Pow.into()];
+        let said = of_list(&raised(0.0)).expect("a remark");
+        assert!(said.starts_with("record 1 raises to the power 0"), "{said}");
+        assert!(of_list(&raised(-0.0)).is_some());
+        assert_eq!(of_list(&raised(1.0)), None);
+        assert_eq!(of_list(&raised(0.0)[..1]), None);
+        let apart = [
+            Record::RealPush(0.0),
+            Primitive::Flip.into(),
+            Primitive::Pow.into(),
+        ];
+        assert_eq!(of_list(&apart), None);
     }
 
     #[test]

@@ -175,6 +175,34 @@ fn the_drag_formula_is_derived_and_its_run_is_explained() {
 }
 
 #[test]
+fn a_power_nought_is_remarked_where_it_is_read() {
+    let file = path(&folder("nought").join("nought.txt"));
+    for zero in ["0", "-0"] {
+        fs::write(&file, format!("Dup, push {zero}, Pow, Mul\n")).expect("a file");
+        for command in [
+            format!("show {file}"),
+            format!("read {file}"),
+            format!("derivative {file}"),
+            format!("table {file} 0 2 1"),
+        ] {
+            let ended = line(&command);
+            assert_eq!(ended.code, 0, "{ended:?}");
+            let said = ended.remarked;
+            assert!(said.contains("record 2 raises to the power 0"), "{said}");
+            assert!(said.contains("gives 1 where the list is run"), "{said}");
+            assert!(said.contains("depth and speed may not belong"), "{said}");
+        }
+        // it runs as x, and reads as 0 x
+        assert!(line(&format!("run {file} 7"))
+            .done()
+            .starts_with("value  7\n"));
+        assert!(line(&format!("read {file}")).done().starts_with("0 x\n"));
+    }
+    assert_eq!(line("show samples/cubic.txt").remarked, "");
+    assert!(line("help run").done().contains("1 for the power 0"));
+}
+
+#[test]
 fn a_modifier_that_is_not_run_is_explained() {
     let said = line("run samples/fork.txt 1").failed(1);
     assert!(

@@ -78,6 +78,28 @@ static void others(void)
     expect(answer.count == 3 && same(out, log, 3), "Identity, push E, Log");
 }
 
+/* To the power 0 or -0 the run gives 1 for every number; read as a formula the list is the constant 0. */
+static void nought(void)
+{
+    static const double numbers[] = {2, 0, -0.0, -7, 5e-324, 1e308};
+    static const double zeros[] = {0, -0.0};
+    struct uplink_read_answer read;
+    struct uplink_run_answer ran;
+    struct uplink_entry sum[2];
+    double value;
+    size_t i, j;
+
+    for (j = 0; j < sizeof zeros / sizeof *zeros; j++) {
+        struct uplink_record list[] = {push(zeros[j]), primitive(UPLINK_POW)};
+        for (i = 0; i < sizeof numbers / sizeof *numbers; i++) {
+            expect(uplink_run((uint8_t *)list, sizeof list, numbers[i], &value, &ran) == UPLINK_DONE, "a power nought is run");
+            expect(value == 1 && ran.place == 0 && ran.steps == 2 && ran.peak == 2, "1, in 2 steps, with 2 values at the peak");
+        }
+        expect(uplink_read((uint8_t *)list, sizeof list, (uint8_t *)sum, sizeof sum, &read) == UPLINK_DONE, "a power nought is read");
+        expect(read.count == 1 && sum[0].kind == UPLINK_TERM_X && sum[0].number == 0 && sum[0].re == 0, "as the constant 0");
+    }
+}
+
 /* A refusal has its number and place, zero counts, and changes no byte. */
 static void refusals(void)
 {
@@ -107,6 +129,7 @@ int main(void)
     expect(sizeof(struct uplink_entry) == UPLINK_ENTRY_BYTES, "an entry's size");
     cubic();
     others();
+    nought();
     refusals();
     printf(failures ? "%d failed\n" : "the C functions answer as printed\n", failures);
     return failures != 0;

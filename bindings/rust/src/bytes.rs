@@ -134,7 +134,8 @@ pub fn inverse<'a>(list: &[u8], out: &'a mut [u8]) -> Result<&'a [u8], Refused> 
     written(out, RECORD_BYTES, answer)
 }
 
-/// The value of a list at x.
+/// The value of a list at x. Pow raises to whole powers from 0 to 64, by products from the left, and to no others; to the power 0, and -0 counts
+/// as 0, every number gives 1. (Read as a formula, that step makes the constant 0.)
 ///
 /// # Errors
 /// What the runner lacks (NotSupported, NonScalar, NonReal, NeedsMath), and what goes wrong on the way.

@@ -80,7 +80,7 @@ codes! {
         Mul = 10,
         /// b divided by a
         Div = 11,
-        /// b to the power a
+        /// b to the power a. To the power 0 the run gives 1, and reading makes the constant 0.
         Pow = 12,
         /// e to the power a
         Exp = 13,

@@ -134,12 +134,14 @@ pub fn inverse(list: &[Record]) -> Result<Vec<Record>, Refused> {
     bytes::inverse(&encode_list(list), &mut room).map(records)
 }
 
-/// The value of a list at x, with steps and peak.
+/// The value of a list at x, with steps and peak. What Pow does is told at [`bytes::run`].
 ///
 /// ```
 /// use uplink::{run, Primitive, Record, Refusal};
 /// let squared = [Record::RealPush(2.0), Primitive::Pow.into()];
 /// assert_eq!(run(&squared, 3.0)?.value, 9.0);
+/// let to_nought = [Record::RealPush(0.0), Primitive::Pow.into()];
+/// assert_eq!(run(&to_nought, 3.0)?.value, 1.0);
 /// let root = [Primitive::Sqrt.into()];
 /// assert_eq!(run(&root, 9.0).map_err(|refused| refused.refusal), Err(Refusal::NeedsMath));
 /// # Ok::<(), uplink::Refused>(())

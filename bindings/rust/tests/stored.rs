@@ -124,6 +124,39 @@ fn stored_answers_at_the_limits_hold() {
     );
 }
 
+/// What the library answers to a line about a run, and what is stored; values as their bits.
+fn runs(line: &Line<'_>, list: &[u8]) -> [Result<[u64; 3], Refused>; 2] {
+    let bits = |at: usize| u64::from_str_radix(line.words[at], 16).expect("16 digits");
+    let found = bytes::run(list, f64::from_bits(bits(0)));
+    let stored = match Refusal::from_number(line.number(1)) {
+        Some(refusal) => Err(Refused {
+            refusal,
+            place: line.number(2) as usize,
+        }),
+        None => Ok([bits(3), line.number(4), line.number(5)]),
+    };
+    let found = found.map(|ran| [ran.value.to_bits(), ran.steps as u64, ran.peak as u64]);
+    [found, stored]
+}
+
+#[test]
+fn stored_answers_of_the_run_hold() {
+    let text = file("runs.txt");
+    let (mut list, mut count) = (Vec::new(), 0);
+    for line in lines(&text) {
+        match line.keyword {
+            "list" => list = line.bytes(0, RECORD_BYTES),
+            keyword => {
+                assert_eq!(keyword, "run");
+                let [found, stored] = runs(&line, &list);
+                assert_eq!(found, stored, "{:?} of {list:?}", line.words);
+                count += 1;
+            }
+        }
+    }
+    assert_eq!(count, 474 * 8);
+}
+
 #[test]
 fn faults_are_found_exactly_where_lists_are_refused_as_a_whole() {
     for name in ["lists.txt", "limits.txt"] {
