@@ -1,2 +1,3 @@
 -- The root of limits' laws.
+pub mod Variants
 pub mod Refusals

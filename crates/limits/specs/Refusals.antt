@@ -1,7 +1,7 @@
 -- The refusals' numbers, as document 01's table gives them.
 use Prim.Native.Nat.{ℕ}
 use Rattle.limits.specs.declared.Refusal.{Refusal}
-use Rattle.limits.specs.declared.Refusal.the-variants.{TooManyVariables, NotSupported, NoOutput, TooManyOutputs, NonScalar, NonReal, TooComplex, InterpreterBug, NoInverse, NotHandled, BadRecord, NoRoom, TooDeep, NeedsMath, NotFinite, BigPower, OutputRoom}
+use Rattle.limits.specs.declared.Refusal.the-variants.{TooManyVariables, NotSupported, NoOutput, TooManyOutputs, NonScalar, NonReal, TooComplex, InterpreterBug, NoInverse, NotHandled, BadRecord, NoRoom, TooDeep, NeedsMath, NotFinite, BigPower, OutputRoom, PowerNotFinite}
 
 abbrev pub refusalNo : Refusal → ℕ
 refusalNo TooManyVariables = 1
@@ -21,7 +21,8 @@ refusalNo NeedsMath = 14
 refusalNo NotFinite = 15
 refusalNo BigPower = 16
 refusalNo OutputRoom = 17
+refusalNo PowerNotFinite = 18
 
 -- the last number of the table
 abbrev pub lastNumber : ℕ
-lastNumber = 17
+lastNumber = 18

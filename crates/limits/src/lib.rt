@@ -57,6 +57,7 @@ pub enum Refusal {
     NotFinite,
     BigPower,
     OutputRoom,
+    PowerNotFinite,
 }
 
 // The refusal's number in document 01's table.
@@ -81,5 +82,6 @@ pub fn refusal_no(r: Refusal) -> u64
         Refusal::NotFinite => 15,
         Refusal::BigPower => 16,
         Refusal::OutputRoom => 17,
+        Refusal::PowerNotFinite => 18,
     }
 }
