@@ -6,7 +6,7 @@ use mathlib.Core.Bool.{Bool, true, _&&_}
 use mathlib.Core.List.{[], _∷_}
 use lib.Ieee.{binary64, ofBits}
 use lib.Ieee.Scale.{finite}
-use Rattle.numbers.specs.Signs.{zero64}
+use Rattle.numbers.proofs.Finite.{zero-is-finite}
 use Rattle.complex.specs.Arith as complex
 use Rattle.cells.specs.Book.{Book, book}
 use Rattle.trees.specs.Kinds as kinds
@@ -23,16 +23,12 @@ book-of re im = book (kinds.X ∷ []) (0 ∷ []) (0 ∷ []) (re ∷ []) (im ∷ 
 abbrev pub of-bits : ℕ → ℕ → Sum
 of-bits re im = constant (complex.complex (ofBits binary64 re) (ofBits binary64 im))
 
-zero-finite : finite zero64 ≡ true
-unfolding ofBits
-zero-finite = refl
-
 -- finite numbers are formed as they are
 pub constant-formed : (re im : ℕ) {x y : Bool} → x ≡ finite (ofBits binary64 re) → y ≡ finite (ofBits binary64 im) → x && y ≡ true → constantOf re im ≡ sum (of-bits re im)
 unfolding formed coefIn putIn levels size
 constant-formed re im {x} {y} e d h =
     let f : finite (ofBits binary64 re) && finite (ofBits binary64 im) ≡ true = rw (← e, ← d) h in
-    rw (zero-finite, f) refl
+    rw (zero-is-finite, f) refl
 
 pub constant-lies : (re im : ℕ) → constantOf re im ≡ sum (of-bits re im) → Lies (book-of re im) 0 1 4 (of-bits re im)
 unfolding At size

@@ -12,8 +12,12 @@ use lib.Ieee.Scale.{finite}
 use Rattle.numbers.specs.Ops.{_⊖_}
 use Rattle.numbers.specs.Signs.{zero64, ±0, sign, Zero}
 use Rattle.numbers.proofs.Bools.{passes}
-use Rattle.numbers.proofs.Values.{add-swap, mul-swap}
+use Rattle.numbers.proofs.Values.{bits-0, add-swap, mul-swap}
 use Rattle.numbers.proofs.Zeros.{sub-self}
+
+-- 0.0 is finite
+pub zero-is-finite : finite zero64 ≡ true
+zero-is-finite = rw bits-0
 
 -- neither of two results is finite, so the one that is taken isn't
 neither : (b : Bool) (x y : Float) → finite x ≡ false → finite y ≡ false → finite (cond b x y) ≡ false

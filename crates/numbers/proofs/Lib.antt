@@ -5,6 +5,7 @@ pub mod Bits
 pub mod Zeros
 pub mod Units
 pub mod Finite
+pub mod Unity
 pub mod Order
 pub mod Wholes
 pub mod Far

@@ -11,6 +11,7 @@ use lib.Ieee.Scale.{finite}
 use Rattle.numbers.specs.Numbers.{belowEpsilon}
 use Rattle.numbers.specs.Signs.{zero64, one64}
 use Rattle.numbers.proofs.Bools.{T-of}
+use Rattle.numbers.proofs.Finite.{zero-is-finite}
 use Rattle.complex.specs.declared.Complex.{Complex}
 use Rattle.complex.specs.Arith as complex
 use Rattle.cells.specs.Book.{Book, Room, Plain}
@@ -24,7 +25,6 @@ use Rattle.terms.specs.Power.{power, isEuler, pow, log}
 use Rattle.terms.proofs.Goodness.{good-constant}
 use Rattle.sums.specs.Contract.Lies.{At, Lies}
 use Rattle.monomials.specs.Contract.Reads.{constantOf}
-use Rattle.roots.proofs.Roots.{zero-is-finite}
 use Rattle.powers.specs.declared.Real.the-variants.{Is}
 use Rattle.powers.specs.Contract.Reals.{realOf}
 use Rattle.powers.proofs.Reals.{pow-real, log-real}
