@@ -24,7 +24,7 @@ derivative l = afterRead (readList l) deriveAndWrite
 unfoldable pub integral : List ℕ → Made
 integral l = afterRead (readList l) integrateAndWrite
 
--- 10, at place 0, where what was read doesn't count as handled: it replaces 1 to 9, never 11 to 17
+-- 10, at place 0, where what was read doesn't count as handled: it replaces 1 to 9, never a number above them
 abbrev pub unhandled : Refusal → ℕ → Made
 unhandled q at = cond (leb (refusalNo q) lastReplaced) (refusedAt NotHandled 0) (refusedAt q at)
 

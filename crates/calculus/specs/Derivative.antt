@@ -1,4 +1,4 @@
--- The Rust's derivative of a sum. One outermost entry is one step: 7 is asked first, then 14, and then 15, 13 and 12 as the entry is formed.
+-- The Rust's derivative of a sum. One outermost entry is one step: 7 is asked first, then 14, and then 18, 15, 13 and 12 as the entry is formed.
 use Prim.Native.Nat.{ℕ}
 use mathlib.Core.Bool.{Bool, cond}
 use lib.Dec.{eqb}

@@ -1,4 +1,4 @@
-// A term put into a sum: at a key that stands there its coefficient is merged, a new key goes in where it belongs; 15, 13 and 12.
+// A term put into a sum: at a key that stands there its coefficient is merged, a new key goes in where it belongs; 18, 15, 13 and 12.
 use cells::Entry;
 use complex::Complex;
 use limits::Refusal;
@@ -136,7 +136,8 @@ pub fn put_block(
     ensures { λ r. ⌜ ((s t : Sum) → Lies (lent (mk .entry) (mi .entry) (mn .entry) (mr .entry) (mm .entry)) p (p + n) sumLevels s → Lies (lent (gk .entry) (gi .entry) (gn .entry) (gr .entry) (gm .entry)) i (i + x .inside) sumLevels t → Agrees r (lent (mk .exit) (mi .exit) (mn .exit) (mr .exit) (mm .exit)) p (formed how x t s)) ⌝ }
 {
     if !numbers::is_finite(x.num) {
-        return Formed::Refused(Refusal::NotFinite);
+        let why = trees::not_finite(x.kind);
+        return Formed::Refused(why);
     }
     let shallow = sums::nests_within(gi, i, x.inside as usize, INSIDE_LEVELS);
     match sums::find(

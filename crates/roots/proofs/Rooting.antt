@@ -17,7 +17,7 @@ use Rattle.cells.specs.declared.Entry.{Entry}
 use Rattle.cells.specs.Book.{Book, cell, at, Room, Plain}
 use Rattle.cells.specs.Contract.Moves.{SameRoom, Put, Copied}
 use Rattle.cells.proofs.Laws.{Fitting, put-at, at-kept, room-less, room-same, same-room-refl, same-room-trans}
-use Rattle.limits.specs.declared.Refusal.the-variants.{NotFinite}
+use Rattle.limits.specs.declared.Refusal.the-variants.{PowerNotFinite}
 use Rattle.trees.specs.Kinds.{X}
 use Rattle.trees.specs.Sums.{Sum, size}
 use Rattle.terms.specs.Power.{rooted}
@@ -64,7 +64,7 @@ module _ {e : Float} (fe : finite e ≡ true) {b b′ : Book} {k n : ℕ} {s : S
       spot = let ends = R .lies .ends in root-spot e (T-of fe) (at b) 0 4 s (R .lies .laid) (R .lies .good) (R .single) (R .units) k (omega arith) (omega arith)
 
       -- its root's power isn't finite
-      pub root-stops : finite (x .num) ≡ false → Agrees (Refused NotFinite) b′ 0 (rooted e s)
+      pub root-stops : finite (x .num) ≡ false → Agrees (Refused PowerNotFinite) b′ 0 (rooted e s)
       root-stops h = rw (spot .stops (ap (λ (u : Entry). finite (u .num)) (sym is) ∙ h)) refl
 
       module _ (h : finite (x .num) ≡ true) where

@@ -17,13 +17,14 @@ use Rattle.numbers.specs.Numbers.{isWhole}
 use Rattle.numbers.specs.Ops.{_⊗_}
 use Rattle.numbers.specs.Signs.{zero64, one64, Zero, ±0}
 use Rattle.numbers.proofs.Bools.{T-of}
+use Rattle.numbers.proofs.Finite.{zero-is-finite}
 use Rattle.numbers.proofs.Values.{bits-0}
 use Rattle.numbers.proofs.Zeros.{zero-test, mul-zero-left, zero-finite}
 use Rattle.complex.specs.declared.Complex.{Complex}
 use Rattle.complex.specs.Arith as complex
 use Rattle.cells.specs.declared.Entry.{Entry}
 use Rattle.trees.specs.declared.Merge.the-variants.{Store}
-use Rattle.limits.specs.declared.Refusal.the-variants.{NotFinite}
+use Rattle.limits.specs.declared.Refusal.the-variants.{PowerNotFinite}
 use Rattle.trees.specs.Kinds.{X, Div, hasNumber}
 use Rattle.trees.specs.Sums.{Sum, none, and, size, levels, entry}
 use Rattle.trees.specs.Good.{isNumber, isEmpty, GoodEntry, Good}
@@ -38,9 +39,6 @@ use Rattle.sums.proofs.Walk.{empty}
 use Rattle.roots.specs.Contract.Roots.{rootEntry}
 
 -- ---- numbers
-
-pub zero-is-finite : finite zero64 ≡ true
-zero-is-finite = rw bits-0
 
 pub one-is-finite : finite one64 ≡ true
 unfolding ofBits
@@ -104,7 +102,7 @@ pub record Root (e : Float) (g : ℕ → Entry) (i left : ℕ) (s : Sum) : Type 
 -- what is known of one cell: its coefficient is 1, and where its root's power isn't finite that is the answer
 pub record Spot (e : Float) (x : Entry) (s : Sum) : Type 0 where
   pub unit : complex.same (x .coef) complex.one ≡ true
-  pub stops : finite (rootEntry e x .num) ≡ false → rooted e s ≡ refused NotFinite
+  pub stops : finite (rootEntry e x .num) ≡ false → rooted e s ≡ refused PowerNotFinite
 
 module _ (e : Float) (fe : T (finite e)) where
   -- one term, once its inside is known
@@ -192,7 +190,7 @@ module _ (e : Float) (fe : T (finite e)) where
       elim (decLe (i + 1) j) [
         | yes m ↦
             let inner = root-spot f (i + 1) left t (a .1) (h .1) (d .2) (v .1) j m (omega arith) in
-            record { unit = inner .unit; stops = λ n. rooted-refused k p t c s e NotFinite (d .0) (inner .stops n) }
+            record { unit = inner .unit; stops = λ n. rooted-refused k p t c s e PowerNotFinite (d .0) (inner .stops n) }
         | no m ↦
             let is : f j ≡ entry k (size t) p c = ap f (omega arith) ∙ a .0 in
             record { unit = rw is (v .0); stops = λ n. differ (sym zero-is-finite ∙ rw (is, d .0) at n) }

@@ -123,7 +123,7 @@ fn root_each(
     while k < n {
         let x = root_entry(cells::load(wk, wi, wn, wr, wm, k), e);
         if !numbers::is_finite(x.num) {
-            return Formed::Refused(Refusal::NotFinite);
+            return Formed::Refused(Refusal::PowerNotFinite);
         }
         cells::store(wk, wi, wn, wr, wm, k, x);
         k = k + 1;

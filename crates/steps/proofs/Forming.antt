@@ -2,7 +2,7 @@
 use Prim.Native.Nat.{ℕ, _≤_}
 use native.Mathlib.Omega.{arith}
 use mathlib.Core.Path.{_≡_, refl, sym, subst, _∙_}
-use mathlib.Core.Bool.{Bool, true, false, _&&_, not}
+use mathlib.Core.Bool.{Bool, false, _&&_, not}
 use lib.Dec.{T}
 use lib.Ieee.{binary64, ofBits, nanBits}
 use lib.Ieee.Bits.{ofBits-fits, nanBits-is}
@@ -11,9 +11,10 @@ use Rattle.numbers.specs.Signs.{zero64}
 use Rattle.complex.specs.Arith as complex
 use Rattle.cells.specs.Book.{Book}
 use Rattle.numbers.proofs.Bits.{no-nan}
+use Rattle.numbers.proofs.Finite.{zero-is-finite}
 use Rattle.limits.specs.declared.Refusal.the-variants.{NotFinite}
 use Rattle.trees.specs.Sums.{Sum, none, size}
-use Rattle.trees.specs.Map.{Outcome, sum, refused, unless, formed, coefIn}
+use Rattle.trees.specs.Map.{Outcome, sum, refused, formed, coefIn}
 use Rattle.terms.specs.Singles.{GoodSum}
 use Rattle.terms.proofs.Goodness.{x-head, none-good, good-alone}
 use Rattle.sums.specs.declared.Formed.{Formed}
@@ -33,11 +34,7 @@ pub not-finite : (re im : ℕ) {x y : Bool} → x ≡ finite (ofBits binary64 re
 unfolding formed coefIn
 not-finite re im {x} {y} e d h =
     let f : finite (ofBits binary64 re) && finite (ofBits binary64 im) ≡ false = rw (← e, ← d) h in
-    rw f (again (finite zero64))
-  where
-    again : (b : Bool) → unless b NotFinite (refused NotFinite) ≡ refused NotFinite
-    again true = refl
-    again false = refl
+    rw (zero-is-finite, f) refl
 
 -- so the answer of the code has an entry
 pub filled : (f : Formed) (b : Book) (o : Outcome) → ((r : Sum) → o ≡ sum r → GoodSum r) → Agrees f b 0 o → Filled f

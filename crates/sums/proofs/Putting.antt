@@ -22,7 +22,7 @@ use Rattle.limits.specs.declared.Refusal.the-variants.{NotFinite, TooDeep, NoRo
 use Rattle.trees.specs.Sums.{Sum, none, and, size, levels, entry}
 use Rattle.trees.specs.Order.{cmpTerm}
 use Rattle.trees.specs.Good.{Good, isEmpty}
-use Rattle.trees.specs.Map.{byOrder, merged, coefIn, putIn, formed, sum, refused, lookup}
+use Rattle.trees.specs.Map.{byOrder, merged, coefIn, putIn, notFinite, formed, sum, refused, lookup}
 use Rattle.trees.specs.Map as map
 use Rattle.trees.proofs.Keeps as keeps
 use Rattle.trees.proofs.Lookup.{orZero, coef-lookup}
@@ -140,7 +140,7 @@ new-at m f x t (and l q j d r) p k a e = go (cmpTerm x t (entry l (size j) q d) 
 -- ---- what `formed` says, test by test
 
 module _ (m : Merge) (x : Entry) (t s : Sum) where
-  pub formed-number : finite (x .num) ≡ false → formed m x t s ≡ refused NotFinite
+  pub formed-number : finite (x .num) ≡ false → formed m x t s ≡ refused (notFinite (x .kind))
   unfolding formed
   formed-number a = rw a
 

@@ -4,9 +4,8 @@ use native.Mathlib.Omega.{arith}
 use mathlib.Core.Path.{_≡_, refl, sym, ap, ap₂, _∙_}
 use mathlib.Core.Bool.{Bool, true, false, _&&_, _||_, not, cond}
 use mathlib.Core.List.{List, [], _∷_, _++_}
-use lib.Dec.{leb, eqb}
+use lib.Dec.{eqb}
 use lib.Ieee.{Float, eq, neg}
-use lib.Ieee.Scale.{finite}
 use borrow.Author.Tests.{eqb-true, ne-eqb}
 use Rattle.numbers.specs.Ops.{_⊕_, _⊖_, _⊗_}
 use Rattle.numbers.specs.Signs.{zero64, one64}
@@ -18,14 +17,15 @@ use Rattle.cells.specs.declared.Entry.{Entry}
 use Rattle.trees.specs.declared.Merge.{Merge}
 use Rattle.trees.specs.declared.Merge.the-variants.{Add}
 use Rattle.limits.specs.declared.Refusal.{Refusal}
-use Rattle.limits.specs.declared.Refusal.the-variants.{TooComplex, NotFinite, TooDeep, NoRoom}
+use Rattle.limits.specs.declared.Refusal.the-variants.{TooComplex, NotFinite, PowerNotFinite}
+use Rattle.limits.specs.Refusals.{refusalNo}
 use Rattle.trees.specs.Kinds.{X, Div}
-use Rattle.trees.specs.Sums.{Sum, none, and, size, levels, flat, entry}
+use Rattle.trees.specs.Sums.{Sum, none, and, size, flat, entry}
 use Rattle.trees.specs.Order.{cmpTerm}
 use Rattle.trees.specs.Same.{sameTerm}
 use Rattle.trees.specs.Good.{isEmpty, GoodEntry, Good}
-use Rattle.trees.specs.Map.{byOrder, coefIn, putIn, Outcome, sum, refused, at, absent, andThenSum, unless, formed, eachInto}
-use Rattle.trees.proofs.Keeps.{formed-sum}
+use Rattle.trees.specs.Map.{byOrder, putIn, Outcome, sum, refused, at, absent, andThenSum, unless, formed, eachInto}
+use Rattle.trees.proofs.Keeps.{formed-sum, formed-refusal}
 use Rattle.terms.specs.Outcomes.{productCode, noProduct, addPowers, mulInsides, quotientCode, noQuotient, xByX, xByDiv, xByOther, alike}
 use Rattle.terms.specs.Singles.{isOne, single, alone, asConstant, isX, isComplex, Expressible}
 use Rattle.terms.specs.Product.{pairable, rowable, mulable, mulTerm, mulInto, product}
@@ -317,10 +317,6 @@ module _ (k : ℕ) (p : Float) (i : Sum) (c : Complex) (r : Sum) where
 
 -- ---- where TooComplex comes from
 
-unless-fine : (b : Bool) (e : Refusal) (o : Outcome) → (e ≡ TooComplex → ⊥) → Expressible o → Expressible (unless b e o)
-unless-fine true e o n f h = f h
-unless-fine false e o n f h = n (cc)
-
 -- two steps
 pub then-fine : (o : Outcome) (f : Sum → Outcome) → Expressible o → ((u : Sum) → Expressible (f u)) → Expressible (andThenSum o f)
 then-fine (sum u) f n m h = m u h
@@ -328,15 +324,11 @@ then-fine (refused e) f n m h = n h
 
 -- an entry formed
 pub formed-fine : (m : Merge) (x : Entry) (t s : Sum) → Expressible (formed m x t s)
-unfolding formed
-formed-fine m x t s =
-    let room : Outcome = unless (leb (size (putIn m x t s)) 64) NoRoom (sum (putIn m x t s)) in
-    let deep : Outcome = unless (leb (levels t) 3) TooDeep room in
-    let infinite : NotFinite ≡ TooComplex → ⊥ = λ e. let z : _≡_ {A = ℕ} 0 1 = cc in omega arith in
-    unless-fine (finite (x .num)) NotFinite (unless (complex.allFinite (coefIn m x t s)) NotFinite deep) infinite
-    (unless-fine (complex.allFinite (coefIn m x t s)) NotFinite deep infinite
-    (unless-fine (leb (levels t) 3) TooDeep room (λ e. let z : _≡_ {A = ℕ} 0 1 = cc in omega arith)
-    (unless-fine (leb (size (putIn m x t s)) 64) NoRoom (sum (putIn m x t s)) (λ e. let z : _≡_ {A = ℕ} 0 1 = cc in omega arith) (λ e. never (sym e)))))
+formed-fine m x t s h = formed-refusal (λ q. refusalNo q ≡ 7 → ⊥) m x t s (λ f. number (eqb (x .kind) X)) (λ e. omega arith) (λ e. omega arith) (λ e. omega arith) TooComplex h refl
+  where
+    number : (b : Bool) → refusalNo (cond b PowerNotFinite NotFinite) ≡ 7 → ⊥
+    number true e = omega arith
+    number false e = omega arith
 
 -- a step for each entry
 pub each-fine : (f : Entry → Sum → Sum → Outcome) → ((x : Entry) (j s : Sum) → Expressible (f x j s)) → (t s : Sum) → Expressible (eachInto f s t)

@@ -23,7 +23,7 @@ use Rattle.trees.specs.Kinds.{X, hasNumber}
 use Rattle.trees.specs.Sums.{Sum, none, and, size, levels, entry}
 use Rattle.trees.specs.Order.{cmpTerm}
 use Rattle.trees.specs.Good.{isNumber, isEmpty, GoodEntry, Before, Good}
-use Rattle.trees.specs.Map.{byOrder, merged, coefIn, putIn, Outcome, sum, refused, andThenSum, unless, formed, eachInto, Found, at, absent, lookup}
+use Rattle.trees.specs.Map.{byOrder, merged, coefIn, putIn, Outcome, sum, refused, andThenSum, unless, notFinite, formed, eachInto, Found, at, absent, lookup, Has, here, there}
 use Rattle.trees.proofs.Order.{greater-less}
 
 -- ---- levels
@@ -171,9 +171,15 @@ unless-sum : (b : Bool) (r : Refusal) (o : Outcome) (s : Sum) → unless b r o �
 unless-sum true r o s h = (refl, h)
 unless-sum false r o s h = (cc, cc)
 
--- one sum is given
+-- one sum is given, or one refusal, and never both
 sum-is : {s s′ : Sum} → sum s ≡ sum s′ → s ≡ s′
 sum-is h = cc
+
+pub refused-is : {q r : Refusal} → refused q ≡ refused r → q ≡ r
+refused-is h = cc
+
+pub not-refused : {s : Sum} {q : Refusal} → sum s ≡ refused q → ⊥
+not-refused h = let z : _≡_ {A = ℕ} 0 1 = cc in omega arith
 
 -- an entry was formed
 pub formed-sum : (m : Merge) (x : Entry) (t s s′ : Sum) → formed m x t s ≡ sum s′ → Formed m x t s s′
@@ -181,12 +187,29 @@ unfolding formed
 formed-sum m x t s s′ h =
     let room : Outcome = unless (leb (size (putIn m x t s)) 64) NoRoom (sum (putIn m x t s)) in
     let deep : Outcome = unless (leb (levels t) 3) TooDeep room in
-    let a = unless-sum (finite (x .num)) NotFinite (unless (complex.allFinite (coefIn m x t s)) NotFinite deep) s′ h in
+    let a = unless-sum (finite (x .num)) (notFinite (x .kind)) (unless (complex.allFinite (coefIn m x t s)) NotFinite deep) s′ h in
     let b = unless-sum (complex.allFinite (coefIn m x t s)) NotFinite deep s′ (a .1) in
     let c = unless-sum (leb (levels t) 3) TooDeep room s′ (b .1) in
     let d = unless-sum (leb (size (putIn m x t s)) 64) NoRoom (sum (putIn m x t s)) s′ (c .1) in
     let e = sum-is (d .1) in
     record { is = sym e; num = a .0; coef = b .0; deep = leb-true (levels t) 3 (c .0); room = subst (λ (u : Sum). size u ≤ 64) e (leb-true (size (putIn m x t s)) 64 (d .0)) }
+
+-- what holds of a refused test's refusal, and of those that may follow, holds of every refusal there is
+unless-refused : (P : Refusal → Type 0) (b : Bool) (r : Refusal) (o : Outcome) → (b ≡ false → P r) → ((q : Refusal) → o ≡ refused q → P q) → (q : Refusal) → unless b r o ≡ refused q → P q
+unless-refused P true r o p k q h = k q h
+unless-refused P false r o p k q h = subst P (refused-is h) (p refl)
+
+-- which refusals an entry formed can give: its number's, where that isn't finite, its coefficient's, its depth's and the room's
+pub formed-refusal : (P : Refusal → Type 0) (m : Merge) (x : Entry) (t s : Sum) → (finite (x .num) ≡ false → P (notFinite (x .kind))) → P NotFinite → P TooDeep → P NoRoom
+    → (q : Refusal) → formed m x t s ≡ refused q → P q
+unfolding formed
+formed-refusal P m x t s number coef depth space =
+    let room : Outcome = unless (leb (size (putIn m x t s)) 64) NoRoom (sum (putIn m x t s)) in
+    let deep : Outcome = unless (leb (levels t) 3) TooDeep room in
+    unless-refused P (finite (x .num)) (notFinite (x .kind)) (unless (complex.allFinite (coefIn m x t s)) NotFinite deep) number
+    (unless-refused P (complex.allFinite (coefIn m x t s)) NotFinite deep (λ e. coef)
+    (unless-refused P (leb (levels t) 3) TooDeep room (λ e. depth)
+    (unless-refused P (leb (size (putIn m x t s)) 64) NoRoom (sum (putIn m x t s)) (λ e. space) (λ q h. absurd (not-refused h)))))
 
 -- an entry formed in a good sum leaves a good sum
 pub formed-good : (m : Merge) (x : Entry) (t s s′ : Sum) → GoodHead x t → Good 4 t → Good 4 s → formed m x t s ≡ sum s′ → Good 4 s′
@@ -222,7 +245,20 @@ module _ (f : Entry → Sum → Sum → Outcome) where
     where
       go : (o : Outcome) → f (entry l (size j) q d) j s ≡ o → andThenSum o (λ (u : Sum). eachInto f u r) ≡ sum s′ → ((u : Sum) → P u → eachInto f u r ≡ sum s′ → P s′) → P s′
       go (sum u) e h c = c u (k l q j d s u (g .0) (g .1) p e) h
-      go (refused e) o h c = absurd (let z : _≡_ {A = ℕ} 0 1 = cc in omega arith)
+      go (refused e) o h c = absurd (not-refused (sym h))
+
+  -- what holds of the refusal of each entry's step, for the good entries that the sum has, holds of the whole's refusal
+  pub each-refusal : (P : Refusal → Type 0) (left : ℕ) (t : Sum)
+      → ((l : ℕ) (q : Float) (j : Sum) (d : Complex) (s : Sum) (r : Refusal) → Has l q j d t → GoodEntry l q j d → Good left j → f (entry l (size j) q d) j s ≡ refused r → P r)
+      → (s : Sum) (r : Refusal) → Good (suc left) t → eachInto f s t ≡ refused r → P r
+  unfolding eachInto Good
+  each-refusal P left none k s r g h = absurd (not-refused h)
+  each-refusal P left (and l q j d t) k s r g h =
+      go (f (entry l (size j) q d) j s) refl h (λ (u : Sum). each-refusal P left t (λ l′ q′ j′ d′ s′ r′ has. k l′ q′ j′ d′ s′ r′ (there has)) u r (g .3))
+    where
+      go : (o : Outcome) → f (entry l (size j) q d) j s ≡ o → andThenSum o (λ (u : Sum). eachInto f u t) ≡ refused r → ((u : Sum) → eachInto f u t ≡ refused r → P r) → P r
+      go (sum u) e h c = c u h
+      go (refused e) o h c = subst P (refused-is h) (k l q j d s e here (g .0) (g .1) o)
 
 -- a good entry's head
 pub good-head : (l n : ℕ) (q : Float) (j : Sum) (d : Complex) → GoodEntry l q j d → GoodHead (entry l n q d) j

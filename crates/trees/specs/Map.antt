@@ -1,7 +1,7 @@
 -- The map of terms to coefficients: looking up, and putting a term in. Zero coefficients stay; where the key is there already, the key that was there stays.
 use Prim.Native.Nat.{ℕ, zero, suc, _-_}
 use mathlib.Core.Bool.{Bool, true, false, _&&_, cond}
-use lib.Dec.{leb}
+use lib.Dec.{leb, eqb}
 use lib.Ieee.{Float}
 use lib.Ieee.Scale.{finite}
 use Rattle.limits.specs.Limits.{sumEntries, sumLevels}
@@ -13,7 +13,8 @@ use Rattle.cells.specs.declared.Entry.{Entry}
 use Rattle.trees.specs.declared.Merge.{Merge}
 use Rattle.trees.specs.declared.Merge.the-variants.{Add, Take, Store}
 use Rattle.limits.specs.declared.Refusal.{Refusal}
-use Rattle.limits.specs.declared.Refusal.the-variants.{NoRoom, TooDeep, NotFinite}
+use Rattle.limits.specs.declared.Refusal.the-variants.{NoRoom, TooDeep, NotFinite, PowerNotFinite}
+use Rattle.trees.specs.Kinds.{X}
 use Rattle.trees.specs.Sums.{Sum, none, and, size, levels, entry}
 use Rattle.trees.specs.Order.{cmpTerm, cmpEach}
 
@@ -57,10 +58,14 @@ abbrev pub unless : Bool → Refusal → Outcome → Outcome
 unless true r o = o
 unless false r o = refused r
 
--- an entry formed in the sum s: 15 for its power or base and then for the coefficient that it then has, 13, 12
+-- why a term's number can't be: 18 for the power of an X, 15 for a base
+abbrev pub notFinite : ℕ → Refusal
+notFinite k = cond (eqb k X) PowerNotFinite NotFinite
+
+-- an entry formed in the sum s: 18 for its power or 15 for its base, then 15 for the coefficient that it then has, 13, 12
 unfoldable pub formed : Merge → Entry → Sum → Sum → Outcome
 formed m x t s =
-    unless (finite (x .num)) NotFinite
+    unless (finite (x .num)) (notFinite (x .kind))
     (unless (complex.allFinite (coefIn m x t s)) NotFinite
     (unless (leb (levels t) (sumLevels - 1)) TooDeep
     (unless (leb (size (putIn m x t s)) sumEntries) NoRoom (sum (putIn m x t s)))))

@@ -1,4 +1,7 @@
 // What a sum is, and what can be refused. Sums themselves are trees in the definitions and stretches of arrays in the code.
+use limits::Refusal;
+ghost use mathlib.Core.Path.{_≡_};
+ghost use Rattle.trees.specs.Map.{notFinite};
 
 // The kinds of a term, as document 01 numbers them.
 pub const X: u8 = 1;
@@ -22,4 +25,14 @@ pub enum Merge {
     Add,
     Take,
     Store,
+}
+
+// Why a term of this kind whose number isn't finite is refused: the power of an X has a refusal of its own.
+pub fn not_finite(kind: u8) -> Refusal
+    ensures { λ r. ⌜ r ≡ notFinite kind ⌝ }
+{
+    if kind == X {
+        return Refusal::PowerNotFinite;
+    }
+    Refusal::NotFinite
 }

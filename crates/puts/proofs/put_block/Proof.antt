@@ -2,10 +2,10 @@
 use Prim.Native.Nat.{_+_}
 use borrow.Author.Needs.{needs}
 use borrow.Author.Tests.{not-true, not-false}
-use mathlib.Core.Path.{_≡_, sym, _∙_}
+use mathlib.Core.Path.{_≡_, sym, ap, _∙_}
 use Rattle.cells.specs.Book.{Book, book}
-use Rattle.limits.specs.declared.Refusal.the-variants.{NotFinite}
 use Rattle.trees.specs.Sums.{Sum}
+use Rattle.trees.specs.Map.{refused}
 use Rattle.sums.specs.declared.Formed.the-variants.{Refused}
 use Rattle.sums.specs.declared.Found.{Found}
 use Rattle.sums.specs.Contract.Lies.{Lies}
@@ -55,14 +55,20 @@ held : (c : tie.After-find) (f : Found) → c .find .result ≡ f
 held c f e = let pre = start c .pre in putting c f e (pre .1 .2 .0) (pre .0 .1 .0) (pre .1 .2 .1) (pre .0 .1 .1)
 
 -- the number is not finite
-not-finite : (c : tie.Then1) (s t : Sum) → (let st = c .before .before .before .before .before .before .before .before .before .before .before .before in Answer (st .args .how) (st .args .x) (M st) (M st) (st .args .p) (Refused NotFinite) s t)
+abbrev refusing : tie.After-not-finite → tie.Start
+refusing c = c .before .before .before .before .before .before .before .before .before .before .before .before .before
+
+not-finite : (c : tie.After-not-finite) (s t : Sum)
+    → (let st = refusing c in Answer (st .args .how) (st .args .x) (M st) (M st) (st .args .p) (Refused (c .not-finite .result)) s t)
 not-finite c s t =
-    let st = c .before .before .before .before .before .before .before .before .before .before .before .before in
-    answer-refused (st .args .how) (st .args .x) (M st) (st .args .p) s t NotFinite
-    (formed-number (st .args .how) (st .args .x) t s (sym (c .before .is-finite .ensures) ∙ not-true (c .before .is-finite .result) (c .if1 .taken)))
+    let st = refusing c in
+    let tested = c .before in
+    answer-refused (st .args .how) (st .args .x) (M st) (st .args .p) s t (c .not-finite .result)
+    (formed-number (st .args .how) (st .args .x) t s (sym (tested .before .is-finite .ensures) ∙ not-true (tested .before .is-finite .result) (tested .if1 .taken))
+    ∙ ap refused (sym (c .not-finite .ensures)))
 
 returns : tie.Need-returns
-returns c = let pre = c .before .before .before .before .before .before .before .before .before .before .before .before .pre in (not-finite c (pre .1 .2 .0) (pre .0 .1 .0) .0, λ s t ls lt. not-finite c s t .1)
+returns c = let pre = refusing c .pre in (not-finite c (pre .1 .2 .0) (pre .0 .1 .0) .0, λ s t ls lt. not-finite c s t .1)
 
 put-same-requires : tie.Need-put-same-requires
 put-same-requires c κs =
@@ -97,6 +103,7 @@ pub put-block-spec : {M : Type 1} → statement M
 put-block-spec =
     tie.close
     (tie.spec
+    (λ c κs. search needs)
     (λ c κs. search needs)
     returns
     (λ c. search needs)
