@@ -27,7 +27,7 @@ use Rattle.entries.specs.Contract.Steps.{cleanAt, cellAt, Answered, good
 use Rattle.entries.specs.declared.Taken.{Taken}
 use Rattle.entries.specs.declared.Taken.the-variants as taken
 use Rattle.entries.proofs.Codes.{Bits, bits-at}
-use Rattle.entries.proofs.Laws.{length-sum, cellBytes, cells-same, cells-part, encode-laid, laid-of, clean-of, at-unique}
+use Rattle.entries.proofs.Laws.{length-sum, cellBytes, cells-same, cells-part, encode-laid, laid-of, clean-of, at-unique, encode-unique}
 
 -- within 4 levels is within 64
 pub deeper : (s : Sum) → Good 4 s → Good 64 s
@@ -152,6 +152,15 @@ module _ (l : List ℕ) (n : ℕ) (b : Book) (bs : Bytes l) (long : length l ≡
 pub good-taken : (s : Sum) (t : Taken) → Good 4 s → 1 ≤ size s → size s ≤ 64 → Weighed (encodeSum s) t → t ≡ taken.Sum (size s)
 good-taken s t g some few w = w .good (size s) .1 (s, refl, handed 4 s g some few, g, refl)
 
+-- and it may be handed over: its bytes are weighed as so many entries, since no other good sum has them
+pub weighed-good : (s : Sum) → Good 4 s → 1 ≤ size s → size s ≤ 64 → Weighed (encodeSum s) (taken.Sum (size s))
+weighed-good s g some few =
+    record {
+      good = λ n. (λ e. (s, refl, handed 4 s g some few, g, sum-count e), λ w. ap taken.Sum (omega (arith, length-sum s, length-sum (w .0), ap length (w .1), w .4)));
+      deep = (λ e. absurd (sum-not-deep e), λ w. absurd (w .3 (subst (Good 4) (encode-unique 4 64 s (w .0) g (w .2 .good) few (sym (w .1))) g)));
+      bad = (λ e. absurd (sum-not-bad e), λ f. absurd (f s refl (handed 4 s g some few)));
+    }
+
 -- no other refusal is ever given
 other : (l : List ℕ) (r : Refusal) → (refusalNo r ≡ 11 → ⊥) → (refusalNo r ≡ 13 → ⊥) → Weighed l (taken.Refused r) → ⊥
 other l r p q w = p (ap no (w .bad .1 (λ s e h. q (ap no (w .deep .1 (s, e, h, λ g. no-sum (w .good (size s) .1 (s, e, h, g, refl))))))))
@@ -163,7 +172,7 @@ other l r p q w = p (ap no (w .bad .1 (λ s e h. q (ap no (w .deep .1 (s, e, h, 
     no-sum : {n : ℕ} → taken.Refused r ≡ taken.Sum n → ⊥
     no-sum e = let z : _≡_ {A = ℕ} 0 1 = cc in omega arith
 
-only : (l : List ℕ) (r : Refusal) → Weighed l (taken.Refused r) → (r ≡ TooDeep) ⊎ (r ≡ BadRecord)
+pub only : (l : List ℕ) (r : Refusal) → Weighed l (taken.Refused r) → (r ≡ TooDeep) ⊎ (r ≡ BadRecord)
 only l r w = go (eqb (refusalNo r) 13) (eqb (refusalNo r) 11) refl refl
   where
     go : (a b : Bool) → eqb (refusalNo r) 13 ≡ a → eqb (refusalNo r) 11 ≡ b → (r ≡ TooDeep) ⊎ (r ≡ BadRecord)

@@ -4,3 +4,4 @@ pub mod Laws
 pub mod Walks
 pub mod Steps
 pub mod Examples
+pub mod Refusals

@@ -1,6 +1,7 @@
 -- The root of writer's laws.
 pub mod Count
 pub mod Good
+pub mod Refusals
 pub mod Parts
 pub mod Turning
 pub mod Whole
