@@ -10,3 +10,4 @@ pub mod Composing
 pub mod Written
 pub mod Cases
 pub mod Nought
+pub mod PowerOverflow
