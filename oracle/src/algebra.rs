@@ -12,4 +12,5 @@ mod shapes;
 pub mod sums;
 pub mod values;
 
+pub use forming::with_one_number;
 pub use guard::MOST_STACKED;

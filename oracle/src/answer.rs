@@ -18,6 +18,7 @@ pub mod number {
     pub const NEEDS_MATH: u8 = 14;
     pub const NOT_FINITE: u8 = 15;
     pub const BIG_POWER: u8 = 16;
+    pub const POWER_NOT_FINITE: u8 = 18;
 }
 
 /// A number that comes back, 0 excepted, and the place of the refusing record.
@@ -46,7 +47,7 @@ pub enum Answer<T> {
     Panic,
     /// The paper decides: the bytes are no list or no sum (11, 13).
     Form(Refusal),
-    /// The paper decides: a limit that the Rust lacks cuts in (12 to 16).
+    /// The paper decides: a limit that the Rust lacks cuts in (12 to 16, 18).
     Limit(Refusal),
     /// Nobody waits for it: the list runs for too many steps.
     TooLong,

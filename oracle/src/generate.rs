@@ -469,6 +469,64 @@ pub fn at_odds() -> Vec<Vec<u8>> {
     words.map(text::list).into()
 }
 
+/// Every way to a power of x that isn't finite. F stands for a factor that
+/// comes to the coefficient before.
+const WAYS_TO_A_POWER: [&str; 16] = [
+    // products: a square, two powers, of several terms, inside one Div and two
+    "-1e308 Pow F Dup Mul",
+    "Dup -1e308 Pow F Flip -1.5e308 Pow F Mul",
+    "-1e308 Pow F Dup 1 Add Mul",
+    "-1e308 Pow F 1 Add Reciprocal Dup Mul",
+    "Dup -1e308 Pow F 1 Add Reciprocal Flip -1e308 Pow 2 Add Reciprocal Add Reciprocal Dup Mul",
+    // whole powers: at the first product and at a later one
+    "-1e308 Pow F 2 Pow",
+    "-5e307 Pow F 4 Pow",
+    "-5e307 Pow F 1 Add 4 Pow",
+    // quotients, both ways
+    "-1e308 Pow F Dup Reciprocal Div",
+    "-1e308 Pow F Dup Reciprocal Flip Div",
+    "-1e308 Pow F Dup 1 Add Reciprocal Div",
+    // roots, and a power by a large exponent
+    "-1e308 Pow F -2 Pow",
+    "-1e308 Pow F 2.5 Pow",
+    "2 Pow F -1e308 Pow",
+    // read, and refused where it is derived
+    "-1e308 Pow F 1 Add Reciprocal",
+    "-1e308 Pow F Reciprocal 1 Add Reciprocal",
+];
+
+/// Lists that come to a power that isn't finite in every way: alone, with a
+/// coefficient 0 and with one that overflows at the same entry, at an earlier
+/// and at a later one; after what counts as handled; inside.
+pub fn power_overflows() -> Vec<String> {
+    let mut lists = Vec::new();
+    for way in WAYS_TO_A_POWER {
+        for factor in [
+            "",
+            "0 Mul",
+            "1e200 Mul",
+            "1e200 Add",
+            "Reciprocal 1e200 Add",
+        ] {
+            lists.push(way.replace("F ", &format!("{factor} ")));
+        }
+        for context in [
+            "Neg Neg W",
+            "Dup Mul W",
+            "Run(W)",
+            "Custom(W)",
+            "1 Dip(1: W) Pop",
+            "On(1: W) Pop",
+            "Both(1: W)",
+            "Fork(1: W)(1:) Pop",
+            "W Sin",
+        ] {
+            lists.push(context.replace('W', &way.replace("F ", "")));
+        }
+    }
+    lists
+}
+
 /// Lists at, below and above each of the paper's limits.
 pub fn near_limits() -> Vec<Vec<u8>> {
     let mut lists: Vec<Vec<u8>> = Vec::new();
@@ -477,6 +535,7 @@ pub fn near_limits() -> Vec<Vec<u8>> {
     limits_of_entries(&mut add);
     limits_of_the_stack(&mut add);
     limits_of_records(&mut add);
+    power_overflows().iter().for_each(|words| add(words));
     refusals(&mut add);
     lists.extend(at_odds());
     lists

@@ -101,7 +101,7 @@ pub fn code_of(name: &str) -> u8 {
 }
 
 /// Limits, at and one past, and two refusals at odds in one step: the primitive, and what its operands are.
-pub const LIMITS: [(&str, &str, &str); 30] = [
+pub const LIMITS: [(&str, &str, &str); 38] = [
     ("Pow", "1 Add", "Pop 63"),
     ("Pow", "1 Add", "Pop 64"),
     ("Pow", "", "Pop 64"),
@@ -132,6 +132,22 @@ pub const LIMITS: [(&str, &str, &str); 30] = [
     ("Mul", "1e200 Mul 1 Add", "1e200 Mul 1 Add"),
     ("Div", "Pop 0", "1 Add"),
     ("Div", "Pop 1", "1 Add"),
+    ("Mul", "-1e308 Pow", "-1e308 Pow"),
+    ("Mul", "-1e308 Pow 1e200 Mul", "-1e308 Pow 1e200 Mul"),
+    ("Mul", "-1e308 Pow 1e200 Add", "-1e308 Pow 1e200 Add"),
+    (
+        "Mul",
+        "-1e308 Pow Reciprocal 1e200 Add",
+        "-1e308 Pow Reciprocal 1e200 Add",
+    ),
+    (
+        "Mul",
+        "-1e308 Pow 1 Add Reciprocal",
+        "-1e308 Pow 1 Add Reciprocal",
+    ),
+    ("Div", "-1e308 Pow", "-1e308 Pow Reciprocal"),
+    ("Pow", "-1e308 Pow", "Pop -2"),
+    ("Pow", "-5e307 Pow", "Pop 4"),
 ];
 
 /// How many cases are gone through.

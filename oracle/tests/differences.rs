@@ -601,6 +601,22 @@ mod domain {
         );
     }
 
+    /// A power of x that isn't finite has a number of its own.
+    #[test]
+    fn powers_that_overflow() {
+        let words = "push -1e308, Pow, Dup, Mul";
+        assert_eq!(derivative(words), "push -inf, Pow, push NaN, Mul");
+        refused(judge::read(&text::list(words)), 18, 3);
+        let words = "push -1e308, Pow, push 1e200, Mul, Dup, Mul";
+        assert_eq!(derivative(words), "push -inf, Pow, push NaN, Mul");
+        refused(judge::read(&text::list(words)), 18, 5);
+        let words = "push -1e308, Pow, push 1, Add, Reciprocal";
+        assert!(derivative(words).contains("push -inf, Pow"));
+        refused(judge::derivative(&text::list(words)), 18, 0);
+        let words = "push 1e308, push 10, Mul, Pow";
+        refused(judge::read(&text::list(words)), 15, 2);
+    }
+
     #[test]
     fn overflows_after_reading() {
         for words in ["Dup, Mul, push 1e308, Mul"] {

@@ -24,5 +24,5 @@ fn every_primitive_and_limit_is_met() {
         .iter()
         .filter_map(|case| case.result.as_ref().err().copied())
         .collect();
-    assert_eq!(numbers, BTreeSet::from([7, 12, 13, 14, 15, 16]));
+    assert_eq!(numbers, BTreeSet::from([7, 12, 13, 14, 15, 16, 18]));
 }

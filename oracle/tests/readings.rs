@@ -141,13 +141,13 @@ fn formed_sums_of_65_entries() {
 }
 
 #[test]
-fn seven_before_sixteen_before_fourteen_before_fifteen() {
+fn seven_before_sixteen_before_fourteen_before_those_not_finite() {
     rust(read("Sin 65 Pow"), 7, 2);
     limit(read("1e308 Mul 65 Pow"), 16, 3);
-    // 7 on the way down through Div, then 14, then 15.
+    // 7 on the way down through Div, then 14, then 18 or 15.
     rust(read("Sin 1 Add Reciprocal 0.5 Pow"), 7, 5);
     limit(read("2 Mul -1e308 Pow"), 14, 3);
-    limit(read("-1e308 Pow 1e308 Neg Pow"), 15, 4);
+    limit(read("-1e308 Pow 1e308 Neg Pow"), 18, 4);
     rust(judge::derivative(&text::list("Sin 3 Log")), 7, 0);
     limit(judge::derivative(&text::list("3 Log")), 14, 0);
 }

@@ -21,7 +21,8 @@ compare: the proved library against the judge, in one process
 --threads T          otherwise as many as there are cores
 --record FILE        write what was compared to this file too
 
-It ends with 0 where there is no difference, with 1 where there is one, and with 2 where it can't start.";
+It ends with 0 where there is no difference, with 1 where there is one or where random lists never met a refusal of a power and of
+another number that isn't finite (18 and 15), and with 2 where it can't start.";
 
 #[derive(Debug, Clone, PartialEq, Eq)]
 pub struct Settings {

@@ -34,5 +34,15 @@ fn compare_all(settings: &Settings, words: &[String]) -> ExitCode {
             return ExitCode::from(2);
         }
     }
-    ExitCode::from(u8::from(!compared.differences.is_empty()))
+    // those near every limit come first wherever random lists are compared
+    let missing = if settings.is_random() {
+        compared.tally.missing()
+    } else {
+        Vec::new()
+    };
+    for missing in &missing {
+        println!("NOT MET {missing}");
+    }
+    let all_well = compared.differences.is_empty() && missing.is_empty();
+    ExitCode::from(u8::from(!all_well))
 }

@@ -129,7 +129,7 @@ pub fn recorded(command: &str, report: &str, differences: &[String]) -> String {
         "# The proved library and the judge, compared\n\n\
          Written by the program `compare` itself (`--record`). Every answer that the judge owes was compared: number, place, count, \
          complex flag and each byte; for the run value bits, steps and peak, with the plain runner of oracle/src/runner.rs. \
-         Columns 1 to 17 are refusals; 17 was asked for by room that is one record short.\n\n    {command}\n\n{report}"
+         Columns 1 to 18 are refusals; 17 was asked for by room that is one record short.\n\n    {command}\n\n{report}"
     );
     for difference in differences {
         write!(text, "\n```\n{difference}\n```\n").expect("a string grows");

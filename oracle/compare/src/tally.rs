@@ -55,8 +55,17 @@ pub const ORIGINS: [Origin; 4] = [
     Origin::Random,
 ];
 
-/// Numbers that come back: 0 and seventeen refusals.
-pub const NUMBERS: usize = 18;
+/// Numbers that come back: 0 and eighteen refusals.
+pub const NUMBERS: usize = 19;
+
+/// Answers that a comparison of random lists has to meet: the refusals of a
+/// power and of another number that isn't finite.
+const TO_BE_MET: [(Entry, usize); 4] = [
+    (Entry::Read, 15),
+    (Entry::Read, 18),
+    (Entry::Derive, 15),
+    (Entry::Derive, 18),
+];
 
 /// What was compared for one entry, and what couldn't be.
 #[derive(Debug, Clone, Copy, Default, PartialEq, Eq)]
@@ -114,6 +123,14 @@ impl Tally {
     }
     pub fn compared(&self) -> u64 {
         self.rows.iter().map(Row::compared).sum()
+    }
+    /// Answers that were to be met and weren't.
+    pub fn missing(&self) -> Vec<String> {
+        TO_BE_MET
+            .into_iter()
+            .filter(|&(entry, number)| self.row(entry).numbers[number] == 0)
+            .map(|(entry, number)| format!("{} never answers {number}", entry.name()))
+            .collect()
     }
     pub fn add(&mut self, other: &Tally) {
         for (row, more) in self.rows.iter_mut().zip(&other.rows) {

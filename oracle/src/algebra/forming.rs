@@ -9,7 +9,11 @@ use super::{
     Complex, E, Expr, ONE, Term, ZERO, expr_deriv, expr_integral,
     sums::{MOST_ENTRIES, MOST_NESTING, count, nesting, own_number},
 };
-use crate::answer::number::{BIG_POWER, NEEDS_MATH, NO_ROOM, NOT_FINITE, TOO_COMPLEX, TOO_DEEP};
+use std::cell::Cell;
+
+use crate::answer::number::{
+    BIG_POWER, NEEDS_MATH, NO_ROOM, NOT_FINITE, POWER_NOT_FINITE, TOO_COMPLEX, TOO_DEEP,
+};
 
 /// The largest whole power that a sum is multiplied out for.
 pub const MOST_POWER: f64 = 64.0;
@@ -21,11 +25,34 @@ fn is_finite(number: Complex) -> bool {
     number.re.is_finite() && number.im.is_finite()
 }
 
+thread_local! {
+    /// Whether 15 stands for every number that isn't finite, as it did at first.
+    static ONE_NUMBER: Cell<bool> = const { Cell::new(false) };
+}
+
+/// Do something on this thread under the first rule, by which a power that
+/// isn't finite is refused with 15 like all other numbers.
+pub fn with_one_number<T>(action: impl FnOnce() -> T) -> T {
+    let before = ONE_NUMBER.replace(true);
+    let result = action();
+    ONE_NUMBER.set(before);
+    result
+}
+
+/// The refusal of a term whose own number isn't finite: a power or a base.
+fn not_finite(term: &Term) -> u8 {
+    match term {
+        Term::X(_) if !ONE_NUMBER.get() => POWER_NOT_FINITE,
+        _ => NOT_FINITE,
+    }
+}
+
 /// Put an entry into a sum that is being formed: change the coefficient that
-/// its term has there, from +0 where it is new.
+/// its term has there, from +0 where it is new. 18 or 15 for the term's own
+/// number, 15 for the coefficient, 13, 12.
 fn put(sum: &mut Expr, term: Term, change: impl FnOnce(&mut Complex)) -> Result<(), u8> {
     if own_number(&term).is_some_and(|number| !number.is_finite()) {
-        return Err(NOT_FINITE);
+        return Err(not_finite(&term));
     }
     let nesting = nesting(&term);
     let coef = sum.0.entry(term).or_default();
