@@ -29,6 +29,8 @@ fn the_proved_library_has_no_difference() {
     assert_eq!(compared.differences, Vec::<String>::new());
     assert!(compared.tally.all_lists() > 4000 && compared.tally.compared() > 30_000);
     assert!(!compared.cut_short);
+    assert_eq!(compared.tally.missing(), Vec::<String>::new());
+    assert!(compared.tally.noughts > 10);
 }
 
 fn flag_never_set(list: &[u8], sum: &mut [u8]) -> Told<3> {
@@ -41,6 +43,35 @@ fn places_all_0(list: &[u8], sum: &mut [u8]) -> Told<3> {
     let mut told = proved::read(list, sum);
     told.answer[0] = 0;
     told
+}
+
+fn power_told_as_15(list: &[u8], sum: &mut [u8]) -> Told<3> {
+    let mut told = proved::read(list, sum);
+    if told.number == 18 {
+        told.number = 15;
+    }
+    told
+}
+
+fn square_told_as_15(sum: &[u8], out: &mut [u8]) -> Told<2> {
+    let mut told = proved::derive(sum, out);
+    if told.number == 18 {
+        told.number = 15;
+    }
+    told
+}
+
+/// 0 for the run of push 0, Pow.
+fn nought_is_0(list: &[u8], x: f64) -> Ran {
+    let mut ran = proved::run(list, x);
+    let nought: Vec<u8> = [[1, 0], [5, 12]]
+        .into_iter()
+        .flat_map(|start| start.into_iter().chain([0; 22]))
+        .collect();
+    if list == nought {
+        ran.value = 0;
+    }
+    ran
 }
 
 fn last_bit_wrong(list: &[u8], out: &mut [u8]) -> Told<2> {
@@ -119,7 +150,7 @@ fn peak_at_most_3(list: &[u8], x: f64) -> Ran {
 
 #[test]
 fn wrong_reading_is_found() {
-    for read in [flag_never_set, places_all_0] {
+    for read in [flag_never_set, places_all_0, power_told_as_15] {
         is_found("read", Library { read, ..LIBRARY });
     }
 }
@@ -147,8 +178,9 @@ fn wrong_lists_are_found() {
 
 #[test]
 fn wrong_sums_are_found() {
-    let derive = always_room;
-    is_found("derive", Library { derive, ..LIBRARY });
+    for derive in [always_room, square_told_as_15] {
+        is_found("derive", Library { derive, ..LIBRARY });
+    }
     let integrate = all_refused;
     let library = Library {
         integrate,
@@ -162,7 +194,7 @@ fn wrong_sums_are_found() {
 
 #[test]
 fn wrong_runs_are_found() {
-    for run in [no_minus_zero, one_step_more, peak_at_most_3] {
+    for run in [no_minus_zero, one_step_more, peak_at_most_3, nought_is_0] {
         is_found("run", Library { run, ..LIBRARY });
     }
 }
