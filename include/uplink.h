@@ -42,9 +42,10 @@ enum uplink_number {
     UPLINK_NO_ROOM = 12,           /* a sum, the stack, or what is held grows too large */
     UPLINK_TOO_DEEP = 13,          /* nested too deep */
     UPLINK_NEEDS_MATH = 14,        /* a power, log or root outside of the exact cases */
-    UPLINK_NOT_FINITE = 15,        /* a number that isn't finite, given or formed */
+    UPLINK_NOT_FINITE = 15,        /* a number that isn't finite, given or formed, but for a power of x */
     UPLINK_BIG_POWER = 16,         /* a sum raised to a whole number above 64 */
-    UPLINK_OUTPUT_ROOM = 17        /* the output lent is too short */
+    UPLINK_OUTPUT_ROOM = 17,       /* the output lent is too short */
+    UPLINK_POWER_NOT_FINITE = 18   /* a power of x formed that isn't finite: read, derive, derivative, integral, inverse */
 };
 
 /* Sizes in bytes, and the most there can be. A buffer of UPLINK_LIST_BYTES takes every list, one of

@@ -127,6 +127,13 @@ const NOT_FINITE_PUSH: &str =
 fn of_reading(refusal: Refusal, record: &Record) -> Option<String> {
     let text = match (refusal, record) {
         (Refusal::NotFinite, Record::RealPush(_) | Record::ComplexPush { .. }) => NOT_FINITE_PUSH,
+        (Refusal::NotFinite, _) => {
+            "This step makes a coefficient that is infinite or not a number. Mend the weights: look for a division by zero, and for factors that are too large."
+        }
+        (Refusal::PowerNotFinite, _) => {
+            "This step makes a power of x whose exponent is infinite. Mend the exponents: where powers of x are multiplied, divided or raised, \
+             their exponents are added, subtracted or multiplied."
+        }
         (Refusal::NeedsMath, Record::Primitive(Primitive::Pow | Primitive::Sqrt)) => {
             "To a power that isn't a whole number from 0 up, a single power of x is raised, and its coefficient must be 1. \
              Raise first and multiply by the coefficient after that."
@@ -152,6 +159,13 @@ fn of_the_result(asked: Asked, refusal: Refusal) -> Option<String> {
         (Asked::Derivative, Refusal::TooComplex) => {
             "The formula is read, but has no derivative here: a sine, a logarithm or their like is derived where its argument is k x + c, \
              and 1 over such a function isn't. `dive read` shows the formula."
+        }
+        (Asked::Derivative, Refusal::NotFinite) => {
+            "The formula is read, but a coefficient of its derivative is infinite: mend the weights. `dive read` shows the formula."
+        }
+        (Asked::Derivative, Refusal::PowerNotFinite) => {
+            "The formula is read, but its derivative squares what is divided by, and a power of x is infinite there: mend the exponents. \
+             `dive read` shows the formula."
         }
         (Asked::Derivative, Refusal::NeedsMath) => {
             "The formula is read, but has no derivative here: logarithms are derived to base E, 2 and 10 alone. `dive read` shows the formula."
@@ -194,7 +208,7 @@ mod tests {
 
     #[test]
     fn every_refusal_of_a_stored_list_is_explained() {
-        let mut met = [false; 18];
+        let mut met = [false; 19];
         for list in crate::stored::lists() {
             let source = Source::of_records("a".into(), &list);
             for (asked, refused) in refusals(&list) {
@@ -205,6 +219,9 @@ mod tests {
             }
         }
         // OutputRoom alone is never met: there is room for every result.
-        assert!(met[1..17].iter().all(|&met| met) && !met[17], "{met:?}");
+        assert!(
+            met[1..17].iter().all(|&met| met) && !met[17] && met[18],
+            "{met:?}"
+        );
     }
 }

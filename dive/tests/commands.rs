@@ -203,6 +203,39 @@ fn a_power_nought_is_remarked_where_it_is_read() {
 }
 
 #[test]
+fn a_runaway_power_is_told_from_a_runaway_coefficient() {
+    let file = path(&folder("runaway").join("runaway.txt"));
+    for (steps, named, mend) in [
+        (
+            "push -1e308, Pow, Dup, Mul",
+            "PowerNotFinite (18) at record 3, Mul",
+            "Mend the exponents",
+        ),
+        (
+            "push -1e308, Pow, push 1e200, Mul, Dup, Mul",
+            "PowerNotFinite (18) at record 5, Mul",
+            "Mend the exponents",
+        ),
+        (
+            "push 1e308, Mul, push 10, Mul",
+            "NotFinite (15) at record 3, Mul",
+            "Mend the weights",
+        ),
+    ] {
+        fs::write(&file, steps).expect("a file");
+        for command in ["read", "derivative", "integral", "inverse"] {
+            let said = line(&format!("{command} {file}")).failed(1);
+            assert!(said.contains(named) && said.contains(mend), "{said}");
+        }
+    }
+    // read, and refused where it is derived: of no record
+    fs::write(&file, "push -1e308, Pow, push 1, Add, Reciprocal").expect("a file");
+    let said = line(&format!("derivative {file}")).failed(1);
+    assert!(said.contains("refused: PowerNotFinite (18)\n"), "{said}");
+    assert!(said.contains("mend the exponents"), "{said}");
+}
+
+#[test]
 fn a_modifier_that_is_not_run_is_explained() {
     let said = line("run samples/fork.txt 1").failed(1);
     assert!(

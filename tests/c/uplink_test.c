@@ -100,6 +100,20 @@ static void nought(void)
     }
 }
 
+/* A power of x that isn't finite is told from a coefficient that isn't. */
+static void overflows(void)
+{
+    struct uplink_record power[] = {push(-1e308), primitive(UPLINK_POW), push(1e200), primitive(UPLINK_MUL), primitive(UPLINK_DUP), primitive(UPLINK_MUL)};
+    struct uplink_record coefficient[] = {push(1e308), primitive(UPLINK_MUL), push(10), primitive(UPLINK_MUL)};
+    struct uplink_record out[8];
+    struct uplink_answer answer;
+
+    expect(uplink_derivative((uint8_t *)power, sizeof power, (uint8_t *)out, sizeof out, &answer) == UPLINK_POWER_NOT_FINITE, "PowerNotFinite");
+    expect(answer.place == 5 && answer.count == 0, "at record 5, with count 0");
+    expect(uplink_derivative((uint8_t *)coefficient, sizeof coefficient, (uint8_t *)out, sizeof out, &answer) == UPLINK_NOT_FINITE, "NotFinite");
+    expect(answer.place == 3 && answer.count == 0, "at record 3, with count 0");
+}
+
 /* A refusal has its number and place, zero counts, and changes no byte. */
 static void refusals(void)
 {
@@ -130,6 +144,7 @@ int main(void)
     cubic();
     others();
     nought();
+    overflows();
     refusals();
     printf(failures ? "%d failed\n" : "the C functions answer as printed\n", failures);
     return failures != 0;

@@ -44,7 +44,7 @@ fn checked(number: u64, place: u64) -> Result<(), Refused> {
     if number == 0 {
         return Ok(());
     }
-    let refusal = Refusal::from_number(number).expect("the library returns 0 to 17");
+    let refusal = Refusal::from_number(number).expect("the library returns 0 to 18");
     Err(Refused {
         refusal,
         place: size(place),

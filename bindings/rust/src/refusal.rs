@@ -1,8 +1,8 @@
-//! The seventeen refusals, and the error that names one with its place.
+//! The eighteen refusals, and the error that names one with its place.
 
 use std::{error::Error, fmt};
 
-/// Why there is no result. Each refusal is a number from 1 to 17; 0 means done.
+/// Why there is no result. Each refusal is a number from 1 to 18; 0 means done.
 #[derive(Debug, Clone, Copy, PartialEq, Eq, Hash, PartialOrd, Ord)]
 #[repr(u8)]
 pub enum Refusal {
@@ -23,13 +23,14 @@ pub enum Refusal {
     NotFinite = 15,
     BigPower = 16,
     OutputRoom = 17,
+    PowerNotFinite = 18,
 }
 
 use Refusal::*;
 
 impl Refusal {
     /// All of them, in the order of their numbers.
-    pub const ALL: [Refusal; 17] = [
+    pub const ALL: [Refusal; 18] = [
         TooManyVariables,
         NotSupported,
         NoOutput,
@@ -47,9 +48,10 @@ impl Refusal {
         NotFinite,
         BigPower,
         OutputRoom,
+        PowerNotFinite,
     ];
 
-    /// The number that the library returns for it, 1 to 17.
+    /// The number that the library returns for it, 1 to 18.
     ///
     /// ```
     /// use uplink::Refusal;
@@ -88,6 +90,7 @@ impl Refusal {
             NotFinite => "NotFinite",
             BigPower => "BigPower",
             OutputRoom => "OutputRoom",
+            PowerNotFinite => "PowerNotFinite",
         }
     }
 
@@ -108,9 +111,10 @@ impl Refusal {
             NoRoom => "a sum or the stack grows past its limit",
             TooDeep => "records or terms lie too deep inside one another",
             NeedsMath => "a power, a root, a logarithm or a function is asked for that this code can't compute",
-            NotFinite => "a number is infinite or not a number, or has an imaginary part where it is written as real",
+            NotFinite => "a coefficient or another number is infinite or not a number, or has an imaginary part where it is written as real",
             BigPower => "a sum is raised to a whole power above 64",
             OutputRoom => "the result doesn't fit the bytes lent for it, and none of it was written",
+            PowerNotFinite => "a power of x is infinite",
         }
     }
 
@@ -131,9 +135,10 @@ impl Refusal {
             NoRoom => "Use fewer terms or lower powers: a sum has at most 64 entries, the stack 1,024 of them, and in the run 256 values.",
             TooDeep => "Nest less: a record lies inside at most 128 others, a term inside at most 3.",
             NeedsMath => "Keep to whole powers from 0 to 64; a formula that is only read and derived may have other powers of x itself, and logarithms to base e, 2 and 10.",
-            NotFinite => "Look for a division by zero, for numbers that grow too large, and for a push or an x that isn't finite.",
+            NotFinite => "Look for a division by zero, for coefficients that grow too large, and for a push or an x that isn't finite.",
             BigPower => "Use whole powers up to 64.",
             OutputRoom => "Lend SUM_BYTES bytes for a sum and LIST_BYTES for a list: no result needs more.",
+            PowerNotFinite => "Mend the exponents: where powers of x are multiplied, divided or raised, their exponents are added, subtracted or multiplied.",
         }
     }
 
@@ -194,7 +199,7 @@ mod tests {
             assert_eq!(format!("{refusal:?}"), refusal.name());
         }
         assert_eq!(Refusal::from_number(0), None);
-        assert_eq!(Refusal::from_number(18), None);
+        assert_eq!(Refusal::from_number(19), None);
     }
 
     #[test]
@@ -209,7 +214,7 @@ mod tests {
     #[test]
     fn a_place_is_said_where_there_is_one() {
         let said = |refusal, place| Refused { refusal, place }.to_string();
-        assert!(said(NotFinite, 3).starts_with("NotFinite (15) at record 3: a number is"));
+        assert!(said(NotFinite, 3).starts_with("NotFinite (15) at record 3: a coefficient or"));
         assert!(said(NotFinite, 0).starts_with("NotFinite (15) at record 0 or after the last: "));
         assert!(said(NoOutput, 0).starts_with("NoOutput (3): no value is left"));
     }

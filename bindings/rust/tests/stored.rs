@@ -108,19 +108,19 @@ fn replayed(name: &str) -> usize {
 
 #[test]
 fn stored_answers_of_lists_hold() {
-    assert_eq!(replayed("lists.txt"), 4305 + 4237 + 4303 + 4252);
+    assert_eq!(replayed("lists.txt"), 4311 + 4238 + 4309 + 4258);
 }
 
 #[test]
 fn stored_answers_of_sums_hold() {
-    assert_eq!(replayed("sums.txt"), 1549 + 1646 + 2608);
+    assert_eq!(replayed("sums.txt"), 1548 + 1648 + 2612);
 }
 
 #[test]
 fn stored_answers_at_the_limits_hold() {
     assert_eq!(
         replayed("limits.txt"),
-        401 + 469 + 403 + 454 + 190 + 93 + 870
+        442 + 515 + 444 + 495 + 193 + 93 + 870
     );
 }
 
