@@ -1,0 +1,3 @@
+-- The root of radicals' definitions.
+pub mod Root
+pub mod Contract
