@@ -4,8 +4,10 @@ use mathlib.Core.Path.{_≡_, refl}
 use mathlib.Core.Bool.{true, false}
 use mathlib.Core.List.{List, [], _∷_, map}
 use lib.IntN.{pos}
-use lib.Ieee.{Float, nan, fin, binary64, neg, add, sub, mul, div, eq, ofInt, ofBits}
+use lib.Ieee.{Float, nan, fin, binary64, neg, add, sub, mul, div, eq, lt, ofInt, ofBits, units, size as digits}
+use Rattle.numbers.specs.Signs.{±0}
 use Rattle.numbers.specs.Numbers.{smallWhole}
+use Rattle.radicals.specs.Root.{root}
 use Rattle.limits.specs.declared.Refusal.the-variants.{TooManyVariables, NotSupported, NoOutput, TooManyOutputs, InterpreterBug, NeedsMath, NonReal, NotFinite}
 use Rattle.formats.specs.declared.record.Record.{Record}
 use Rattle.formats.specs.declared.record.Kind.{Kind}
@@ -18,7 +20,7 @@ use Rattle.formats.specs.Names.{kindNo, kindOf, modifierNo, primitiveNo, primit
 use Rattle.formats.specs.Bytes.{value, bytes}
 use Rattle.formats.specs.Tree.{Nodes, end, rec, size, height, count, grow, forest, parse, recOf, encodeRec, encode}
 use Rattle.formats.specs.Rules.{fieldsOk, okNodes, shapeOf, verdict}
-use Rattle.running.specs.Primitives.{times, power, leave, apply, act}
+use Rattle.running.specs.Primitives.{times, power, squareRoot, leave, apply, act}
 use Rattle.running.specs.Running.{runs, runNodes, runList}
 use Rattle.running.specs.declared.RunAnswer.{RunAnswer}
 use Rattle.running.specs.declared.RunAnswer.the-variants.{Value, Refused}
@@ -32,6 +34,9 @@ does p = plain kind.Primitive (primitiveNo p) 0 0
 -- a push of the number with these bits
 abbrev push : ℕ → Record
 push b = record { kind = kindNo kind.RealPush; code = 0; args = 0; blank = 0; inside = 0; re = b; im = 0 }
+
+abbrev half-bits : ℕ
+half-bits = 0x3fe0000000000000
 
 abbrev one-bits : ℕ
 one-bits = 0x3ff0000000000000
@@ -74,11 +79,18 @@ cases =
     ∷ record { list = listed (does prim.Dup ∷ []); x = number 1 1; gives = Refused TooManyOutputs 0 }
     ∷ record { list = listed (does prim.Flip ∷ []); x = number 1 1; gives = Refused TooManyVariables 0 }
     ∷ record { list = listed (does prim.Dup ∷ does prim.Sin ∷ []); x = number 1 1; gives = Refused NeedsMath 1 }
+    ∷ record { list = listed (does prim.Sqrt ∷ []); x = number 1 2; gives = Value (number 1 1) 1 1 }
+    ∷ record { list = listed (does prim.Sqrt ∷ []); x = ±0 true; gives = Value (±0 true) 1 1 }
+    ∷ record { list = listed (does prim.Dup ∷ does prim.Sqrt ∷ []); x = neg (number 1 2); gives = Refused NeedsMath 1 }
+    ∷ record { list = listed (does prim.Pop ∷ does prim.Sqrt ∷ []); x = neg (number 1 2); gives = Refused TooManyVariables 1 }
+    ∷ record { list = listed (push half-bits ∷ does prim.Pow ∷ []); x = number 1 2; gives = Refused NeedsMath 1 }
+    ∷ record { list = listed (push three-bits ∷ does prim.Root ∷ []); x = number 1 2; gives = Refused NeedsMath 1 }
     ∷ record { list = listed (does prim.Complex ∷ []); x = number 1 1; gives = Refused NonReal 0 }
     ∷ record { list = listed (push infinity-bits ∷ []); x = number 1 1; gives = Refused NotFinite 0 }
     ∷ record { list = end; x = nan; gives = Refused NotFinite 0 }
     ∷ []
 
 pub examples : map (λ (c : Case). runList (encode (c .list)) (c .x)) cases ≡ map (λ (c : Case). c .gives) cases
-unfolding cases listed runList runNodes runs act apply leave power times smallWhole neg add sub mul div eq ofInt ofBits verdict shapeOf okNodes fieldsOk kindOf primitiveOf height size count parse forest grow recOf value encodeRec encode bytes
+unfolding cases listed runList runNodes runs act apply leave power times squareRoot root smallWhole neg add sub mul div eq lt ofInt ofBits units digits
+    verdict shapeOf okNodes fieldsOk kindOf primitiveOf height size count parse forest grow recOf value encodeRec encode bytes
 examples = refl

@@ -2,25 +2,28 @@
 use Prim.Native.Nat.{ℕ, zero, suc, _+_, _-_, _≤_, _<_, max}
 use native.Mathlib.Omega.{arith}
 use mathlib.Core.Path.{_≡_, refl, ap, subst, _∙_, sym}
-use mathlib.Core.Bool.{Bool, true, false, not}
+use mathlib.Core.Bool.{Bool, true, false, not, true≢false}
 use mathlib.Core.List.{List, [], _∷_}
 use lib.Dec.{leb, eqb, T}
 use lib.ListN.{length, getD, set}
-use lib.Ieee.{Float, nan, binary64, ofBits, nanBits}
-use lib.Ieee.Bits.{nanBits-is}
+use lib.Ieee.{Float, nan, inf, fin, binary64, fits, lt, ofBits, nanBits}
+use lib.Ieee.Bits.{nanBits-is, is-true}
 use lib.Ieee.Scale.{finite}
 use Rattle.numbers.specs.Ops.{_⊗_}
-use Rattle.numbers.specs.Signs.{one64, Zero}
+use Rattle.numbers.specs.Signs.{zero64, one64, Zero}
 use Rattle.numbers.proofs.Zeros.{zero-test}
 use Rattle.numbers.proofs.Small.{small-zero}
 use Rattle.numbers.proofs.Finite.{mul-not-finite-left}
 use Rattle.numbers.specs.Numbers.{smallWhole}
 use Rattle.numbers.specs.declared.SmallWhole.{SmallWhole}
 use Rattle.numbers.specs.declared.SmallWhole.the-variants.{Is, Other}
+use Rattle.radicals.specs.Root.{root}
+use Rattle.radicals.proofs.Laws.{root-finite}
 use Rattle.limits.specs.declared.Refusal.{Refusal}
 use Rattle.numbers.proofs.Bits.{no-nan}
 use Rattle.limits.specs.declared.Refusal.the-variants.{TooManyVariables, NoOutput, TooManyOutputs, NeedsMath, NotFinite}
-use Rattle.running.specs.Primitives.{Act, went, stop, times, powerOf, power, ofOne, ofTwo, leave, apply}
+use Rattle.formats.specs.declared.record.Primitive.the-variants as prim
+use Rattle.running.specs.Primitives.{Act, went, stop, times, powerOf, power, squareRoot, workOf, ofOne, ofTwo, leave, apply}
 use Rattle.running.specs.declared.Left.{Left}
 use Rattle.running.specs.declared.Left.the-variants.{One, Refused}
 use Rattle.running.specs.declared.Work.the-variants.{OfOne, OfTwo, Lacks}
@@ -116,6 +119,26 @@ module _ (b a : Float) where
   unfolding power
   power-more n q h = power-by b (smallWhole a) n q h
 
+-- ---- a square root, by its number
+
+module _ (a : Float) where
+  pub root-below : lt a zero64 ≡ true → squareRoot a ≡ Refused NeedsMath
+  unfolding squareRoot
+  root-below q = rw q
+
+  pub root-else : lt a zero64 ≡ false → squareRoot a ≡ One (root a)
+  unfolding squareRoot
+  root-else q = rw q
+
+not-finite-root : (a : Float) → finite a ≡ false → root a ≡ a
+unfolding root
+not-finite-root nan q = refl
+not-finite-root (inf s) q = refl
+not-finite-root (fin s m e) q = absurd (true≢false q)
+
+pub root-not-finite : (a : Float) → lt a zero64 ≡ false → finite a ≡ false → squareRoot a ≡ One a
+root-not-finite a l q = root-else a l ∙ ap One (not-finite-root a q)
+
 -- ---- a primitive, by what it takes
 
 pub apply-lacks : {q : Refusal} (s : List Float) → apply (Lacks q) s ≡ stop q
@@ -130,3 +153,12 @@ pub apply-two : (o : Pair) (xs : List Float) (n : ℕ) → 1 < n → {l : Left} 
     → apply (OfTwo o) (stackOf xs n) ≡ leave l (stackOf xs (n - 2))
 unfolding apply
 apply-two o xs n h q = rw (q, stack-two xs n h)
+
+-- Sqrt on a finite number: below zero it is 14, and else the root is left, which is finite. It is never 15
+pub sqrt-below : (a : Float) (s : List Float) → lt a zero64 ≡ true → apply (workOf prim.Sqrt) (a ∷ s) ≡ stop NeedsMath
+unfolding apply leave
+sqrt-below a s l = rw (root-below a l)
+
+pub sqrt-leaves : (a : Float) (s : List Float) → T (fits binary64 a) → T (finite a) → lt a zero64 ≡ false → apply (workOf prim.Sqrt) (a ∷ s) ≡ went (root a ∷ s)
+unfolding apply
+sqrt-leaves a s t f l = rw (root-else a l) (leave-one (root a) s (is-true (finite (root a)) (root-finite a t f l .0)))

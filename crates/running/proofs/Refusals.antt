@@ -5,8 +5,9 @@ use mathlib.Core.Bool.{Bool, true, false, _&&_, cond}
 use mathlib.Core.List.{List, [], _∷_}
 use lib.Dec.{T, leb, eqb, leb→le}
 use lib.ListN.{length}
-use lib.Ieee.{Float, binary64, ofBits}
+use lib.Ieee.{Float, binary64, ofBits, lt}
 use lib.Ieee.Scale.{finite}
+use Rattle.numbers.specs.Signs.{zero64}
 use Rattle.numbers.specs.Numbers.{smallWhole}
 use Rattle.numbers.specs.declared.SmallWhole.{SmallWhole}
 use Rattle.numbers.specs.declared.SmallWhole.the-variants.{Is, Other}
@@ -28,13 +29,14 @@ use Rattle.formats.specs.Rules.{judge, shapeOf, verdict}
 use Rattle.formats.specs.Tree.{Nodes, end, rec, size, count, parse, recordsIn}
 use Rattle.formats.proofs.record.Kind as kind-choice
 use Rattle.formats.proofs.record.Primitive as primitive-choice
-use Rattle.running.specs.Primitives.{power, powerOf, workOf, ofOne, ofTwo, Act, went, stop, ifFinite, leave, apply, wayOf, act}
+use Rattle.running.specs.Primitives.{power, powerOf, squareRoot, rootUnless, workOf, ofOne, ofTwo, Act, went, stop, ifFinite, leave, apply, wayOf, act}
 use Rattle.running.specs.Running.{Running, Out, done, refusedAt, andThen, ifRoom, settle, copied, giveBack, modify, stepped, runBy, runs}
 use Rattle.running.specs.Running.{lastOf, ended, start, runNodes, judged, runList, numbersOf}
 use Rattle.running.specs.declared.Left.{Left}
 use Rattle.running.specs.declared.Left.the-variants.{Nothing, One, Two, Three}
 use Rattle.running.specs.declared.Left.the-variants as left
 use Rattle.running.specs.declared.Single.{Single}
+use Rattle.running.specs.declared.Single.the-variants as single
 use Rattle.running.specs.declared.Pair.{Pair}
 use Rattle.running.specs.declared.Pair.the-variants as pair
 use Rattle.running.specs.declared.Work.{Work}
@@ -45,7 +47,6 @@ use Rattle.running.specs.declared.Way.{Way}
 use Rattle.running.specs.declared.Way.the-variants.{Acts, Runs, Modifies}
 use Rattle.running.specs.declared.RunAnswer.{RunAnswer}
 use Rattle.running.specs.declared.RunAnswer.the-variants.{Value, Refused}
-use Rattle.running.proofs.Single as single-choice
 
 -- ---- the test, of whatever may hold a refusal
 
@@ -94,8 +95,22 @@ power-low b a = go (smallWhole a)
     go (Is (suc n)) = tt
     go Other = tt
 
+root-low : (a : Float) → T (lowLeft (squareRoot a))
+unfolding squareRoot
+root-low a = go (lt a zero64)
+  where
+    go : (b : Bool) → T (lowLeft (rootUnless b a))
+    go true = tt
+    go false = tt
+
 one-low : (o : Single) (a : Float) → T (lowLeft (ofOne o a))
-one-low o a = of-all single-choice.parts single-choice.make single-choice.as-values single-choice.eta (λ p. lowLeft (ofOne p a)) tt o
+one-low single.Identity a = tt
+one-low single.Pop a = tt
+one-low single.Dup a = tt
+one-low single.Neg a = tt
+one-low single.Not a = tt
+one-low single.Sqrt a = root-low a
+one-low single.Reciprocal a = tt
 
 two-low : (o : Pair) (a b : Float) → T (lowLeft (ofTwo o a b))
 two-low pair.Flip a b = tt

@@ -2,13 +2,14 @@
 use Prim.Native.Nat.{ℕ, zero, suc}
 use mathlib.Core.Bool.{Bool, true, false}
 use mathlib.Core.List.{List, [], _∷_}
-use lib.Ieee.{Float, binary64, ofBits, neg}
+use lib.Ieee.{Float, binary64, ofBits, lt, neg}
 use lib.Ieee.Scale.{finite}
-use Rattle.numbers.specs.Signs.{one64}
+use Rattle.numbers.specs.Signs.{zero64, one64}
 use Rattle.numbers.specs.Ops.{_⊕_, _⊖_, _⊗_, _⊘_}
 use Rattle.numbers.specs.Numbers.{smallWhole}
 use Rattle.numbers.specs.declared.SmallWhole.{SmallWhole}
 use Rattle.numbers.specs.declared.SmallWhole.the-variants.{Is, Other}
+use Rattle.radicals.specs.Root.{root}
 use Rattle.limits.specs.declared.Refusal.{Refusal}
 use Rattle.limits.specs.declared.Refusal.the-variants.{TooManyVariables, NotSupported, NonScalar, NonReal, NeedsMath, NotFinite}
 use Rattle.formats.specs.declared.record.Record.{Record}
@@ -47,6 +48,17 @@ powerOf b Other = Refused NeedsMath
 unfoldable pub power : Float → Float → Left
 power b a = powerOf b (smallWhole a)
 
+-- ---- square roots
+
+-- whether a is below zero: then it has none
+abbrev pub rootUnless : Bool → Float → Left
+rootUnless true a = Refused NeedsMath
+rootUnless false a = One (root a)
+
+-- -0 isn't below zero
+unfoldable pub squareRoot : Float → Left
+squareRoot a = rootUnless (lt a zero64) a
+
 -- ---- primitives
 
 -- a primitive takes the top number, or the top and the one below it, or is refused with nothing taken
@@ -57,7 +69,7 @@ workOf prim.Dup = OfOne single.Dup
 workOf prim.Flip = OfTwo pair.Flip
 workOf prim.Neg = OfOne single.Neg
 workOf prim.Not = OfOne single.Not
-workOf prim.Sqrt = Lacks NeedsMath
+workOf prim.Sqrt = OfOne single.Sqrt
 workOf prim.Add = OfTwo pair.Add
 workOf prim.Sub = OfTwo pair.Sub
 workOf prim.Mul = OfTwo pair.Mul
@@ -88,6 +100,7 @@ ofOne single.Pop a = Nothing
 ofOne single.Dup a = Two a a
 ofOne single.Neg a = One (neg a)
 ofOne single.Not a = One (one64 ⊖ a)
+ofOne single.Sqrt a = squareRoot a
 ofOne single.Reciprocal a = One (one64 ⊘ a)
 
 -- of a, which was on top, and b below it

@@ -13,7 +13,7 @@ ghost use mathlib.Core.List.{List};
 ghost use Prim.Native.Nat.{_+_, _-_, _≤_, _<_};
 ghost use lib.ListN.{length};
 ghost use lib.Ieee.{Float, binary64, ofBits};
-ghost use Rattle.running.specs.Primitives.{times, power, ofOne, ofTwo, leave, apply, act};
+ghost use Rattle.running.specs.Primitives.{times, power, squareRoot, ofOne, ofTwo, leave, apply, act};
 ghost use Rattle.running.specs.declared.Left.the-variants.{One};
 ghost use Rattle.running.specs.Contract.Views.{stackOf, viewDid, Under};
 
@@ -44,6 +44,19 @@ fn raise(b: f64, a: f64) -> Left
     Left::One(multiplied(b, n))
 }
 
+// The square root of a. Below zero there is none; what isn't finite stays as it is.
+fn square_root(a: f64) -> Left
+    ensures { λ r. ⌜ r ≡ squareRoot a ⌝ }
+{
+    if a < 0.0 {
+        return Left::Refused(Refusal::NeedsMath);
+    }
+    if !numbers::is_finite(a) {
+        return Left::One(a);
+    }
+    Left::One(radicals::sqrt(a))
+}
+
 // What is left of the value a, which was on top.
 fn of_one(o: Single, a: f64) -> Left
     ensures { λ r. ⌜ r ≡ ofOne o a ⌝ }
@@ -54,6 +67,7 @@ fn of_one(o: Single, a: f64) -> Left
         Single::Dup => Left::Two(a, a),
         Single::Neg => Left::One(-a),
         Single::Not => Left::One(1.0 - a),
+        Single::Sqrt => square_root(a),
         Single::Reciprocal => Left::One(1.0 / a),
     }
 }

@@ -28,6 +28,7 @@ pub enum Single {
     Dup,
     Neg,
     Not,
+    Sqrt,
     Reciprocal,
 }
 
@@ -105,7 +106,7 @@ pub fn work_of(p: Primitive) -> Work
         Primitive::Flip => Work::OfTwo(Pair::Flip),
         Primitive::Neg => Work::OfOne(Single::Neg),
         Primitive::Not => Work::OfOne(Single::Not),
-        Primitive::Sqrt => Work::Lacks(Refusal::NeedsMath),
+        Primitive::Sqrt => Work::OfOne(Single::Sqrt),
         Primitive::Add => Work::OfTwo(Pair::Add),
         Primitive::Sub => Work::OfTwo(Pair::Sub),
         Primitive::Mul => Work::OfTwo(Pair::Mul),
