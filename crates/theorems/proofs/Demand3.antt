@@ -1,110 +1,61 @@
--- Demand 3, for every byte list that is read without a complex step, and at which record 15 is given. Assumes nothing.
-use Prim.Native.Nat.{ℕ, _*_, _≤_}
-use native.Mathlib.Omega.{arith}
-use mathlib.Core.Path.{_≡_, ap, subst, _∙_}
-use mathlib.Core.Bool.{Bool, true, false}
+-- Demand 3 for whole powers, and at which record 15 is given: what is proved with √x among the powers, where there is none. Assumes nothing.
+use Prim.Native.Nat.{ℕ}
+use mathlib.Core.Path.{_≡_, refl, ap, _∙_}
+use mathlib.Core.Bool.{Bool, true, false, _&&_}
 use mathlib.Core.List.{List}
-use lib.Dec.{T, leb}
-use lib.Ieee.{Float}
+use mathlib.Core.Option.{Option, none, some}
+use lib.Dec.{T}
+use lib.Ieee.{Float, lt}
 use lib.Ieee.Scale.{finite}
-use lib.ListN.{take}
-use borrow.Author.Tests.{le-leb}
+use Rattle.numbers.specs.Signs.{zero64}
+use Rattle.numbers.proofs.Bools.{and-false}
+use Rattle.limits.specs.declared.Refusal.the-variants.{NotFinite}
 use Rattle.trees.specs.Sums.{Sum}
-use Rattle.terms.specs.Singles.{GoodSum}
-use Rattle.formats.specs.declared.record.Verdict.{Verdict}
-use Rattle.formats.specs.declared.record.Verdict.the-variants as verdicts
-use Rattle.formats.specs.Rules.{verdict}
-use Rattle.formats.specs.Tree.{Nodes, size, encode, parse, recordsIn}
-use Rattle.formats.proofs.record.Codes.{length-encode}
-use Rattle.bodies.specs.Reading.{done, readNodes}
-use Rattle.calculus.proofs.Good.{derive-good}
-use Rattle.drafts.specs.Writing.{wrote}
-use Rattle.running.specs.declared.RunAnswer.the-variants.{Value}
-use Rattle.running.specs.Running.{runNodes, runList}
-use Rattle.answers.specs.declared.Answer.{Answer}
-use Rattle.answers.specs.declared.Answer.the-variants.{Done}
-use Rattle.answers.specs.Making.{Made, ofList, write, deriveAndWrite, Gives}
-use Rattle.answers.proofs.Told.{first-bytes}
-use Rattle.algebra.specs.Reading.{byVerdict, readList}
-use Rattle.algebra.specs.Entries.{derivative}
-use Rattle.theorems.specs.Contract.Reals.{RealSum}
-use Rattle.theorems.specs.Contract.PowerSum.{PowerSum}
-use Rattle.theorems.specs.Value.{Power, value}
-use Rattle.theorems.specs.Records.{records, peakOf}
+use Rattle.running.specs.declared.RunAnswer.the-variants.{Value, Refused}
+use Rattle.running.specs.Running.{runList}
+use Rattle.theorems.specs.Value.{whole, half, Power, TermsOf, nothing, zero-term, term, Terms, RootTerms, value}
+use Rattle.theorems.specs.Records.{records}
 use Rattle.theorems.specs.Demand3.{Formula, Runs, Demand3}
-use Rattle.theorems.specs.Places.{PlaceOf15}
-use Rattle.theorems.proofs.Reading.{sum-good}
-use Rattle.theorems.proofs.Real.Reading.{read-real}
-use Rattle.theorems.proofs.Real.Calculus.{derive-real}
-use Rattle.theorems.proofs.Speed.Listed.{listed}
-use Rattle.theorems.proofs.Speed.Rising.{rising}
-use Rattle.theorems.proofs.Speed.Finite.{value-finite}
-use Rattle.theorems.proofs.Speed.Theorem.{power-sum, gives-finite, refuses-else}
+use Rattle.theorems.specs.Places.{inAll, firstNotFinite, PlaceOf15}
+use Rattle.theorems.specs.Roots.{anyRoot, lacksRoot, RootFormula, RootRuns, RootSpeed}
+use Rattle.theorems.proofs.Roots.{demand-3-roots}
 
--- without a complex step there are no imaginary parts
-by-real : (v : Verdict) (ns : Nodes) {s : Sum} {h : Bool} → byVerdict v (readNodes ns) ≡ done s false h → RealSum s
-by-real verdicts.Good ns e = read-real ns e
-by-real (verdicts.Refused q) ns e = let z : _≡_ {A = ℕ} 0 1 = cc in absurd (omega arith)
-
-list-real : (l : List ℕ) {s : Sum} {h : Bool} → readList l ≡ done s false h → RealSum s
-unfolding readList
-list-real l e = by-real (verdict l) (parse l) e
+-- whole powers are among those allowed, and none is a root
+widen : {s : Sum} {ts : List Power} → Terms s ts → RootTerms s ts × (anyRoot ts ≡ false)
+unfolding anyRoot
+widen nothing = (nothing, refl)
+widen (zero-term z t) = let h = widen t in (zero-term z (h .0), h .1)
+widen (term {k = whole k} z w t) = let h = widen t in (term {k = whole k} z w (h .0), h .1)
+widen (term {k = half} z w t) = absurd w
 
 module _ {l : List ℕ} {ts : List Power} (f : Formula l ts) where
-  -- the derivative is good, and has no imaginary parts either
-  good : GoodSum (f .d)
-  good = derive-good (f .s) (sum-good l (f .read)) (f .derived)
+  speed : RootSpeed l ts
+  speed = demand-3-roots l ts (record { s = f .s; handled = f .handled; read = f .read; d = f .d; derived = f .derived; terms = widen (f .terms) .0 })
 
-  real : RealSum (f .d)
-  real = derive-real (f .s) (list-real l (f .read)) (f .derived)
+  no-root : anyRoot ts ≡ false
+  no-root = widen (f .terms) .1
 
-  -- so it has a list
-  list : (ns : Nodes) × PowerSum (f .d) ts ns
-  list = power-sum 4 (f .d) ts (good .good) real (f .terms)
+  nothing-lacks : (x : Float) → lacksRoot x ts ≡ false
+  nothing-lacks x = rw no-root (and-false (lt x zero64))
 
-  module _ {ns : Nodes} (p : PowerSum (f .d) ts ns) where
-    -- what derivative makes of l
-    made-is : derivative l ≡ ofList (wrote ns)
-    unfolding derivative deriveAndWrite write
-    made-is = rw (f .read) (rw (f .derived) (ap ofList (p .written)))
-
-    module _ {out out′ : List ℕ} {r : Answer} (room : records ts ≤ recordsIn out) (g : Gives recordsIn (derivative l) out out′ r) where
-      fits : leb (size ns) (recordsIn out) ≡ true
-      fits = le-leb (size ns) (recordsIn out) (omega (arith, p .records))
-
-      given : Gives recordsIn (ofList (wrote ns)) out out′ r
-      given = subst (λ (m : Made). Gives recordsIn m out out′ r) made-is g
-
-      answers : r ≡ Done (records ts)
-      answers = (rw fits at (given .answered)) ∙ ap Done (p .records)
-
-      first : take (24 * records ts) out′ ≡ encode ns
-      first =
-          ap (take (24 * records ts)) (rw fits at (given .written))
-          ∙ first-bytes (encode ns) out (24 * records ts) (omega (arith, p .records, length-encode ns)) (omega (arith, p .records))
-
-      -- the bytes that it wrote run as the list does
-      run-is : (x : Float) → T (finite x) → runList (take (24 * records ts) out′) x ≡ runNodes ns x
-      run-is x fx = ap (λ (b : List ℕ). runList b x) first ∙ p .bytes x fx
-
-      runs : Runs (take (24 * records ts) out′) ts
-      runs = record {
-        gives = λ x fx fv. run-is x fx ∙ gives-finite p x fx fv ∙ ap (λ (n : ℕ). Value (value x ts) n (peakOf ts)) (p .records);
-        refuses = λ x fx n. let q = refuses-else p x fx n in (q .0, run-is x fx ∙ q .1);
-      }
+  runs : {b : List ℕ} → RootRuns b ts → Runs b ts
+  runs {b} r = record {
+    gives = λ x fx fv. r .gives x fx (nothing-lacks x) fv ∙ ap (Value (value x ts) (records ts)) (speed .no-less no-root);
+    refuses = λ x fx n. else x fx n (firstNotFinite (inAll x ts)) refl;
+  }
+    where
+      else : (x : Float) → T (finite x) → (T (finite (value x ts)) → ⊥) → (o : Option ℕ) → firstNotFinite (inAll x ts) ≡ o → (at : ℕ) × (runList b x ≡ Refused NotFinite at)
+      else x fx n none e = absurd (n (speed .none-exactly x fx .0 e))
+      else x fx n (some at) e = (at, r .refuses x at fx (nothing-lacks x) e)
 
 pub demand-3 : Demand3
-demand-3 l ts f =
-    let p = list f .1 in
-    record {
-      rises = rising 4 (good f .good) (listed (real f) (f .terms));
-      writes = λ out out′ r room g. (answers f p room g, runs f p room g);
-    }
+demand-3 l ts f = record {
+  rises = speed f .rises;
+  writes = λ out out′ r room g. let w = speed f .writes out out′ r room g in (w .0, runs f (w .1));
+}
 
 pub place-of-15 : PlaceOf15
-place-of-15 l ts f =
-    let p = list f .1 in
-    record {
-      none-exactly = λ x fx. value-finite x fx ts;
-      refuses = λ out out′ r room g x at fx e. run-is f p room g x fx ∙ p .refuses x at fx e;
-    }
+place-of-15 l ts f = record {
+  none-exactly = speed f .none-exactly;
+  refuses = λ out out′ r room g x at fx e. speed f .writes out out′ r room g .1 .refuses x at fx (nothing-lacks f x) e;
+}

@@ -6,6 +6,7 @@ pub mod PowerOverflow
 pub mod Composing
 pub mod Demands
 pub mod Reading
+pub mod Roots
 pub mod Demand3
 pub mod Functions
 pub mod Written

@@ -6,6 +6,7 @@ pub mod Listed
 pub mod Pieces
 pub mod Rising
 pub mod Steps
+pub mod Stops
 pub mod Terms
 pub mod Theorem
 pub mod Whole

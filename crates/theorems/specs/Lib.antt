@@ -5,6 +5,7 @@ pub mod Records
 pub mod Demands
 pub mod Demand3
 pub mod Places
+pub mod Roots
 pub mod Functions
 pub mod Composing
 pub mod Written

@@ -1,20 +1,21 @@
--- How many records document 01 counts for a sum of whole powers, and the peak of their run.
-use Prim.Native.Nat.{ℕ, zero, suc}
-use mathlib.Core.Bool.{Bool, cond}
+-- How many records document 01 counts for a sum of whole powers and of a square root, and the peak of their run.
+use Prim.Native.Nat.{ℕ, zero, suc, _-_}
+use mathlib.Core.Bool.{Bool, false, _&&_, cond}
 use mathlib.Core.List.{List, [], _∷_}
 use lib.ListN.{length}
 use lib.Ieee.{Float, eq}
 use Rattle.numbers.specs.Signs.{one64}
 use Rattle.writer.specs.ToNodes.{Form}
 use Rattle.writer.specs.Count.{Shape, shape, cost, bareX, recordsFor}
-use Rattle.theorems.specs.Value.{Power, power}
+use Rattle.theorems.specs.Value.{Exponent, whole, half, Power, power}
 
--- a whole power is 0, 1, 2 or another
-abbrev pub formOf : ℕ → Form
-formOf zero = Form.constant
-formOf (suc zero) = Form.bare
-formOf (suc (suc zero)) = Form.square
-formOf (suc (suc (suc n))) = Form.power
+-- a power is 0, 0.5, 1, 2 or another
+abbrev pub formOf : Exponent → Form
+formOf (whole zero) = Form.constant
+formOf half = Form.root
+formOf (whole (suc zero)) = Form.bare
+formOf (whole (suc (suc zero))) = Form.square
+formOf (whole (suc (suc (suc n)))) = Form.power
 
 -- each term as it is counted: its form, and whether its coefficient is 1
 unfoldable pub shapes : List Power → List Shape
@@ -26,15 +27,30 @@ abbrev pub records : List Power → ℕ
 records ts = recordsFor (shapes ts)
 
 -- what one term costs
-abbrev pub costOf : ℕ → Float → ℕ
+abbrev pub costOf : Exponent → Float → ℕ
 costOf k c = cost (formOf k) (eq c one64)
 
 -- whether a term is bare x
-abbrev pub isX : ℕ → Float → Bool
+abbrev pub isX : Exponent → Float → Bool
 isX k c = bareX (formOf k) (eq c one64)
 
--- the peak for n terms: n + 1, but 1 for bare x and 2 for none
+-- document 01's peak for n whole powers: n + 1, but 1 for bare x and 2 for none
 unfoldable pub peakOf : List Power → ℕ
 peakOf [] = 2
 peakOf (power k c ∷ []) = cond (isX k c) 1 2
 peakOf (power k c ∷ t ∷ ts) = suc (length (power k c ∷ t ∷ ts))
+
+-- whether a term is bare √x
+abbrev pub isRoot : Exponent → Float → Bool
+isRoot (whole k) c = false
+isRoot half c = eq c one64
+
+-- whether bare √x is the first term, and no other follows it or bare x does
+unfoldable pub rootFirst : List Power → Bool
+rootFirst [] = false
+rootFirst (power k c ∷ []) = isRoot k c
+rootFirst (power k c ∷ power l d ∷ ts) = isRoot k c && isX l d
+
+-- the peak of the run: document 01's, which is n + 1 then, but n in that case, since neither √x nor x takes a number beside it
+abbrev pub exactPeak : List Power → ℕ
+exactPeak ts = peakOf ts - cond (rootFirst ts) 1 0

@@ -1,36 +1,65 @@
--- Sums of whole powers of x, and their value at x, from their terms alone.
-use Prim.Native.Nat.{ℕ, zero, suc, _≤_}
+-- Sums of whole powers of x and of its square root, and their value at x, from their terms alone.
+use Prim.Native.Nat.{ℕ, zero, suc, _*_, _≤_}
 use mathlib.Core.Path.{_≡_}
 use mathlib.Core.Bool.{Bool, true, false}
 use mathlib.Core.List.{List, [], _∷_}
 use lib.Ieee.{Float, eq}
+use Rattle.numbers.specs.Constants.{half64}
 use Rattle.numbers.specs.Signs.{zero64, one64}
 use Rattle.numbers.specs.Ops.{_⊕_, _⊗_}
 use Rattle.numbers.specs.Numbers.{smallWhole}
 use Rattle.numbers.specs.declared.SmallWhole.the-variants.{Is}
+use Rattle.radicals.specs.Root.{root}
 use Rattle.complex.specs.declared.Complex.{Complex}
 use Rattle.complex.specs.Arith as complex
 use Rattle.trees.specs.Kinds as kinds
 use Rattle.trees.specs.Sums.{Sum, and}
 use Rattle.running.specs.Primitives.{times}
 
+-- an exponent: a whole number, or 0.5
+pub data Exponent : Type 0 where
+  whole : ℕ → Exponent
+  half : Exponent
+
 -- c times x to the power k
 pub data Power : Type 0 where
-  power : ℕ → Float → Power
+  power : Exponent → Float → Power
 
--- the terms of the sum that aren't zero are x to whole powers from 0 to 64, and ts lists them with the real parts of their coefficients
-pub data Terms : Sum → List Power → Type 0 where
-  nothing : Terms Sum.none []
+-- p is the exponent k, a whole number from 0 to 64; or 0.5 too. Both are compared as numbers
+abbrev pub IsWhole : Float → Exponent → Type 0
+IsWhole p (whole k) = smallWhole p ≡ Is k
+IsWhole p half = ⊥
+
+abbrev pub IsWholeOrHalf : Float → Exponent → Type 0
+IsWholeOrHalf p (whole k) = smallWhole p ≡ Is k
+IsWholeOrHalf p half = eq p half64 ≡ true
+
+-- the terms of the sum that aren't zero are powers of x that are allowed, and ts lists them with the real parts of their coefficients
+pub data TermsOf (Allowed : Float → Exponent → Type 0) : Sum → List Power → Type 0 where
+  nothing : TermsOf Allowed Sum.none []
   zero-term : {k : ℕ} {p : Float} {j : Sum} {c : Complex} {r : Sum} {ts : List Power}
-      → complex.same c complex.zero ≡ true → Terms r ts → Terms (and k p j c r) ts
-  term : {p : Float} {k : ℕ} {j : Sum} {c : Complex} {r : Sum} {ts : List Power}
-      → complex.same c complex.zero ≡ false → smallWhole p ≡ Is k → Terms r ts
-      → Terms (and kinds.X p j c r) (power k (c .re) ∷ ts)
+      → complex.same c complex.zero ≡ true → TermsOf Allowed r ts → TermsOf Allowed (and k p j c r) ts
+  term : {p : Float} {k : Exponent} {j : Sum} {c : Complex} {r : Sum} {ts : List Power}
+      → complex.same c complex.zero ≡ false → Allowed p k → TermsOf Allowed r ts
+      → TermsOf Allowed (and kinds.X p j c r) (power k (c .re) ∷ ts)
 
--- the powers rise strictly, from lo on
+-- they are whole powers from 0 to 64
+abbrev pub Terms : Sum → List Power → Type 0
+Terms s ts = TermsOf IsWhole s ts
+
+-- they are whole powers from 0 to 64, or the power 0.5
+abbrev pub RootTerms : Sum → List Power → Type 0
+RootTerms s ts = TermsOf IsWholeOrHalf s ts
+
+-- twice an exponent, which is a whole number
+abbrev pub twice : Exponent → ℕ
+twice (whole k) = 2 * k
+twice half = 1
+
+-- the powers rise strictly, and twice the first is lo at least
 abbrev pub Rising : ℕ → List Power → Type 0
 Rising lo [] = Unit {0}
-Rising lo (power k c ∷ ts) = (lo ≤ k) × Rising (suc k) ts
+Rising lo (power k c ∷ ts) = (lo ≤ twice k) × Rising (suc (twice k)) ts
 
 -- ---- the value
 
@@ -38,10 +67,11 @@ abbrev pub timesUnless : Bool → Float → Float → Float
 timesUnless true v c = v
 timesUnless false v c = v ⊗ c
 
--- power 0 is x times 0 plus c; others are the product of x from the left, then times the coefficient unless 1
-unfoldable pub termValue : Float → ℕ → Float → Float
-termValue x zero c = x ⊗ zero64 ⊕ c
-termValue x (suc n) c = timesUnless (eq c one64) (times n x x) c
+-- power 0 is x times 0 plus c; others are the product of x from the left, or the root of x, then times the coefficient unless 1
+unfoldable pub termValue : Float → Exponent → Float → Float
+termValue x (whole zero) c = x ⊗ zero64 ⊕ c
+termValue x (whole (suc n)) c = timesUnless (eq c one64) (times n x x) c
+termValue x half c = timesUnless (eq c one64) (root x) c
 
 unfoldable pub plusTerms : Float → Float → List Power → Float
 plusTerms x r [] = r

@@ -2,7 +2,7 @@
 use Prim.Native.Nat.{ℕ, suc, _+_, _≤_, max}
 use mathlib.Core.Path.{_≡_, refl, sym, ap, _∙_, subst}
 use mathlib.Core.Bool.{cond}
-use mathlib.Core.List.{List, [], _∷_, _++_}
+use mathlib.Core.List.{List, [], _∷_}
 use mathlib.Core.Option.{Option, none}
 use native.Mathlib.Omega.{arith}
 use lib.Dec.{T}
@@ -11,57 +11,45 @@ use lib.Ieee.{Float}
 use lib.Ieee.Scale.{finite}
 use Rattle.numbers.specs.Signs.{zero64}
 use Rattle.numbers.specs.Ops.{_⊕_, _⊗_}
-use Rattle.numbers.specs.Numbers.{smallWhole}
-use Rattle.numbers.specs.declared.SmallWhole.the-variants.{Is}
 use Rattle.trees.specs.Good.{isNumber}
 use Rattle.formats.specs.declared.record.Primitive.the-variants as prim
 use Rattle.formats.specs.Tree.{Nodes, size}
 use Rattle.drafts.specs.Writing.{push, does, append, one, two, wrapped}
 use Rattle.drafts.proofs.Fine.{Fine, fine-more, fine-one, fine-append, fine-say, fine-wrapped, plain-does}
-use Rattle.theorems.specs.Value.{Power, power, termValue}
-use Rattle.theorems.specs.Records.{costOf, isX}
-use Rattle.theorems.specs.Places.{Formed, formed, inTerm, inSum, unlessFinite, firstNotFinite}
-use Rattle.theorems.proofs.Speed.Steps.{or, or-join, bad, restate, identity-out, multiplies}
+use Rattle.theorems.specs.Value.{Exponent, Power, power, IsWholeOrHalf, termValue}
+use Rattle.theorems.specs.Records.{costOf}
+use Rattle.theorems.proofs.Speed.Steps.{Stop, or, or-join, bad, restate, identity-out, multiplies}
 use Rattle.theorems.proofs.Speed.Pieces.{Yields, end-yields, then-yields, join-yields, dup-yields}
-use Rattle.theorems.proofs.Speed.Terms.{piece, piece-yields, piece-fine, zero-number, zero-fine, or-unless, reyield}
+use Rattle.theorems.proofs.Speed.Terms.{piece, light, stopTerm, piece-yields, piece-fine, zero-number, zero-fine, reyield}
 
--- ---- places
+-- ---- what refuses a list
 
-pub first-append : (fs gs : List Formed) → firstNotFinite (fs ++ gs) ≡ or (firstNotFinite fs) (firstNotFinite gs)
-unfolding firstNotFinite
-first-append [] gs = refl
-first-append (formed at v ∷ fs) gs =
-    ap (unlessFinite (finite v) at) (first-append fs gs) ∙ sym (or-unless (finite v) at (firstNotFinite fs) (firstNotFinite gs))
-
--- a term, its Add, and what follows
-pub in-sum : (at : ℕ) (x r : Float) (k : ℕ) (c : Float) (ts : List Power)
-    → firstNotFinite (inSum at x r (power k c ∷ ts))
-    ≡ or (firstNotFinite (inTerm at x k c)) (or (bad (r ⊕ termValue x k c) (at + costOf k c)) (firstNotFinite (inSum (at + costOf k c + 1) x (r ⊕ termValue x k c) ts)))
-unfolding inSum firstNotFinite
-in-sum at x r k c ts =
-    first-append (inTerm at x k c) _
-    ∙ ap (or (firstNotFinite (inTerm at x k c))) (sym (or-unless (finite (r ⊕ termValue x k c)) (at + costOf k c) none (firstNotFinite (inSum (at + costOf k c + 1) x (r ⊕ termValue x k c) ts))))
+-- each term and its Add, from a place on, to the sum so far
+unfoldable pub stopSum : ℕ → Float → Float → List Power → Option Stop
+stopSum at x r [] = none
+stopSum at x r (power k c ∷ ts) =
+    or (stopTerm at x k c) (or (bad (r ⊕ termValue x k c) (at + costOf k c)) (stopSum (at + costOf k c + 1) x (r ⊕ termValue x k c) ts))
 
 -- the same places, counted in two ways
-pub same-places : (x r : Float) (k : ℕ) (c : Float) (ts : List Power) {o o′ : Option ℕ} {a b d e : ℕ} → o ≡ o′ → b ≡ a → d ≡ a + costOf k c → e ≡ a + costOf k c + 1
-    → or (or (or o (firstNotFinite (inTerm b x k c))) (bad (r ⊕ termValue x k c) d)) (firstNotFinite (inSum e x (r ⊕ termValue x k c) ts)) ≡ or o′ (firstNotFinite (inSum a x r (power k c ∷ ts)))
+pub same-places : (x r : Float) (k : Exponent) (c : Float) (ts : List Power) {o o′ : Option Stop} {a b d e : ℕ} → o ≡ o′ → b ≡ a → d ≡ a + costOf k c → e ≡ a + costOf k c + 1
+    → or (or (or o (stopTerm b x k c)) (bad (r ⊕ termValue x k c) d)) (stopSum e x (r ⊕ termValue x k c) ts) ≡ or o′ (stopSum a x r (power k c ∷ ts))
+unfolding stopSum
 same-places x r k c ts {o′ = o} {a} eo eb ed ee =
-    let t : ℕ → Option ℕ = λ n. firstNotFinite (inTerm n x k c) in
+    let t : ℕ → Option Stop = λ n. stopTerm n x k c in
     let v : Float = r ⊕ termValue x k c in
-    let w : ℕ → Option ℕ = λ n. firstNotFinite (inSum n x v ts) in
+    let w : ℕ → Option Stop = λ n. stopSum n x v ts in
     (λ i. or (or (or (eo i) (t (eb i))) (bad v (ed i))) (w (ee i)))
     ∙ or-join (or o (t a)) (bad v (a + costOf k c)) (w (a + costOf k c + 1))
     ∙ or-join o (t a) (or (bad v (a + costOf k c)) (w (a + costOf k c + 1)))
-    ∙ ap (or o) (sym (in-sum a x r k c ts))
 
 -- ---- lists
 
--- the list has at most n records and d levels, and leaves r of x, with a peak of q where x counts as 1, or 15 at a place that b gives
-pub record Built (N : Nodes) (n d : ℕ) (r : Float → Float) (q : ℕ) (b : Float → ℕ → Option ℕ) : Type 0 where
+-- the list has at most n records and d levels, and leaves r of x, with a peak of q where x counts as 1, or is refused as b says
+pub record Built (N : Nodes) (n d : ℕ) (r : Float → Float) (q : ℕ) (b : Float → ℕ → Option Stop) : Type 0 where
   pub fine : Fine n d N
   pub yields : (x : Float) → T (finite x) → Yields N x (r x) q (b x)
 
-pub rebuild : {N : Nodes} {n d : ℕ} {r : Float → Float} {q : ℕ} {b : Float → ℕ → Option ℕ} (m e p : ℕ) (c : Float → ℕ → Option ℕ) → n ≤ m → d ≤ e → q ≡ p → ((x : Float) (at : ℕ) → b x at ≡ c x at)
+pub rebuild : {N : Nodes} {n d : ℕ} {r : Float → Float} {q : ℕ} {b : Float → ℕ → Option Stop} (m e p : ℕ) (c : Float → ℕ → Option Stop) → n ≤ m → d ≤ e → q ≡ p → ((x : Float) (at : ℕ) → b x at ≡ c x at)
     → Built N n d r q b → Built N m e r p c
 rebuild {N} {r = r} {b = b} m e p c few deep same places g = record {
   fine = fine-more m e (g .fine) few deep;
@@ -83,20 +71,20 @@ built-x = record {
   };
 }
 
-pub built-term : (p c : Float) (k : ℕ) → T (isNumber p) → T (isNumber c) → smallWhole p ≡ Is k
-    → Built (piece p k c) 4 1 (λ x. termValue x k c) (cond (isX k c) 1 2) (λ x at. firstNotFinite (inTerm at x k c))
+pub built-term : (p c : Float) (k : Exponent) → T (isNumber p) → T (isNumber c) → IsWholeOrHalf p k
+    → Built (piece p k c) 4 1 (λ x. termValue x k c) (cond (light k c) 1 2) (λ x at. stopTerm at x k c)
 built-term p c k fp fc w = record { fine = piece-fine p c k fp fc; yields = λ x fx. piece-yields c fc x p k fp w }
 
-module _ {P : Nodes} {t : Float → Float} {q : ℕ} {e : Float → ℕ → Option ℕ} (f : Built P 4 1 t q e) where
+module _ {P : Nodes} {t : Float → Float} {q : ℕ} {e : Float → ℕ → Option Stop} (f : Built P 4 1 t q e) where
   -- the term P after what came before, and its Add
-  pub built-join : {N : Nodes} {n d : ℕ} {r : Float → Float} {k : ℕ} {b : Float → ℕ → Option ℕ} → n ≤ 2048 → 1 ≤ k → 1 ≤ q → q ≤ 2 → Built N n d r (suc k) b
-      → Built (append (append (wrapped N) P) (one (does prim.Add))) (n + 7) (d + 2) (λ x. r x ⊕ t x) (suc (suc k))
+  pub built-join : {N : Nodes} {n d : ℕ} {r : Float → Float} {k : ℕ} {b : Float → ℕ → Option Stop} → n ≤ 2048 → 1 ≤ k → 1 ≤ q → Built N n d r k b
+      → Built (append (append (wrapped N) P) (one (does prim.Add))) (n + 7) (d + 2) (λ x. r x ⊕ t x) (suc (max k q))
       (λ x at. or (or (b x (at + 2)) (e x (at + (size N + 2)))) (bad (r x ⊕ t x) (at + (size N + 2) + size P)))
-  built-join {N} {n} {d} few K low high g = record {
+  built-join {N} {n} {d} few K low g = record {
     fine = fine-more (n + 7) (d + 2)
         (fine-say (append (wrapped N) P) (does prim.Add)
         (fine-append (wrapped N) P (fine-wrapped N (omega arith) (g .fine)) (fine-more 4 (d + 2) (f .fine) (omega arith) (omega arith))) (omega arith) (plain-does prim.Add)) (omega arith) (omega arith);
-    yields = λ x fx. join-yields K low high (g .yields x fx) (f .yields x fx);
+    yields = λ x fx. join-yields K low (g .yields x fx) (f .yields x fx);
   }
 
   -- the same where only x came before

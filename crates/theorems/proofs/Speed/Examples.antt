@@ -12,7 +12,7 @@ use Rattle.numbers.specs.Numbers.{smallWhole, belowEpsilon}
 use Rattle.complex.specs.Arith as complex
 use Rattle.limits.specs.declared.Refusal.the-variants.{NotFinite}
 use Rattle.trees.specs.Kinds as kinds
-use Rattle.trees.specs.Sums.{Sum, and, len}
+use Rattle.trees.specs.Sums.{Sum, and, size as entries, len}
 use Rattle.trees.specs.Order.{cmpEach}
 use Rattle.trees.specs.Good.{Good}
 use Rattle.formats.specs.Names.{kindOf, primitiveOf}
@@ -25,8 +25,8 @@ use Rattle.running.specs.declared.RunAnswer.{RunAnswer}
 use Rattle.running.specs.declared.RunAnswer.the-variants.{Value, Refused}
 use Rattle.running.specs.Primitives.{times, power, leave, apply, act}
 use Rattle.running.specs.Running.{runs, runNodes}
-use Rattle.theorems.specs.Value.{Power, Terms, nothing, term, termValue, plusTerms, value}
-use Rattle.theorems.specs.Records.{shapes, peakOf}
+use Rattle.theorems.specs.Value.{Power, RootTerms, nothing, term, termValue, plusTerms, value}
+use Rattle.theorems.specs.Records.{shapes, peakOf, rootFirst, exactPeak}
 use Rattle.theorems.specs.Places.{inTerm, inSum, inAll, firstNotFinite}
 use Rattle.theorems.specs.Contract.PowerSum.{PowerSum}
 use Rattle.theorems.specs.Value as value
@@ -48,10 +48,10 @@ abbrev sum : Sum
 sum = x-to zero64 one64 (x-to two64 three64 Sum.none)
 
 abbrev terms : List Power
-terms = value.power 0 one64 ∷ value.power 2 three64 ∷ []
+terms = value.power (value.whole 0) one64 ∷ value.power (value.whole 2) three64 ∷ []
 
 -- its terms
-listed : Terms sum terms
+listed : RootTerms sum terms
 unfolding ofBits eq smallWhole
 listed = term refl refl (term refl refl nothing)
 
@@ -71,11 +71,12 @@ good = (
 
 -- so the theorem speaks of it
 pub written : (ns : Nodes) × PowerSum sum terms ns
-written = power-sum 1 sum terms good real listed
+unfolding entries
+written = power-sum 1 sum terms good (lit≤ tt) real listed
 
 -- at 2: 13, 11 steps, peak 3
-promised : (value two64 terms ≡ fin false 13 (pos 0)) × (recordsFor (shapes terms) ≡ 11) × (peakOf terms ≡ 3) × (firstNotFinite (inAll two64 terms) ≡ none)
-unfolding ofBits eq add mul times termValue plusTerms value shapes cost costs recordsFor peakOf inTerm inSum inAll firstNotFinite
+promised : (value two64 terms ≡ fin false 13 (pos 0)) × (recordsFor (shapes terms) ≡ 11) × (exactPeak terms ≡ 3) × (firstNotFinite (inAll two64 terms) ≡ none)
+unfolding ofBits eq add mul times termValue plusTerms value shapes cost costs recordsFor peakOf rootFirst inTerm inSum inAll firstNotFinite
 promised = (refl, refl, refl, refl)
 
 -- and as it runs; then 3x², x, and 0 times x

@@ -2,7 +2,7 @@
 use Prim.Native.Nat.{ℕ, zero, suc, _+_, _-_, _*_}
 use mathlib.Core.Path.{_≡_, refl, sym, ap, ap₂, _∙_, subst}
 use mathlib.Core.Bool.{Bool, true, false, _&&_, cond}
-use mathlib.Core.List.{List, [], _∷_}
+use mathlib.Core.List.{List, [], _∷_, _++_}
 use mathlib.Core.Logic.{_↔_}
 use mathlib.Core.Option.{Option, none, some}
 use lib.Dec.{T}
@@ -15,23 +15,16 @@ use Rattle.numbers.specs.Signs.{zero64, one64}
 use Rattle.numbers.specs.Ops.{_⊕_, _⊗_}
 use Rattle.numbers.proofs.Bools.{bool-ext, and-true, T-of}
 use Rattle.numbers.proofs.Finite.{add-finite, mul-finite}
+use Rattle.radicals.specs.Root.{root}
 use Rattle.running.specs.Primitives.{times}
-use Rattle.theorems.specs.Value.{Power, power, termValue, timesUnless, plusTerms, value}
+use Rattle.theorems.specs.Value.{Exponent, whole, half, Power, power, termValue, timesUnless, plusTerms, value}
 use Rattle.theorems.specs.Records.{costOf, isX}
-use Rattle.theorems.specs.Places.{formedUnless, inTerm, inSum, inAll, unlessFinite, firstNotFinite}
-use Rattle.theorems.proofs.Speed.Steps.{or, bad}
-use Rattle.theorems.proofs.Speed.Building.{in-sum}
-use Rattle.theorems.proofs.Speed.Whole.{in-all}
+use Rattle.theorems.specs.Places.{Formed, formed, formedUnless, inTerm, inSum, inAll, unlessFinite, firstNotFinite}
 
 -- no place
 isNone : Option ℕ → Bool
 isNone none = true
 isNone (some at) = false
-
-none-or : (a b : Option ℕ) → isNone (or a b) ≡ isNone a && isNone b
-unfolding isNone
-none-or none b = refl
-none-or (some at) b = refl
 
 none-unless : (b : Bool) (at : ℕ) (o : Option ℕ) → isNone (unlessFinite b at o) ≡ b && isNone o
 unfolding isNone
@@ -42,6 +35,16 @@ none-bad : (b : Bool) (at : ℕ) → isNone (unlessFinite b at none) ≡ b
 unfolding isNone
 none-bad true at = refl
 none-bad false at = refl
+
+-- no place in either of two lists
+none-append : (fs gs : List Formed) → isNone (firstNotFinite (fs ++ gs)) ≡ isNone (firstNotFinite fs) && isNone (firstNotFinite gs)
+unfolding isNone firstNotFinite
+none-append [] gs = refl
+none-append (formed at v ∷ fs) gs = go (finite v) (firstNotFinite (fs ++ gs)) (firstNotFinite fs) (isNone (firstNotFinite gs)) (none-append fs gs)
+  where
+    go : (b : Bool) (o p : Option ℕ) (q : Bool) → isNone o ≡ isNone p && q → isNone (unlessFinite b at o) ≡ isNone (unlessFinite b at p) && q
+    go true o p q e = e
+    go false o p q e = refl
 
 -- ---- a sum or a product is finite only where what it is formed of is
 
@@ -72,15 +75,17 @@ module _ (x : Float) (fx : T (finite x)) where
   after-product true at v c = and-true (finite v)
   after-product false at v c = ap (λ (t : Bool). finite v && t) (none-bad (finite (v ⊗ c)) at) ∙ mul-left v c
 
-  term-finite : (at k : ℕ) (c : Float) → isNone (firstNotFinite (inTerm at x k c)) ≡ finite (termValue x k c)
+  term-finite : (at : ℕ) (k : Exponent) (c : Float) → isNone (firstNotFinite (inTerm at x k c)) ≡ finite (termValue x k c)
   unfolding isNone firstNotFinite inTerm termValue times
-  term-finite at zero c =
-      none-unless (finite (x ⊗ zero64)) (at + 1) (bad (x ⊗ zero64 ⊕ c) (at + 3))
+  term-finite at (whole zero) c =
+      none-unless (finite (x ⊗ zero64)) (at + 1) (unlessFinite (finite (x ⊗ zero64 ⊕ c)) (at + 3) none)
       ∙ ap (λ (t : Bool). finite (x ⊗ zero64) && t) (none-bad (finite (x ⊗ zero64 ⊕ c)) (at + 3))
       ∙ add-left (x ⊗ zero64) c
-  term-finite at (suc zero) c =
+  term-finite at half c =
+      none-unless (finite (root x)) at (firstNotFinite (formedUnless (eq c one64) (at + 2) (root x ⊗ c))) ∙ after-product (eq c one64) (at + 2) (root x) c
+  term-finite at (whole (suc zero)) c =
       ap (λ (t : Bool). t && isNone (firstNotFinite (formedUnless (eq c one64) (at + 1) (x ⊗ c)))) (sym (is-true (finite x) fx)) ∙ after-product (eq c one64) (at + 1) x c
-  term-finite at (suc (suc n)) c =
+  term-finite at (whole (suc (suc n))) c =
       none-unless (finite (times (suc n) x x)) (at + 1) (firstNotFinite (formedUnless (eq c one64) (at + 3) (times (suc n) x x ⊗ c)))
       ∙ after-product (eq c one64) (at + 3) (times (suc n) x x) c
 
@@ -89,11 +94,10 @@ module _ (x : Float) (fx : T (finite x)) where
   sum-finite at r [] = and-true (finite r)
   sum-finite at r (power k c ∷ ts) =
       let v = r ⊕ termValue x k c in
-      let rest = firstNotFinite (inSum (at + costOf k c + 1) x v ts) in
-      ap (λ (o : Option ℕ). finite r && isNone o) (in-sum at x r k c ts)
-      ∙ ap (λ (t : Bool). finite r && t) (none-or (firstNotFinite (inTerm at x k c)) (or (bad v (at + costOf k c)) rest)
-      ∙ ap₂ _&&_ (term-finite at k c) (none-or (bad v (at + costOf k c)) rest ∙ ap (λ (t : Bool). t && isNone rest) (none-bad (finite v) (at + costOf k c))))
-      ∙ add-both r (termValue x k c) (isNone rest)
+      let later = inSum (at + costOf k c + 1) x v ts in
+      ap (λ (t : Bool). finite r && t) (none-append (inTerm at x k c) (formed (at + costOf k c) v ∷ later)
+      ∙ ap₂ _&&_ (term-finite at k c) (none-unless (finite v) (at + costOf k c) (firstNotFinite later)))
+      ∙ add-both r (termValue x k c) (isNone (firstNotFinite later))
       ∙ sum-finite (at + costOf k c + 1) v ts
 
   all-finite : (ts : List Power) → isNone (firstNotFinite (inAll x ts)) ≡ finite (value x ts)
@@ -101,8 +105,7 @@ module _ (x : Float) (fx : T (finite x)) where
   all-finite [] = none-bad (finite (x ⊗ zero64)) 1
   all-finite (power k c ∷ ts) =
       let a = 2 * length ts - cond (isX k c) 1 0 in
-      ap isNone (sym (in-all x k c ts refl refl))
-      ∙ none-or (firstNotFinite (inTerm a x k c)) (firstNotFinite (inSum (a + costOf k c) x (termValue x k c) ts))
+      none-append (inTerm a x k c) (inSum (a + costOf k c) x (termValue x k c) ts)
       ∙ ap (λ (t : Bool). t && isNone (firstNotFinite (inSum (a + costOf k c) x (termValue x k c) ts))) (term-finite a k c)
       ∙ sum-finite (a + costOf k c) (termValue x k c) ts
 

@@ -4,8 +4,6 @@ use mathlib.Core.Path.{_≡_}
 use mathlib.Core.Bool.{true, false}
 use mathlib.Core.List.{List, [], _∷_}
 use lib.Ieee.{Float}
-use Rattle.numbers.specs.Numbers.{smallWhole}
-use Rattle.numbers.specs.declared.SmallWhole.the-variants.{Is}
 use Rattle.complex.specs.declared.Complex.{Complex}
 use Rattle.complex.specs.Arith as complex
 use Rattle.complex.specs.Contract.Real.{Real}
@@ -13,18 +11,18 @@ use Rattle.trees.specs.Kinds as kinds
 use Rattle.trees.specs.Sums.{Sum, and}
 use Rattle.theorems.specs.Contract.Reals.{RealSum}
 use Rattle.theorems.specs.Value as value
-use Rattle.theorems.specs.Value.{Power, power, Terms}
+use Rattle.theorems.specs.Value.{Exponent, Power, power, IsWholeOrHalf, RootTerms}
 
--- as Terms, and each coefficient that is listed is real
+-- as RootTerms, and each coefficient that is listed is real
 pub data Listed : Sum → List Power → Type 0 where
   nothing : Listed Sum.none []
   zero-term : {k : ℕ} {p : Float} {j : Sum} {c : Complex} {r : Sum} {ts : List Power}
       → complex.same c complex.zero ≡ true → Listed r ts → Listed (and k p j c r) ts
-  term : {p : Float} {k : ℕ} {j : Sum} {c : Complex} {r : Sum} {ts : List Power}
-      → complex.same c complex.zero ≡ false → Real c → smallWhole p ≡ Is k → Listed r ts
+  term : {p : Float} {k : Exponent} {j : Sum} {c : Complex} {r : Sum} {ts : List Power}
+      → complex.same c complex.zero ≡ false → Real c → IsWholeOrHalf p k → Listed r ts
       → Listed (and kinds.X p j c r) (power k (c .re) ∷ ts)
 
-pub listed : {s : Sum} {ts : List Power} → RealSum s → Terms s ts → Listed s ts
+pub listed : {s : Sum} {ts : List Power} → RealSum s → RootTerms s ts → Listed s ts
 unfolding RealSum
 listed r value.nothing = nothing
 listed r (value.zero-term z t) = zero-term z (listed (r .2) t)

@@ -7,8 +7,10 @@ use native.Mathlib.Omega.{arith}
 use borrow.Author.Tests.{le-leb}
 use lib.Dec.{T}
 use lib.ListN.{length}
-use lib.Ieee.{Float}
+use lib.Ieee.{Float, lt}
+use Rattle.numbers.specs.Signs.{zero64}
 use Rattle.numbers.specs.Ops.{_⊕_, _⊗_}
+use Rattle.radicals.specs.Root.{root}
 use Rattle.trees.specs.Good.{isNumber}
 use Rattle.formats.specs.declared.record.Record.{Record}
 use Rattle.formats.specs.declared.record.Primitive.the-variants as prim
@@ -17,11 +19,11 @@ use Rattle.formats.specs.Tree.{Nodes, end, size, count}
 use Rattle.drafts.specs.Writing.{push, does, append, one, two, wrapped}
 use Rattle.drafts.proofs.Laws.{size-append, size-one, size-wrapped}
 use Rattle.running.specs.Running.{runs}
-use Rattle.theorems.proofs.Speed.Steps.{state, out, or, bad, restate, both, then-done, push-out, dup-out, Forms, adds, multiplies}
+use Rattle.theorems.proofs.Speed.Steps.{Stop, state, out, or, bad, unlessBelow, restate, both, then-done, push-out, dup-out, sqrt-out, Forms, adds, multiplies}
 
 -- The list, run where x is on top, leaves r in its place, in as many steps as it has records, with a peak of q where x counts as 1;
--- or it is refused with 15, at the place that b gives for the place of its first record.
-pub record Yields (N : Nodes) (x r : Float) (q : ℕ) (b : ℕ → Option ℕ) : Type 0 where
+-- or it is refused, as b says for the place of its first record.
+pub record Yields (N : Nodes) (x r : Float) (q : ℕ) (b : ℕ → Option Stop) : Type 0 where
   pub run : (s : List Float) (at h n p : ℕ) → q + (length s + h) ≤ 256 → 1 + (length s + h) ≤ p
       → runs N at h (state (x ∷ s) n p) ≡ out (b at) (state (r ∷ s) (n + size N) (max p (q + (length s + h))))
 
@@ -33,7 +35,7 @@ unfolding runs size
 end-yields x = record { run = λ s at h n p b i. restate none (x ∷ s) (omega arith) (omega arith) refl }
 
 -- a number pushed, and a record that forms a value of it
-pub then-yields : {A : Nodes} {x r t v : Float} {q : ℕ} {b : ℕ → Option ℕ} (op : Record) → 1 ≤ q → q ≤ 2 → Yields A x r q b → T (isNumber t) → Forms op r t v
+pub then-yields : {A : Nodes} {x r t v : Float} {q : ℕ} {b : ℕ → Option Stop} (op : Record) → 1 ≤ q → q ≤ 2 → Yields A x r q b → T (isNumber t) → Forms op r t v
     → Yields (append A (two (push t) op)) x v 2 (λ at. or (b at) (bad v (at + size A + 1)))
 unfolding size append
 then-yields {A} {x} {r} {t} {v} {q} {b} op low high g k f = record {
@@ -60,10 +62,18 @@ square-yields x = record {
       (multiplies x x .run s (at + 1) h (n + 1) p₁ (omega arith)));
 }
 
+-- Sqrt
+pub root-yields : (x : Float) → Yields (one (does prim.Sqrt)) x (root x) 1 (λ at. unlessBelow (lt x zero64) at (bad (root x) at))
+unfolding size
+root-yields x = record {
+  run = λ s at h n p room i.
+      restate (unlessBelow (lt x zero64) at (bad (root x) at)) (root x ∷ s) {n = n + 1} {p = max p (suc (length s) + h)} (omega arith) (omega arith) (sqrt-out x s at h n p (omega arith));
+}
+
 -- ---- a term after the terms so far
 
 -- everything so far in the body of an On: its value goes below x
-on-out : {N : Nodes} {x r : Float} {q : ℕ} {b : ℕ → Option ℕ} → 1 ≤ q → Yields N x r q b → (s : List Float) (at h n p : ℕ) → suc q + (length s + h) ≤ 256 → 1 + (length s + h) ≤ p
+on-out : {N : Nodes} {x r : Float} {q : ℕ} {b : ℕ → Option Stop} → 1 ≤ q → Yields N x r q b → (s : List Float) (at h n p : ℕ) → suc q + (length s + h) ≤ 256 → 1 + (length s + h) ≤ p
     → runs (wrapped N) at h (state (x ∷ s) n p) ≡ out (b (at + 2)) (state (x ∷ r ∷ s) (n + (size N + 2)) (max p (suc q + (length s + h))))
 unfolding runs kindOf count
 on-out {N} {x} {r} {q} {b} low g s at h n p room i =
@@ -79,12 +89,12 @@ on-out {N} {x} {r} {q} {b} low g s at h n p room i =
     (g .run s (at + 1 + 1) (h + 1) (n + 1 + 1) p₁ (omega arith) (omega arith)) refl) refl) refl)))
 
 -- a term P, and its Add
-pub join-yields : {N P : Nodes} {x r t : Float} {k q : ℕ} {b d : ℕ → Option ℕ} → 1 ≤ k → 1 ≤ q → q ≤ 2 → Yields N x r (suc k) b → Yields P x t q d
-    → Yields (append (append (wrapped N) P) (one (does prim.Add))) x (r ⊕ t) (suc (suc k))
+pub join-yields : {N P : Nodes} {x r t : Float} {k q : ℕ} {b d : ℕ → Option Stop} → 1 ≤ k → 1 ≤ q → Yields N x r k b → Yields P x t q d
+    → Yields (append (append (wrapped N) P) (one (does prim.Add))) x (r ⊕ t) (suc (max k q))
     (λ at. or (or (b (at + 2)) (d (at + (size N + 2)))) (bad (r ⊕ t) (at + (size N + 2) + size P)))
-join-yields {N} {P} {x} {r} {t} {k} {q} {b} {d} K low high g f = record {
+join-yields {N} {P} {x} {r} {t} {k} {q} {b} {d} K low g f = record {
   run = λ s at h n p room i.
-      let p₁ = max p (suc (suc k) + (length s + h)) in
+      let p₁ = max p (suc k + (length s + h)) in
       let p₂ = max p₁ (q + (suc (length s) + h)) in
       let n₁ = n + (size N + 2) in
       let a₁ = b (at + 2) in
@@ -96,7 +106,7 @@ join-yields {N} {P} {x} {r} {t} {k} {q} {b} {d} K low high g f = record {
       (omega (arith, size-wrapped N, size-append (wrapped N) P, size-append (append (wrapped N) P) (one (does prim.Add)), size-one (does prim.Add))) (omega arith)
       (both (append (wrapped N) P) (one (does prim.Add)) at h (or a₁ a₂) a₃ (state (x ∷ s) n p) (state (t ∷ r ∷ s) (n₁ + size P) p₂) (state ((r ⊕ t) ∷ s) (n₁ + size P + 1) (max p₂ (suc (length s) + h)))
       (both (wrapped N) P at h a₁ a₂ (state (x ∷ s) n p) (state (x ∷ r ∷ s) n₁ p₁) (state (t ∷ r ∷ s) (n₁ + size P) p₂)
-      (on-out (omega arith) g s at h n p room i)
+      (on-out K g s at h n p (omega arith) i)
       (subst (λ (m : ℕ). runs P m h (state (x ∷ r ∷ s) n₁ p₁) ≡ out a₂ (state (t ∷ r ∷ s) (n₁ + size P) p₂)) e₁
       (f .run (r ∷ s) (at + (size N + 2)) h n₁ p₁ (omega arith) (omega arith))))
       (subst (λ (m : ℕ). runs (one (does prim.Add)) m h (state (t ∷ r ∷ s) (n₁ + size P) p₂) ≡ out a₃ (state ((r ⊕ t) ∷ s) (n₁ + size P + 1) (max p₂ (suc (length s) + h)))) e₂
@@ -104,7 +114,7 @@ join-yields {N} {P} {x} {r} {t} {k} {q} {b} {d} K low high g f = record {
 }
 
 -- where only x came before
-pub dup-yields : {P : Nodes} {x t : Float} {d : ℕ → Option ℕ} → Yields P x t 2 d
+pub dup-yields : {P : Nodes} {x t : Float} {d : ℕ → Option Stop} → Yields P x t 2 d
     → Yields (append (append (one (does prim.Dup)) P) (one (does prim.Add))) x (x ⊕ t) 3 (λ at. or (d (at + 1)) (bad (x ⊕ t) (at + 1 + size P)))
 unfolding size
 dup-yields {P} {x} {t} {d} f = record {

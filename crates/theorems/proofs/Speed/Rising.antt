@@ -1,19 +1,22 @@
--- The powers of a good sum rise strictly, so there are at most 65 of them. Assumes nothing.
-use Prim.Native.Nat.{ℕ, suc, _+_, _-_, _≤_, _<_}
+-- The powers of a good sum rise strictly, and there are no more of them than entries. Assumes nothing.
+use Prim.Native.Nat.{ℕ, suc, _+_, _-_, _*_, _≤_, _<_}
 use mathlib.Core.Path.{_≡_, refl, sym, _∙_}
-use mathlib.Core.Bool.{true}
+use mathlib.Core.Bool.{true, true≢false}
 use mathlib.Core.List.{List}
 use native.Mathlib.Omega.{arith}
-use lib.Dec.{ltb→lt}
+use lib.Dec.{T, ltb→lt}
 use lib.ListN.{length}
-use lib.Ieee.{Float}
+use lib.Ieee.{Float, eq, lt, ofBits}
+use lib.Ieee.Scale.{finite}
+use Rattle.numbers.specs.Constants.{half64}
+use Rattle.numbers.specs.Signs.{zero64, one64}
 use Rattle.numbers.specs.Numbers.{smallWhole}
 use Rattle.numbers.specs.Order.{cmpNum, andThen}
 use Rattle.numbers.specs.declared.Ordering.the-variants.{Less, Equal}
 use Rattle.numbers.specs.declared.SmallWhole.the-variants.{Is}
 use Rattle.numbers.proofs.Bools.{T-of}
-use Rattle.numbers.proofs.Order.{cmp-less, then-equal}
-use Rattle.numbers.proofs.Wholes.{means-lt, small-whole}
+use Rattle.numbers.proofs.Order.{cmp-less, then-equal, lt-irreflexive, lt-transitive, lt-eq-left, lt-eq-right}
+use Rattle.numbers.proofs.Wholes.{means-lt, means-1, small-whole}
 use Rattle.complex.specs.declared.Complex.{Complex}
 use Rattle.complex.specs.Arith as complex
 use Rattle.trees.specs.Kinds as kinds
@@ -22,21 +25,47 @@ use Rattle.trees.specs.Good.{isEmpty, Before, Good}
 use Rattle.trees.specs.Order.{cmpEach, cmpTerm}
 use Rattle.trees.proofs.Order.{Key, good-key, term-chain}
 use Rattle.sums.proofs.Walk.{GoodFirst, good-and}
-use Rattle.theorems.specs.Value.{Power, Rising}
+use Rattle.theorems.specs.Value.{Exponent, whole, half, Power, IsWholeOrHalf, twice, Rising}
+use Rattle.theorems.proofs.Speed.Terms.{means-0, half-finite}
+use Rattle.theorems.proofs.Speed.Steps.{number-finite}
 use Rattle.theorems.proofs.Speed.Listed.{Listed, nothing, zero-term, term}
 
 is-none : (i : Sum) → isEmpty i ≡ true → i ≡ none
 is-none none e = refl
 is-none (and k p j c r) e = let z : _≡_ {A = ℕ} 0 1 = cc in absurd (omega arith)
 
+-- a half lies between 0 and 1
+half-above : lt zero64 half64 ≡ true
+unfolding lt ofBits
+half-above = refl
+
+half-below : lt half64 one64 ≡ true
+unfolding lt ofBits
+half-below = refl
+
+-- exponents are in the order of the numbers that they are
+exponents-less : (p q : Float) (k l : Exponent) → T (finite p) → T (finite q) → IsWholeOrHalf p k → IsWholeOrHalf q l → lt p q ≡ true → twice k < twice l
+exponents-less p q (whole k) (whole l) fp fq wp wq t =
+    let h : k < l = ltb→lt k l (T-of (sym (means-lt (small-whole p k .0 wp .1) (small-whole q l .0 wq .1)) ∙ t)) in
+    omega arith
+exponents-less p q (whole k) half fp fq wp wq t =
+    let b = lt-transitive p half64 one64 (sym (lt-eq-right p q half64 fp fq half-finite wq) ∙ t) half-below in
+    let h : k < 1 = ltb→lt k 1 (T-of (sym (means-lt (small-whole p k .0 wp .1) means-1) ∙ b)) in
+    omega arith
+exponents-less p q half (whole l) fp fq wp wq t =
+    let a = lt-transitive zero64 half64 q half-above (sym (lt-eq-left p half64 q fp half-finite fq wp) ∙ t) in
+    let h : 0 < l = ltb→lt 0 l (T-of (sym (means-lt means-0 (small-whole q l .0 wq .1)) ∙ a)) in
+    omega arith
+exponents-less p q half half fp fq wp wq t =
+    absurd (true≢false (sym t ∙ lt-eq-left p half64 q fp half-finite fq wp ∙ lt-eq-right half64 q half64 half-finite fq half-finite wq ∙ lt-irreflexive half64))
+
 -- two powers of x are in the order of their terms
-powers-less : (p q : Float) (i j : Sum) (n m k l : ℕ) → isEmpty i ≡ true → isEmpty j ≡ true → smallWhole p ≡ Is k → smallWhole q ≡ Is l
-    → cmpTerm (entry kinds.X n p complex.zero) i (entry kinds.X m q complex.zero) j ≡ Less → k < l
+powers-less : (p q : Float) (i j : Sum) (n m : ℕ) (k l : Exponent) → isEmpty i ≡ true → isEmpty j ≡ true → T (finite p) → T (finite q) → IsWholeOrHalf p k → IsWholeOrHalf q l
+    → cmpTerm (entry kinds.X n p complex.zero) i (entry kinds.X m q complex.zero) j ≡ Less → twice k < twice l
 unfolding cmpEach len
-powers-less p q i j n m k l ei ej wp wq h =
+powers-less p q i j n m k l ei ej fp fq wp wq h =
     let g : andThen (cmpNum p q) Equal ≡ Less = rw (is-none i ei, is-none j ej) at h in
-    let t = cmp-less p q .0 (sym (then-equal (cmpNum p q)) ∙ g) in
-    ltb→lt k l (T-of (sym (means-lt (small-whole p k .0 wp .1) (small-whole q l .0 wq .1)) ∙ t))
+    exponents-less p q k l fp fq wp wq (cmp-less p q .0 (sym (then-equal (cmpNum p q)) ∙ g))
 
 -- ---- the terms of a good sum
 
@@ -60,29 +89,26 @@ module _ (left : ℕ) where
       term-chain (entry k (size i) p complex.zero) i (entry l (size j) q complex.zero) j (entry l′ (size j′) q′ complex.zero) j′ K (first-key f) (first-key (first-good l′ q′ j′ d′ r′ (f .rest)))
       .less b (f .before)
 
-  above : {r : Sum} {ts : List Power} (p : Float) (i : Sum) (k : ℕ) → TermKey kinds.X p i → isEmpty i ≡ true → smallWhole p ≡ Is k → Good left r → Listed r ts → Before kinds.X p i r → Rising (suc k) ts
-  above p i k K e w g nothing b = tt
-  above p i k K e w g (zero-term {k = l} {p = q} {j} {c = d} {r} z t) b =
-      above p i k K e w (first-good l q j d r g .rest) t (before-rest kinds.X l p q i j d r K g b)
-  above p i k K e w g (term {p = q} {k = l} {j} {c = d} {r} z re wq t) b =
+  above : {r : Sum} {ts : List Power} (p : Float) (i : Sum) (k : Exponent) → TermKey kinds.X p i → isEmpty i ≡ true → T (finite p) → IsWholeOrHalf p k → Good left r → Listed r ts → Before kinds.X p i r
+      → Rising (suc (twice k)) ts
+  above p i k K e fp w g nothing b = tt
+  above p i k K e fp w g (zero-term {k = l} {p = q} {j} {c = d} {r} z t) b =
+      above p i k K e fp w (first-good l q j d r g .rest) t (before-rest kinds.X l p q i j d r K g b)
+  above p i k K e fp w g (term {p = q} {k = l} {j} {c = d} {r} z re wq t) b =
       let f = first-good kinds.X q j d r g in
-      (powers-less p q i j (size i) (size j) k l e (f .entry-good .inside) w wq b, above q j l (first-key f) (f .entry-good .inside) wq (f .rest) t (f .before))
+      let fq = T-of (number-finite q (f .entry-good .number)) in
+      (powers-less p q i j (size i) (size j) k l e (f .entry-good .inside) fp fq w wq b, above q j l (first-key f) (f .entry-good .inside) fq wq (f .rest) t (f .before))
 
   pub rising : {s : Sum} {ts : List Power} → Good left s → Listed s ts → Rising 0 ts
   rising g nothing = tt
   rising g (zero-term {k = l} {p = q} {j} {c = d} {r} z t) = rising (first-good l q j d r g .rest) t
   rising g (term {p = q} {k = l} {j} {c = d} {r} z re wq t) =
       let f = first-good kinds.X q j d r g in
-      (omega arith, above q j l (first-key f) (f .entry-good .inside) wq (f .rest) t (f .before))
+      (omega arith, above q j l (first-key f) (f .entry-good .inside) (T-of (number-finite q (f .entry-good .number))) wq (f .rest) t (f .before))
 
-at-most : {s : Sum} {ts : List Power} (lo : ℕ) → Listed s ts → Rising lo ts → lo ≤ 65 → lo + length ts ≤ 65
-at-most lo nothing up h = omega arith
-at-most lo (zero-term z t) up h = at-most lo t up h
-at-most lo (term {p} {k} z re w t) up h =
-    let a = small-whole p k .0 w .0 in
-    let b = at-most (suc k) t (up .1) (omega arith) in
-    let c = up .0 in
-    omega arith
-
-pub few-terms : {s : Sum} {ts : List Power} → Listed s ts → Rising 0 ts → length ts ≤ 65
-few-terms t up = let h = at-most 0 t up (omega arith) in omega arith
+-- each term is an entry of the sum
+pub few-terms : {s : Sum} {ts : List Power} → Listed s ts → length ts ≤ size s
+unfolding size
+few-terms nothing = omega arith
+few-terms (zero-term z t) = let h = few-terms t in omega arith
+few-terms (term z re w t) = let h = few-terms t in omega arith

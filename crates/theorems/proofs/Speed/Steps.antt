@@ -1,4 +1,4 @@
--- How the records of a sum of powers run, one by one and one after the other: each is done, or refused with 15 at its place. Assumes nothing.
+-- How the records of a sum of powers run, one by one and one after the other: each is done, or refused with 15 at its place, or a root below zero with 14. Assumes nothing.
 use Prim.Native.Nat.{ℕ, suc, _+_, _≤_, max}
 use mathlib.Core.Path.{_≡_, refl, ap, _∙_}
 use mathlib.Core.Bool.{Bool, true, false}
@@ -8,21 +8,24 @@ use native.Mathlib.Omega.{arith}
 use borrow.Author.Tests.{le-leb}
 use lib.Dec.{T}
 use lib.ListN.{length}
-use lib.Ieee.{Float, binary64, fits}
+use lib.Ieee.{Float, binary64, fits, lt}
 use lib.Ieee.Bits.{ofBits-toBits, is-true}
 use lib.Ieee.Fits.{and-l, and-r}
 use lib.Ieee.Scale.{finite}
+use Rattle.numbers.specs.Signs.{zero64}
 use Rattle.numbers.specs.Ops.{_⊕_, _⊗_}
 use Rattle.numbers.specs.Numbers.{smallWhole}
 use Rattle.numbers.specs.declared.SmallWhole.the-variants.{Is}
 use Rattle.trees.specs.Good.{isNumber}
-use Rattle.limits.specs.declared.Refusal.the-variants.{NotFinite}
+use Rattle.radicals.specs.Root.{root}
+use Rattle.limits.specs.declared.Refusal.{Refusal}
+use Rattle.limits.specs.declared.Refusal.the-variants.{NeedsMath, NotFinite}
 use Rattle.formats.specs.declared.record.Record.{Record}
 use Rattle.formats.specs.declared.record.Primitive.the-variants as prim
 use Rattle.formats.specs.Names.{kindOf, primitiveOf}
 use Rattle.formats.specs.Tree.{Nodes, end, rec, size}
 use Rattle.drafts.specs.Writing.{push, does, append, one}
-use Rattle.running.specs.Primitives.{times, power, went, ifFinite, leave, apply, wayOf, act}
+use Rattle.running.specs.Primitives.{times, power, rootUnless, squareRoot, went, ifFinite, leave, apply, wayOf, act}
 use Rattle.running.specs.Running.{Running, Out, done, refusedAt, andThen, settle, runBy, runs}
 use Rattle.theorems.specs.Places.{unlessFinite}
 
@@ -31,41 +34,55 @@ use Rattle.theorems.specs.Places.{unlessFinite}
 abbrev pub state : List Float → ℕ → ℕ → Running
 state s n p = record { stack = s; steps = n; peak = p }
 
--- done, or 15 at a place
-abbrev pub out : Option ℕ → Running → Out
+-- why a run is refused, and at which place
+pub data Stop : Type 0 where
+  stopAt : Refusal → ℕ → Stop
+
+-- done, or refused
+abbrev pub out : Option Stop → Running → Out
 out none st = done st
-out (some at) st = refusedAt NotFinite at
+out (some (stopAt q at)) st = refusedAt q at
 
--- the first of two places, if there is one
-abbrev pub or : Option ℕ → Option ℕ → Option ℕ
+-- the first of two refusals, if there is one
+abbrev pub or : Option Stop → Option Stop → Option Stop
 or none b = b
-or (some at) b = some at
+or (some a) b = some a
 
-pub or-none : (a : Option ℕ) → or a none ≡ a
+pub or-none : (a : Option Stop) → or a none ≡ a
 or-none none = refl
-or-none (some at) = refl
+or-none (some a) = refl
 
-pub or-join : (a b c : Option ℕ) → or (or a b) c ≡ or a (or b c)
+pub or-join : (a b c : Option Stop) → or (or a b) c ≡ or a (or b c)
 or-join none b c = refl
-or-join (some at) b c = refl
+or-join (some a) b c = refl
 
--- the place, unless the value is finite
-abbrev pub bad : Float → ℕ → Option ℕ
-bad v at = unlessFinite (finite v) at none
+-- 15 at the place, if there is one
+abbrev pub fifteen : Option ℕ → Option Stop
+fifteen none = none
+fifteen (some at) = some (stopAt NotFinite at)
 
-pub restate : {R : Out} (a : Option ℕ) (s : List Float) {n p m q : ℕ} → n ≡ m → p ≡ q → R ≡ out a (state s n p) → R ≡ out a (state s m q)
+-- 15 at the place, unless the value is finite
+abbrev pub bad : Float → ℕ → Option Stop
+bad v at = fifteen (unlessFinite (finite v) at none)
+
+-- 14 at the place where a root is asked of a number below zero
+abbrev pub unlessBelow : Bool → ℕ → Option Stop → Option Stop
+unlessBelow true at o = some (stopAt NeedsMath at)
+unlessBelow false at o = o
+
+pub restate : {R : Out} (a : Option Stop) (s : List Float) {n p m q : ℕ} → n ≡ m → p ≡ q → R ≡ out a (state s n p) → R ≡ out a (state s m q)
 restate a s en ep e = e ∙ (λ i. out a (state s (en i) (ep i)))
 
 -- ---- one after the other
 
-after : (a b : Option ℕ) (R : Out) (f : Running → Out) (st st′ : Running) → R ≡ out a st → f st ≡ out b st′ → andThen R f ≡ out (or a b) st′
+after : (a b : Option Stop) (R : Out) (f : Running → Out) (st st′ : Running) → R ≡ out a st → f st ≡ out b st′ → andThen R f ≡ out (or a b) st′
 after none b R f st st′ e h = rw e h
-after (some at) b R f st st′ e h = rw e
+after (some (stopAt q at)) b R f st st′ e h = rw e
 
 -- the same where what follows can't be refused
-pub then-done : (a : Option ℕ) (R : Out) (f : Running → Out) (st st′ : Running) → R ≡ out a st → f st ≡ done st′ → andThen R f ≡ out a st′
+pub then-done : (a : Option Stop) (R : Out) (f : Running → Out) (st st′ : Running) → R ≡ out a st → f st ≡ done st′ → andThen R f ≡ out a st′
 then-done none R f st st′ e h = rw e h
-then-done (some at) R f st st′ e h = rw e
+then-done (some (stopAt q at)) R f st st′ e h = rw e
 
 then-then : (R : Out) (f g k : Running → Out) → ((st : Running) → f st ≡ andThen (g st) k) → andThen R f ≡ andThen (andThen R g) k
 then-then (done st) f g k h = h st
@@ -79,7 +96,7 @@ runs-append (rec r ns ms) b at h st =
     (runs (append ms b) (at + 1 + size ns) h) (runs ms (at + 1 + size ns) h) (runs b (at + suc (size ns + size ms)) h)
     (λ st′. runs-append ms b (at + 1 + size ns) h st′ ∙ ap (λ (n : ℕ). andThen (runs ms (at + 1 + size ns) h st′) (runs b n h)) (omega arith))
 
-pub both : (A B : Nodes) (at h : ℕ) (a b : Option ℕ) (st st₁ st₂ : Running) → runs A at h st ≡ out a st₁ → runs B (at + size A) h st₁ ≡ out b st₂
+pub both : (A B : Nodes) (at h : ℕ) (a b : Option Stop) (st st₁ st₂ : Running) → runs A at h st ≡ out a st₁ → runs B (at + size A) h st₁ ≡ out b st₂
     → runs (append A B) at h st ≡ out (or a b) st₂
 both A B at h a b st st₁ st₂ e f = runs-append A B at h st ∙ after a b (runs A at h st) (runs B (at + size A) h) st₁ st₂ e f
 
@@ -97,7 +114,7 @@ roomy : (s r : List Float) (at h n p : ℕ) → length s + h ≤ 256 → settle 
 roomy s r at h n p b = rw (le-leb (length s + h) 256 b)
 
 formed-out : (b : Bool) (v : Float) (s r : List Float) (at h n p : ℕ) → suc (length s) + h ≤ 256
-    → settle h at (state r n p) (ifFinite b v s) ≡ out (unlessFinite b at none) (state (v ∷ s) (n + 1) (max p (suc (length s) + h)))
+    → settle h at (state r n p) (ifFinite b v s) ≡ out (fifteen (unlessFinite b at none)) (state (v ∷ s) (n + 1) (max p (suc (length s) + h)))
 formed-out true v s r at h n p b = roomy (v ∷ s) r at h n p b
 formed-out false v s r at h n p b = refl
 
@@ -119,6 +136,15 @@ pub identity-out : (v : Float) (s : List Float) (at h n p : ℕ) → T (finite v
     → runs (one (does prim.Identity)) at h (state (v ∷ s) n p) ≡ done (state (v ∷ s) (n + 1) (max p (suc (length s) + h)))
 unfolding kindOf act apply leave primitiveOf
 identity-out v s at h n p t b = one-runs (does prim.Identity) at h (state (v ∷ s) n p) ∙ rw (is-true (finite v) t) (roomy (v ∷ s) (v ∷ s) at h n p b)
+
+pub sqrt-out : (x : Float) (s : List Float) (at h n p : ℕ) → suc (length s) + h ≤ 256
+    → runs (one (does prim.Sqrt)) at h (state (x ∷ s) n p) ≡ out (unlessBelow (lt x zero64) at (bad (root x) at)) (state (root x ∷ s) (n + 1) (max p (suc (length s) + h)))
+unfolding kindOf act apply leave primitiveOf squareRoot
+sqrt-out x s at h n p b = one-runs (does prim.Sqrt) at h (state (x ∷ s) n p) ∙ go (lt x zero64)
+  where
+    go : (l : Bool) → settle h at (state (x ∷ s) n p) (leave (rootUnless l x) s) ≡ out (unlessBelow l at (bad (root x) at)) (state (root x ∷ s) (n + 1) (max p (suc (length s) + h)))
+    go true = refl
+    go false = formed-out (finite (root x)) (root x) s (x ∷ s) at h n p b
 
 -- the record takes t from the top and r below it, and forms v
 pub record Forms (op : Record) (r t v : Float) : Type 0 where

@@ -1,4 +1,4 @@
--- What is written for a term of a whole power, how many records that is, and what it yields. Assumes nothing.
+-- What is written for a term, how many records that is, and what it yields. Assumes nothing.
 use Prim.Native.Nat.{ℕ, zero, suc, _+_, _*_, _≤_, max}
 use mathlib.Core.Path.{_≡_, refl, sym, ap, _∙_}
 use mathlib.Core.Bool.{Bool, true, false, not, _&&_, _||_, cond}
@@ -21,8 +21,9 @@ use Rattle.numbers.specs.Wholes.{Means}
 use Rattle.numbers.specs.declared.SmallWhole.the-variants.{Is}
 use Rattle.numbers.proofs.Bools.{bool-ext, T-of, and-true, and-false}
 use Rattle.numbers.proofs.Zeros.{zero-test}
-use Rattle.numbers.proofs.Order.{eq-symmetric}
+use Rattle.numbers.proofs.Order.{eq-symmetric, eq-transitive}
 use Rattle.numbers.proofs.Wholes.{means-eq, means-fin, means-1, means-whole, eq-means, small-whole}
+use Rattle.radicals.specs.Root.{root}
 use Rattle.complex.specs.declared.Complex.{Complex}
 use Rattle.complex.specs.Arith as complex
 use Rattle.complex.specs.Contract.Real.{Real}
@@ -34,15 +35,15 @@ use Rattle.formats.specs.Names.{choose}
 use Rattle.formats.specs.Tree.{Nodes, end, size}
 use Rattle.drafts.specs.Writing.{push, does, append, one, two, Written, andThen, canWrite}
 use Rattle.drafts.proofs.Laws.{append-end, append-join, size-append}
-use Rattle.drafts.proofs.Fine.{Fine, fine-more, fine-end, fine-append, fine-two, plain-does, plain-push}
+use Rattle.drafts.proofs.Fine.{Fine, fine-more, fine-end, fine-append, fine-one, fine-two, plain-does, plain-push}
 use Rattle.writer.specs.ToNodes.{Form, form, isBare, isConstant, isEmpty, before, plus, writePower, timesCoef, write}
 use Rattle.writer.specs.Count.{cost}
 use Rattle.running.specs.Primitives.{times}
-use Rattle.theorems.specs.Value.{termValue, timesUnless}
+use Rattle.theorems.specs.Value.{Exponent, whole, half, IsWholeOrHalf, termValue, timesUnless}
 use Rattle.theorems.specs.Records.{formOf, costOf, isX}
 use Rattle.theorems.specs.Places.{formedUnless, inTerm, unlessFinite, firstNotFinite}
-use Rattle.theorems.proofs.Speed.Steps.{state, out, or, or-none, bad, number-finite, adds, multiplies, raises}
-use Rattle.theorems.proofs.Speed.Pieces.{Yields, end-yields, then-yields, square-yields}
+use Rattle.theorems.proofs.Speed.Steps.{Stop, state, out, or, or-none, fifteen, bad, unlessBelow, number-finite, adds, multiplies, raises}
+use Rattle.theorems.proofs.Speed.Pieces.{Yields, end-yields, then-yields, square-yields, root-yields}
 
 -- ---- the records of a term
 
@@ -56,27 +57,30 @@ abbrev tail : Bool → Float → Nodes
 tail true c = end
 tail false c = two (push c) (does prim.Mul)
 
-abbrev pub piece : Float → ℕ → Float → Nodes
-piece p zero c = append (two (push zero64) (does prim.Mul)) (two (push c) (does prim.Add))
-piece p (suc n) c = append (base p n) (tail (eq c one64) c)
+abbrev pub piece : Float → Exponent → Float → Nodes
+piece p (whole zero) c = append (two (push zero64) (does prim.Mul)) (two (push c) (does prim.Add))
+piece p (whole (suc n)) c = append (base p n) (tail (eq c one64) c)
+piece p half c = append (one (does prim.Sqrt)) (tail (eq c one64) c)
 
 tail-size : (b : Bool) (c : Float) → size (tail b c) ≡ cond b 0 2
 unfolding size
 tail-size true c = refl
 tail-size false c = refl
 
-two-more : (b : Bool) → 2 + cond b 0 2 ≡ cond b 2 4
-two-more true = refl
-two-more false = refl
+with-tail : (A : Nodes) (n : ℕ) (b : Bool) (c : Float) → size A ≡ n → size (append A (tail b c)) ≡ cond b n (n + 2)
+with-tail A n b c e = size-append A (tail b c) ∙ ap (λ (m : ℕ). m + size (tail b c)) e ∙ ap (λ (m : ℕ). n + m) (tail-size b c) ∙ more b
+  where
+    more : (b : Bool) → n + cond b 0 2 ≡ cond b n (n + 2)
+    more true = omega arith
+    more false = refl
 
-pub piece-size : (p c : Float) (k : ℕ) → size (piece p k c) ≡ costOf k c
+pub piece-size : (p c : Float) (k : Exponent) → size (piece p k c) ≡ costOf k c
 unfolding size append cost
-piece-size p c zero = refl
-piece-size p c (suc zero) = tail-size (eq c one64) c
-piece-size p c (suc (suc zero)) =
-    size-append (two (does prim.Dup) (does prim.Mul)) (tail (eq c one64) c) ∙ ap (λ (k : ℕ). 2 + k) (tail-size (eq c one64) c) ∙ two-more (eq c one64)
-piece-size p c (suc (suc (suc n))) =
-    size-append (two (push p) (does prim.Pow)) (tail (eq c one64) c) ∙ ap (λ (k : ℕ). 2 + k) (tail-size (eq c one64) c) ∙ two-more (eq c one64)
+piece-size p c (whole zero) = refl
+piece-size p c half = with-tail (one (does prim.Sqrt)) 1 (eq c one64) c refl
+piece-size p c (whole (suc zero)) = tail-size (eq c one64) c
+piece-size p c (whole (suc (suc zero))) = with-tail (two (does prim.Dup) (does prim.Mul)) 2 (eq c one64) c refl
+piece-size p c (whole (suc (suc (suc n)))) = with-tail (two (push p) (does prim.Pow)) 2 (eq c one64) c refl
 
 -- ---- they keep the rules of lists
 
@@ -99,62 +103,85 @@ zero-number = tt
 pub zero-fine : Fine 2 1 (two (push zero64) (does prim.Mul))
 zero-fine = fine-two 1 (push zero64) (does prim.Mul) (omega arith) (plain-push zero64 (number-fits zero64 zero-number)) (plain-does prim.Mul)
 
-pub piece-fine : (p c : Float) (k : ℕ) → T (isNumber p) → T (isNumber c) → Fine 4 1 (piece p k c)
-piece-fine p c zero fp fc =
+pub piece-fine : (p c : Float) (k : Exponent) → T (isNumber p) → T (isNumber c) → Fine 4 1 (piece p k c)
+piece-fine p c half fp fc =
+    fine-append (one (does prim.Sqrt)) (tail (eq c one64) c) (fine-more 2 1 (fine-one 1 (does prim.Sqrt) (omega arith) (plain-does prim.Sqrt)) (omega arith) (omega arith)) (tail-fine (eq c one64) c fc)
+piece-fine p c (whole zero) fp fc =
     fine-append (two (push zero64) (does prim.Mul)) (two (push c) (does prim.Add)) zero-fine
     (fine-two 1 (push c) (does prim.Add) (omega arith) (plain-push c (number-fits c fc)) (plain-does prim.Add))
-piece-fine p c (suc n) fp fc = fine-append (base p n) (tail (eq c one64) c) (base-fine p n fp) (tail-fine (eq c one64) c fc)
+piece-fine p c (whole (suc n)) fp fc = fine-append (base p n) (tail (eq c one64) c) (base-fine p n fp) (tail-fine (eq c one64) c fc)
 
 -- ---- what they yield
 
-pub or-unless : (b : Bool) (at : ℕ) (o p : Option ℕ) → or (unlessFinite b at o) p ≡ unlessFinite b at (or o p)
-or-unless true at o p = refl
-or-unless false at o p = refl
+-- 15 at a place, or at a later one
+pub or-fifteen : (b : Bool) (at : ℕ) (o : Option ℕ) → or (fifteen (unlessFinite b at none)) (fifteen o) ≡ fifteen (unlessFinite b at o)
+or-fifteen true at o = refl
+or-fifteen false at o = refl
 
-pub reyield : {N : Nodes} {x r : Float} {q : ℕ} (b d : ℕ → Option ℕ) → ((at : ℕ) → b at ≡ d at) → Yields N x r q b → Yields N x r q d
-reyield {N} {x} {r} {q} b d e g = record { run = λ s at h n p room i. g .run s at h n p room i ∙ ap (λ (a : Option ℕ). out a (state (r ∷ s) (n + size N) (max p (q + (length s + h))))) (e at) }
+or-below : (b : Bool) (at : ℕ) (o p : Option Stop) → or (unlessBelow b at o) p ≡ unlessBelow b at (or o p)
+or-below true at o p = refl
+or-below false at o p = refl
+
+pub reyield : {N : Nodes} {x r : Float} {q : ℕ} (b d : ℕ → Option Stop) → ((at : ℕ) → b at ≡ d at) → Yields N x r q b → Yields N x r q d
+reyield {N} {x} {r} {q} b d e g = record { run = λ s at h n p room i. g .run s at h n p room i ∙ ap (λ (a : Option Stop). out a (state (r ∷ s) (n + size N) (max p (q + (length s + h))))) (e at) }
 
 cond-same : (b : Bool) (n : ℕ) → cond b n n ≡ n
 cond-same true n = refl
 cond-same false n = refl
 
+-- √x and x take no number beside them
+abbrev pub light : Exponent → Float → Bool
+light (whole k) c = isX (whole k) c
+light half c = eq c one64
+
+-- what refuses a term whose first record has the place
+abbrev pub stopTerm : ℕ → Float → Exponent → Float → Option Stop
+stopTerm at x (whole k) c = fifteen (firstNotFinite (inTerm at x (whole k) c))
+stopTerm at x half c = unlessBelow (lt x zero64) at (fifteen (firstNotFinite (inTerm at x half c)))
+
 module _ (c : Float) (fc : T (isNumber c)) where
-  tail-yields : (b : Bool) {A : Nodes} {x v : Float} {q : ℕ} {d : ℕ → Option ℕ} → 1 ≤ q → q ≤ 2 → Yields A x v q d
-      → Yields (append A (tail b c)) x (timesUnless b v c) (cond b q 2) (λ at. or (d at) (firstNotFinite (formedUnless b (at + size A + 1) (v ⊗ c))))
+  tail-yields : (b : Bool) {A : Nodes} {x v : Float} {q : ℕ} {d : ℕ → Option Stop} → 1 ≤ q → q ≤ 2 → Yields A x v q d
+      → Yields (append A (tail b c)) x (timesUnless b v c) (cond b q 2) (λ at. or (d at) (fifteen (firstNotFinite (formedUnless b (at + size A + 1) (v ⊗ c)))))
   unfolding firstNotFinite
   tail-yields true {A} {x} {v} {q} {d} low high g = rw (append-end A) (reyield d _ (λ at. sym (or-none (d at))) g)
   tail-yields false {A} {x} {v} {q} {d} low high g = then-yields (does prim.Mul) low high g fc (multiplies v c)
 
-  pub piece-yields : (x p : Float) (k : ℕ) → T (isNumber p) → smallWhole p ≡ Is k → Yields (piece p k c) x (termValue x k c) (cond (isX k c) 1 2) (λ at. firstNotFinite (inTerm at x k c))
+  pub piece-yields : (x p : Float) (k : Exponent) → T (isNumber p) → IsWholeOrHalf p k → Yields (piece p k c) x (termValue x k c) (cond (light k c) 1 2) (λ at. stopTerm at x k c)
   unfolding termValue inTerm firstNotFinite times append size
-  piece-yields x p zero fp w =
+  piece-yields x p (whole zero) fp w =
       let e : (at : ℕ) → at + 0 + 1 ≡ at + 1 = λ at. omega arith in
       let e₂ : (at : ℕ) → at + 2 + 1 ≡ at + 3 = λ at. omega arith in
-      reyield _ _ (λ at. or-unless (finite (x ⊗ zero64)) (at + 0 + 1) none (bad (x ⊗ zero64 ⊕ c) (at + 2 + 1)) ∙ rw (e at, e₂ at))
+      reyield _ _ (λ at. rw (e at, e₂ at) (or-fifteen (finite (x ⊗ zero64)) (at + 1) (unlessFinite (finite (x ⊗ zero64 ⊕ c)) (at + 3) none)))
       (then-yields (does prim.Add) (omega arith) (omega arith)
       (then-yields (does prim.Mul) (omega arith) (omega arith) (end-yields x) zero-number (multiplies x zero64)) fc (adds (x ⊗ zero64) c))
-  piece-yields x p (suc zero) fp w =
+  piece-yields x p half fp w =
+      let rest : ℕ → Option ℕ = λ n. firstNotFinite (formedUnless (eq c one64) n (root x ⊗ c)) in
+      let e : (at : ℕ) → at + 1 + 1 ≡ at + 2 = λ at. omega arith in
+      reyield _ _ (λ at. or-below (lt x zero64) at (bad (root x) at) (fifteen (rest (at + 1 + 1)))
+      ∙ ap (unlessBelow (lt x zero64) at) (or-fifteen (finite (root x)) at (rest (at + 1 + 1)) ∙ rw (e at)))
+      (tail-yields (eq c one64) (omega arith) (omega arith) (root-yields x))
+  piece-yields x p (whole (suc zero)) fp w =
       let e : (at : ℕ) → at + 0 + 1 ≡ at + 1 = λ at. omega arith in
-      reyield _ _ (λ at. ap (λ (m : ℕ). firstNotFinite (formedUnless (eq c one64) m (x ⊗ c))) (e at)) (tail-yields (eq c one64) (omega arith) (omega arith) (end-yields x))
-  piece-yields x p (suc (suc zero)) fp w =
+      reyield _ _ (λ at. ap (λ (m : ℕ). fifteen (firstNotFinite (formedUnless (eq c one64) m (x ⊗ c)))) (e at)) (tail-yields (eq c one64) (omega arith) (omega arith) (end-yields x))
+  piece-yields x p (whole (suc (suc zero))) fp w =
       let e : (at : ℕ) → at + 2 + 1 ≡ at + 3 = λ at. omega arith in
-      reyield _ _ (λ at. or-unless (finite (x ⊗ x)) (at + 1) none (firstNotFinite (formedUnless (eq c one64) (at + 2 + 1) (x ⊗ x ⊗ c))) ∙ rw (e at))
+      reyield _ _ (λ at. or-fifteen (finite (x ⊗ x)) (at + 1) (firstNotFinite (formedUnless (eq c one64) (at + 2 + 1) (x ⊗ x ⊗ c))) ∙ rw (e at))
       (rw (cond-same (eq c one64) 2) at (tail-yields (eq c one64) (omega arith) (omega arith) (square-yields x)))
-  piece-yields x p (suc (suc (suc n))) fp w =
+  piece-yields x p (whole (suc (suc (suc n)))) fp w =
       let v = times (suc (suc n)) x x in
       let e : (at : ℕ) → at + 0 + 1 ≡ at + 1 = λ at. omega arith in
       let e₂ : (at : ℕ) → at + 2 + 1 ≡ at + 3 = λ at. omega arith in
-      reyield _ _ (λ at. or-unless (finite v) (at + 0 + 1) none (firstNotFinite (formedUnless (eq c one64) (at + 2 + 1) (v ⊗ c))) ∙ rw (e at, e₂ at))
+      reyield _ _ (λ at. rw (e at, e₂ at) (or-fifteen (finite v) (at + 1) (firstNotFinite (formedUnless (eq c one64) (at + 3) (v ⊗ c)))))
       (rw (cond-same (eq c one64) 2) at (tail-yields (eq c one64) (omega arith) (omega arith)
       (then-yields (does prim.Pow) (omega arith) (omega arith) (end-yields x) fp (raises x p (suc (suc n)) w))))
 
--- ---- the arm of the match that a whole power takes
+-- ---- the arm of the match that a power takes
 
 means-2 : Means two64 (pos 2)
 unfolding ofBits
 means-2 = means-fin false 1 1
 
-means-0 : Means zero64 (pos 0)
+pub means-0 : Means zero64 (pos 0)
 unfolding ofBits
 means-0 = means-fin false 0 0
 
@@ -170,15 +197,27 @@ not-half p k m = go (eq p half64) refl
     go true e = sym (means-whole (eq-means half64 p (eq-symmetric half64 p ∙ e) m))
     go false e = refl
 
-form-by : (k : ℕ) → choose (eqb k 0) Form.constant (choose false Form.root (choose (eqb k 1) Form.bare (choose (eqb k 2) Form.square Form.power))) ≡ formOf k
+form-by : (k : ℕ) → choose (eqb k 0) Form.constant (choose false Form.root (choose (eqb k 1) Form.bare (choose (eqb k 2) Form.square Form.power))) ≡ formOf (whole k)
 form-by zero = refl
 form-by (suc zero) = refl
 form-by (suc (suc zero)) = refl
 form-by (suc (suc (suc n))) = rw (ne-eqb (suc (suc (suc n))) 0 (λ e. omega arith), ne-eqb (suc (suc (suc n))) 1 (λ e. omega arith), ne-eqb (suc (suc (suc n))) 2 (λ e. omega arith))
 
-pub form-is : (p : Float) (k : ℕ) → smallWhole p ≡ Is k → form p ≡ formOf k
+-- a half isn't 0
+pub half-finite : T (finite half64)
+unfolding ofBits
+half-finite = tt
+
+half-not-0 : eq half64 zero64 ≡ false
+unfolding eq ofBits
+half-not-0 = refl
+
+pub form-is : (p : Float) (k : Exponent) → T (isNumber p) → IsWholeOrHalf p k → form p ≡ formOf k
 unfolding form
-form-is p k w =
+form-is p half fp w =
+    let z = eq-transitive p half64 zero64 (T-of (number-finite p fp)) half-finite (T-of (number-finite zero64 zero-number)) w ∙ half-not-0 in
+    rw (z, w)
+form-is p (whole k) fp w =
     let m = small-whole p k .0 w .1 in
     rw (eq-whole p zero64 k 0 m means-0, not-half p k m, eq-whole p one64 k 1 m means-1, eq-whole p two64 k 2 m means-2) (form-by k)
 
@@ -201,23 +240,24 @@ module _ (c : Complex) (f : Nodes → Written) (e : canWrite false c ≡ true) w
   tail-is true ns = rw (append-end ns)
   tail-is false ns = rw (e, append-join ns)
 
-  piece-is : (k : ℕ) (p : Float) (ns : Nodes) → complex.same c complex.one ≡ eq (c .re) one64
+  piece-is : (k : Exponent) (p : Float) (ns : Nodes) → complex.same c complex.one ≡ eq (c .re) one64
       → andThen (writePower (formOf k) p false c ns) (λ ms. andThen (timesCoef (not (complex.same c complex.one) && not (isConstant (formOf k))) false c ms) f) ≡ f (append ns (piece p k (c .re)))
   unfolding append
-  piece-is zero p ns o = rw (e, and-false (not (complex.same c complex.one)), append-join ns, append-join ns)
-  piece-is (suc zero) p ns o = rw o (tail-is (eq (c .re) one64) ns)
-  piece-is (suc (suc zero)) p ns o = rw (o, ← append-join ns) (tail-is (eq (c .re) one64) (append ns (two (does prim.Dup) (does prim.Mul))))
-  piece-is (suc (suc (suc k))) p ns o = rw (o, ← append-join ns) (tail-is (eq (c .re) one64) (append ns (two (push p) (does prim.Pow))))
+  piece-is half p ns o = rw (o, ← append-join ns) (tail-is (eq (c .re) one64) (append ns (one (does prim.Sqrt))))
+  piece-is (whole zero) p ns o = rw (e, and-false (not (complex.same c complex.one)), append-join ns, append-join ns)
+  piece-is (whole (suc zero)) p ns o = rw o (tail-is (eq (c .re) one64) ns)
+  piece-is (whole (suc (suc zero))) p ns o = rw (o, ← append-join ns) (tail-is (eq (c .re) one64) (append ns (two (does prim.Dup) (does prim.Mul))))
+  piece-is (whole (suc (suc (suc k)))) p ns o = rw (o, ← append-join ns) (tail-is (eq (c .re) one64) (append ns (two (push p) (does prim.Pow))))
 
 module _ (p : Float) (i : Sum) (c : Complex) (r : Sum) (id : Bool) (ns : Nodes) where
   pub write-zero : (k : ℕ) → complex.same c complex.zero ≡ true → write false (and k p i c r) id ns ≡ write false r id ns
   unfolding write
   write-zero k e = rw e
 
-  pub write-term : (k : ℕ) → complex.same c complex.zero ≡ false → T (isNumber (c .re)) → Real c → smallWhole p ≡ Is k
+  pub write-term : (k : Exponent) → complex.same c complex.zero ≡ false → T (isNumber p) → T (isNumber (c .re)) → Real c → IsWholeOrHalf p k
       → write false (and kinds.X p i c r) id ns
       ≡ write false r (id || isBare (formOf k)) (plus (not id && isEmpty ns) (append (before (not id && isEmpty ns) ns) (piece p k (c .re))))
   unfolding write
-  write-term k z n re w =
-      rw (z, form-is p k w)
+  write-term k z m n re w =
+      rw (z, form-is p k m w)
       (piece-is c (λ m. write false r (id || isBare (formOf k)) (plus (not id && isEmpty ns) m)) (can-write c n re) k p (before (not id && isEmpty ns) ns) (one-real c re))

@@ -1,7 +1,7 @@
 -- A whole sum: what is written for it, and how that runs. Assumes nothing.
 use Prim.Native.Nat.{ℕ, zero, suc, _+_, _-_, _*_, _≤_, max}
 use mathlib.Core.Path.{_≡_, refl, sym, ap, _∙_}
-use mathlib.Core.Bool.{Bool, true, false, not, _||_, cond}
+use mathlib.Core.Bool.{Bool, true, false, not, _&&_, _||_, cond, true≢false}
 use mathlib.Core.List.{List, [], _∷_}
 use mathlib.Core.Option.{Option, none}
 use native.Mathlib.Omega.{arith}
@@ -10,9 +10,7 @@ use lib.ListN.{length}
 use lib.Ieee.{Float, eq}
 use lib.Ieee.Scale.{finite}
 use Rattle.numbers.specs.Signs.{zero64, one64}
-use Rattle.numbers.specs.Ops.{_⊕_}
-use Rattle.numbers.specs.Numbers.{smallWhole}
-use Rattle.numbers.specs.declared.SmallWhole.the-variants.{Is}
+use Rattle.numbers.specs.Ops.{_⊕_, _⊗_}
 use Rattle.numbers.proofs.Bools.{and-false}
 use Rattle.complex.specs.declared.Complex.{Complex}
 use Rattle.trees.specs.Kinds as kinds
@@ -29,18 +27,18 @@ use Rattle.writer.specs.ToNodes.{isBare, write}
 use Rattle.writer.specs.Count.{cost}
 use Rattle.running.specs.Primitives.{times}
 use Rattle.running.specs.Running.{runs}
-use Rattle.theorems.specs.Value.{Power, power, Rising, termValue, plusTerms, value}
-use Rattle.theorems.specs.Records.{formOf, costOf, isX, peakOf}
-use Rattle.theorems.specs.Places.{inTerm, inSum, inAll, firstNotFinite}
+use Rattle.theorems.specs.Value.{Exponent, whole, half, Power, power, IsWholeOrHalf, twice, Rising, termValue, plusTerms, value}
+use Rattle.theorems.specs.Records.{formOf, costOf, isX, isRoot, peakOf, rootFirst, exactPeak}
+use Rattle.theorems.specs.Places.{inTerm, firstNotFinite}
 use Rattle.theorems.proofs.Speed.Listed.{Listed, nothing, zero-term, term}
-use Rattle.theorems.proofs.Speed.Steps.{state, out, or, or-none, bad}
-use Rattle.theorems.proofs.Speed.Terms.{piece, piece-size, write-zero, write-term}
-use Rattle.theorems.proofs.Speed.Building.{first-append, same-places, Built, rebuild, built-zero, built-x, built-term, built-join, built-dup}
+use Rattle.theorems.proofs.Speed.Steps.{Stop, state, out, or, or-none, bad}
+use Rattle.theorems.proofs.Speed.Terms.{piece, piece-size, light, stopTerm, write-zero, write-term}
+use Rattle.theorems.proofs.Speed.Building.{stopSum, same-places, Built, rebuild, built-zero, built-x, built-term, built-join, built-dup}
 
 -- ---- after the first term
 
 -- the list that is written from here on
-record More (s : Sum) (id : Bool) (ns : Nodes) (n d : ℕ) (r : Float → Float) (q : ℕ) (b : Float → ℕ → Option ℕ) : Type 0 where
+record More (s : Sum) (id : Bool) (ns : Nodes) (n d : ℕ) (r : Float → Float) (q : ℕ) (b : Float → ℕ → Option Stop) : Type 0 where
   list : Nodes
   written : write false s id ns ≡ wrote list
   built : Built list n d r q b
@@ -49,16 +47,30 @@ peak-low : (b : Bool) → 1 ≤ cond b 1 2
 peak-low true = omega arith
 peak-low false = omega arith
 
-peak-high : (b : Bool) → cond b 1 2 ≤ 2
-peak-high true = omega arith
-peak-high false = omega arith
+-- what takes a number beside x isn't bare x
+not-bare : (k : Exponent) (c : Float) → 3 ≤ twice k → light k c ≡ false
+not-bare half c h = absurd (omega arith)
+not-bare (whole zero) c h = refl
+not-bare (whole (suc zero)) c h = absurd (omega arith)
+not-bare (whole (suc (suc zero))) c h = refl
+not-bare (whole (suc (suc (suc n)))) c h = refl
 
--- only the power 1 is bare x
-never-x : (k : ℕ) (c : Float) → 2 ≤ k → isX k c ≡ false
-never-x zero c h = refl
-never-x (suc zero) c h = absurd (omega arith)
-never-x (suc (suc zero)) c h = refl
-never-x (suc (suc (suc n))) c h = refl
+-- the peak after some terms, where that of what came before is k
+peakAfter : ℕ → List Power → ℕ
+peakAfter k [] = k
+peakAfter k (power l c ∷ ts) = peakAfter (suc (max k (cond (light l c) 1 2))) ts
+
+peak-after : (k : ℕ) (ts : List Power) → 2 ≤ k → peakAfter k ts ≡ k + length ts
+unfolding peakAfter
+peak-after k [] h = omega arith
+peak-after k (power l c ∷ ts) h =
+    let q = peak-high (light l c) in
+    let m = peak-after (suc (max k (cond (light l c) 1 2))) ts (omega arith) in
+    omega arith
+  where
+    peak-high : (b : Bool) → cond b 1 2 ≤ 2
+    peak-high true = omega arith
+    peak-high false = omega arith
 
 joined-size : (N P : Nodes) → size (rec (on (size N + 1)) (rec (body (size N)) N end) (append P (one (does prim.Add)))) ≡ size N + size P + 3
 unfolding size
@@ -78,17 +90,17 @@ module _ (left : ℕ) where
   first-good l q j d r g = good-and left (entry l (entries j) q d) j r g
 
   -- something is written
-  more : {s : Sum} {ts : List Power} → Good left s → Listed s ts → (id : Bool) (a : Record) (i m : Nodes) (n d : ℕ) (r : Float → Float) (k : ℕ) (b : Float → ℕ → Option ℕ) → n + 7 * length ts ≤ 2048 → 1 ≤ k
-      → Built (rec a i m) n d r (suc k) b
-      → More s id (rec a i m) (n + 7 * length ts) (d + 2 * length ts) (λ x. plusTerms x (r x) ts) (suc (k + length ts))
-      (λ x at. or (b x (at + 2 * length ts)) (firstNotFinite (inSum (at + 2 * length ts + size (rec a i m)) x (r x) ts)))
-  unfolding write plusTerms append firstNotFinite inSum
+  more : {s : Sum} {ts : List Power} → Good left s → Listed s ts → (id : Bool) (a : Record) (i m : Nodes) (n d : ℕ) (r : Float → Float) (k : ℕ) (b : Float → ℕ → Option Stop) → n + 7 * length ts ≤ 2048 → 1 ≤ k
+      → Built (rec a i m) n d r k b
+      → More s id (rec a i m) (n + 7 * length ts) (d + 2 * length ts) (λ x. plusTerms x (r x) ts) (peakAfter k ts)
+      (λ x at. or (b x (at + 2 * length ts)) (stopSum (at + 2 * length ts + size (rec a i m)) x (r x) ts))
+  unfolding write plusTerms append stopSum peakAfter
   more g nothing id a i m n d r k b few K y =
       let e : (at : ℕ) → at ≡ at + 2 * 0 = λ at. omega arith in
       record {
         list = rec a i m;
         written = refl;
-        built = rebuild _ _ _ _ (omega arith) (omega arith) (omega arith) (λ x at. ap (b x) (e at) ∙ sym (or-none (b x (at + 2 * 0)))) y;
+        built = rebuild _ _ _ _ (omega arith) (omega arith) refl (λ x at. ap (b x) (e at) ∙ sym (or-none (b x (at + 2 * 0)))) y;
       }
   more g (zero-term {k = l} {p} {j} {c} {r = s} z t) id a i m n d r k b few K y =
       let h = more (first-good l p j c s g .rest) t id a i m n d r k b few K y in
@@ -98,22 +110,22 @@ module _ (left : ℕ) where
       let N = rec a i m in
       let P = piece p l (c .re) in
       let v : Float → Float = λ x. r x ⊕ termValue x l (c .re) in
-      let h = more (f .rest) t (id || isBare (formOf l)) (on (size N + 1)) (rec (body (size N)) N end) (append P (one (does prim.Add))) (n + 7) (d + 2) v (suc k)
-      (λ x at. or (or (b x (at + 2)) (firstNotFinite (inTerm (at + (size N + 2)) x l (c .re)))) (bad (v x) (at + (size N + 2) + size P))) (omega arith) (omega arith)
-      (built-join (built-term p (c .re) l (f .entry-good .number) (f .entry-good .re) w) (omega arith) K (peak-low (isX l (c .re))) (peak-high (isX l (c .re))) y) in
+      let h = more (f .rest) t (id || isBare (formOf l)) (on (size N + 1)) (rec (body (size N)) N end) (append P (one (does prim.Add))) (n + 7) (d + 2) v (suc (max k (cond (light l (c .re)) 1 2)))
+      (λ x at. or (or (b x (at + 2)) (stopTerm (at + (size N + 2)) x l (c .re))) (bad (v x) (at + (size N + 2) + size P))) (omega arith) (omega arith)
+      (built-join (built-term p (c .re) l (f .entry-good .number) (f .entry-good .re) w) (omega arith) K (peak-low (light l (c .re))) y) in
       let e : (at : ℕ) → at + 2 * length ts + 2 ≡ at + 2 * suc (length ts) = λ at. omega arith in
       record {
         list = h .list;
-        written = (rw (and-false (not id)) at (write-term p j c s id N l z (f .entry-good .re) re w)) ∙ h .written;
-        built = rebuild _ _ _ _ (omega arith) (omega arith) (omega arith)
+        written = (rw (and-false (not id)) at (write-term p j c s id N l z (f .entry-good .number) (f .entry-good .re) re w)) ∙ h .written;
+        built = rebuild _ _ _ _ (omega arith) (omega arith) refl
             (λ x at. same-places x (r x) l (c .re) ts {a = at + 2 * suc (length ts) + size N} (ap (b x) (e at)) (omega arith) (omega (arith, piece-size p (c .re) l)) (omega (arith, piece-size p (c .re) l, joined-size N P)))
             (h .built);
       }
 
   -- only x was met, and nothing is written yet
-  only : {s : Sum} {ts : List Power} → Good left s → Listed s ts → Rising 2 ts → length ts ≤ 64
-      → More s true end (1 + 7 * length ts) (1 + 2 * length ts) (λ x. plusTerms x x ts) (onlyPeak ts) (λ x at. firstNotFinite (inSum (at + (2 * length ts - 1)) x x ts))
-  unfolding write plusTerms append firstNotFinite inSum
+  only : {s : Sum} {ts : List Power} → Good left s → Listed s ts → Rising 3 ts → length ts ≤ 64
+      → More s true end (1 + 7 * length ts) (1 + 2 * length ts) (λ x. plusTerms x x ts) (onlyPeak ts) (λ x at. stopSum (at + (2 * length ts - 1)) x x ts)
+  unfolding write plusTerms append stopSum
   only g nothing up few = record { list = one (does prim.Identity); written = refl; built = rebuild _ _ _ _ (omega arith) (omega arith) refl (λ x at. refl) built-x }
   only g (zero-term {k = l} {p} {j} {c} {r = s} z t) up few =
       let h = only (first-good l p j c s g .rest) t up few in
@@ -122,31 +134,38 @@ module _ (left : ℕ) where
       let f = first-good kinds.X p j c s g in
       let P = piece p l (c .re) in
       let v : Float → Float = λ x. x ⊕ termValue x l (c .re) in
-      let h = more (f .rest) t true (does prim.Dup) end (append P (one (does prim.Add))) 7 1 v 2
-      (λ x at. or (firstNotFinite (inTerm (at + 1) x l (c .re))) (bad (v x) (at + 1 + size P))) (omega arith) (omega arith)
-      (built-dup (built-term p (c .re) l (f .entry-good .number) (f .entry-good .re) w) (rw (never-x l (c .re) (up .0)))) in
+      let h = more (f .rest) t true (does prim.Dup) end (append P (one (does prim.Add))) 7 1 v 3
+      (λ x at. or (stopTerm (at + 1) x l (c .re)) (bad (v x) (at + 1 + size P))) (omega arith) (omega arith)
+      (built-dup (built-term p (c .re) l (f .entry-good .number) (f .entry-good .re) w) (rw (not-bare l (c .re) (up .0)))) in
       record {
         list = h .list;
-        written = write-term p j c s true end l z (f .entry-good .re) re w ∙ h .written;
-        built = rebuild _ _ _ _ (omega arith) (omega arith) (omega arith)
+        written = write-term p j c s true end l z (f .entry-good .number) (f .entry-good .re) re w ∙ h .written;
+        built = rebuild _ _ _ _ (omega arith) (omega arith) (peak-after 3 ts (omega arith))
             (λ x at. same-places x x l (c .re) ts {o = none} {o′ = none} {a = at + (2 * suc (length ts) - 1)} refl (omega arith) (omega (arith, piece-size p (c .re) l)) (omega (arith, piece-size p (c .re) l, dup-size P)))
             (h .built);
       }
 
 -- ---- the whole list
 
+-- what refuses the run of the whole list
+unfoldable pub stopAll : Float → List Power → Option Stop
+stopAll x [] = bad (x ⊗ zero64) 1
+stopAll x (power k c ∷ ts) =
+    let at = 2 * length ts - cond (isX k c) 1 0 in
+    or (stopTerm at x k c) (stopSum (at + costOf k c) x (termValue x k c) ts)
+
 -- the list that is written, and its run from its first record on
 pub record Whole (s : Sum) (id : Bool) (ns : Nodes) (ts : List Power) : Type 0 where
   pub list : Nodes
   pub fine : Fine 2048 129 list
   pub written : write false s id ns ≡ wrote list
-  pub run : (x : Float) → T (finite x) → runs list 0 0 (state (x ∷ []) 0 1) ≡ out (firstNotFinite (inAll x ts)) (state (value x ts ∷ []) (size list) (peakOf ts))
+  pub run : (x : Float) → T (finite x) → runs list 0 0 (state (x ∷ []) 0 1) ≡ out (stopAll x ts) (state (value x ts ∷ []) (size list) (exactPeak ts))
 
-whole : {s : Sum} {id : Bool} {ns : Nodes} {ts : List Power} {n d : ℕ} {r : Float → Float} {q : ℕ} {b : Float → ℕ → Option ℕ} → More s id ns n d r q b → n ≤ 2048 → d ≤ 129
-    → ((x : Float) → r x ≡ value x ts) → ((x : Float) → b x 0 ≡ firstNotFinite (inAll x ts)) → q ≡ peakOf ts → 1 ≤ q → q ≤ 256 → Whole s id ns ts
-whole {ts = ts} {q = q} h few deep er eb eq low high =
+whole-of : {s : Sum} {id : Bool} {ns : Nodes} {ts : List Power} {n d : ℕ} {r : Float → Float} {q : ℕ} {b : Float → ℕ → Option Stop} → More s id ns n d r q b → n ≤ 2048 → d ≤ 129
+    → ((x : Float) → r x ≡ value x ts) → ((x : Float) → b x 0 ≡ stopAll x ts) → q ≡ exactPeak ts → 1 ≤ q → q ≤ 256 → Whole s id ns ts
+whole-of {ts = ts} {q = q} h few deep er eb eq low high =
     let en : 0 + size (h .list) ≡ size (h .list) = omega arith in
-    let ep : max 1 (q + (0 + 0)) ≡ peakOf ts = omega arith in
+    let ep : max 1 (q + (0 + 0)) ≡ exactPeak ts = omega arith in
     record {
       list = h .list;
       fine = fine-more 2048 129 (h .built .fine) few deep;
@@ -154,43 +173,88 @@ whole {ts = ts} {q = q} h few deep er eb eq low high =
       run = λ x fx. h .built .yields x fx .run [] 0 0 0 1 (omega arith) (omega arith) ∙ (λ i. out (eb x i) (state (er x i ∷ []) (en i) (ep i)));
     }
 
-pub in-all : (x : Float) (k : ℕ) (c : Float) (ts : List Power) {a b : ℕ} → a ≡ 2 * length ts - cond (isX k c) 1 0 → b ≡ a + costOf k c
-    → or (firstNotFinite (inTerm a x k c)) (firstNotFinite (inSum b x (termValue x k c) ts)) ≡ firstNotFinite (inAll x (power k c ∷ ts))
-unfolding inAll
-in-all x k c ts {a} ea eb =
+stop-all : (x : Float) (k : Exponent) (c : Float) (ts : List Power) {a b : ℕ} → a ≡ 2 * length ts - cond (isX k c) 1 0 → b ≡ a + costOf k c
+    → or (stopTerm a x k c) (stopSum b x (termValue x k c) ts) ≡ stopAll x (power k c ∷ ts)
+unfolding stopAll
+stop-all x k c ts {a} ea eb =
     let A = 2 * length ts - cond (isX k c) 1 0 in
     let ec : _ ≡ A + costOf k c = eb ∙ ap (λ (n : ℕ). n + costOf k c) ea in
-    (λ i. or (firstNotFinite (inTerm (ea i) x k c)) (firstNotFinite (inSum (ec i) x (termValue x k c) ts)))
-    ∙ sym (first-append (inTerm A x k c) (inSum (A + costOf k c) x (termValue x k c) ts))
+    λ i. or (stopTerm (ea i) x k c) (stopSum (ec i) x (termValue x k c) ts)
 
-peak-is : (k : ℕ) (c : Float) (ts : List Power) → isX k c ≡ false → suc (1 + length ts) ≡ peakOf (power k c ∷ ts)
-unfolding peakOf
-peak-is k c [] e = rw e (omega arith)
-peak-is k c (t ∷ ts) e = omega arith
+-- the peak where something is written for the first term
+first-peak : (k : Exponent) (c : Float) (ts : List Power) → isX k c ≡ false → Rising (suc (twice k)) ts → peakAfter (cond (light k c) 1 2) ts ≡ exactPeak (power k c ∷ ts)
+unfolding peakAfter peakOf rootFirst
+first-peak (whole k) c [] e up = rw e
+first-peak (whole k) c (power l d ∷ ts) e up = rw e (peak-after (suc (max 2 (cond (light l d) 1 2))) ts (omega arith) ∙ two (light l d))
+  where
+    two : (b : Bool) → suc (max 2 (cond b 1 2)) + length ts ≡ suc (suc (suc (length ts))) - 0
+    two true = omega arith
+    two false = omega arith
+first-peak half c [] e up = go (eq c one64)
+  where
+    go : (b : Bool) → cond b 1 2 ≡ 2 - cond b 1 0
+    go true = refl
+    go false = refl
+first-peak half c (power half d ∷ ts) e up = absurd (omega (arith, up .0))
+first-peak half c (power (whole l) d ∷ ts) e up = peak-after (suc (max (cond (eq c one64) 1 2) (cond (isX (whole l) d) 1 2))) ts (low (eq c one64) (isX (whole l) d)) ∙ go (eq c one64) (isX (whole l) d)
+  where
+    low : (a b : Bool) → 2 ≤ suc (max (cond a 1 2) (cond b 1 2))
+    low true true = omega arith
+    low true false = omega arith
+    low false true = omega arith
+    low false false = omega arith
+
+    go : (a b : Bool) → suc (max (cond a 1 2) (cond b 1 2)) + length ts ≡ suc (suc (suc (length ts))) - cond (a && b) 1 0
+    go true true = omega arith
+    go true false = omega arith
+    go false true = omega arith
+    go false false = omega arith
+
+-- every peak lies between 1 and 2 more than there are terms
+peak-some : (ts : List Power) → (1 ≤ exactPeak ts) × (exactPeak ts ≤ 2 + length ts)
+unfolding peakOf rootFirst
+peak-some [] = (omega arith, omega arith)
+peak-some (power k c ∷ []) = go (isX k c) (isRoot k c) (one-not-both k c)
+  where
+    one-not-both : (k : Exponent) (c : Float) → (isX k c && isRoot k c) ≡ false
+    one-not-both (whole k) c = and-false (isX (whole k) c)
+    one-not-both half c = refl
+
+    go : (a b : Bool) → (a && b) ≡ false → (1 ≤ cond a 1 2 - cond b 1 0) × (cond a 1 2 - cond b 1 0 ≤ 3)
+    go true true e = absurd (true≢false e)
+    go true false e = (omega arith, omega arith)
+    go false true e = (omega arith, omega arith)
+    go false false e = (omega arith, omega arith)
+peak-some (power k c ∷ power l d ∷ ts) = go (isRoot k c && isX l d)
+  where
+    go : (b : Bool) → (1 ≤ suc (suc (suc (length ts))) - cond b 1 0) × (suc (suc (suc (length ts))) - cond b 1 0 ≤ 2 + suc (suc (length ts)))
+    go true = (omega arith, omega arith)
+    go false = (omega arith, omega arith)
 
 module _ (left : ℕ) where
   -- something is written for it
-  first : {s : Sum} {ts : List Power} (p c : Float) (k : ℕ) (a : Record) (i m : Nodes) → T (isNumber p) → T (isNumber c) → smallWhole p ≡ Is k → isX k c ≡ false → piece p k c ≡ rec a i m
-      → Good left s → Listed s ts → length ts ≤ 64 → Whole s (isBare (formOf k)) (piece p k c) (power k c ∷ ts)
+  first : {s : Sum} {ts : List Power} (p c : Float) (k : Exponent) (a : Record) (i m : Nodes) → T (isNumber p) → T (isNumber c) → IsWholeOrHalf p k → isX k c ≡ false → piece p k c ≡ rec a i m
+      → Good left s → Listed s ts → Rising (suc (twice k)) ts → length ts ≤ 64 → Whole s (isBare (formOf k)) (piece p k c) (power k c ∷ ts)
   unfolding value
-  first {s} {ts} p c k a i m fp fc w n e g d few =
-      let y : Built (piece p k c) 4 1 (λ x. termValue x k c) 2 (λ x at. firstNotFinite (inTerm at x k c)) = rw n at (built-term p c k fp fc w) in
-      let h = more left g d (isBare (formOf k)) a i m 4 1 (λ x. termValue x k c) 1 (λ x at. firstNotFinite (inTerm at x k c)) (omega arith) (omega arith) (rw e at y) in
+  first {s} {ts} p c k a i m fp fc w n e g d up few =
+      let q = first-peak k c ts n up in
+      let u = peak-some (power k c ∷ ts) in
+      let h = more left g d (isBare (formOf k)) a i m 4 1 (λ x. termValue x k c) (cond (light k c) 1 2) (λ x at. stopTerm at x k c) (omega arith) (peak-low (light k c)) (rw e at (built-term p c k fp fc w)) in
       let z : size (rec a i m) ≡ costOf k c = ap size (sym e) ∙ piece-size p c k in
-      rw e (whole h (omega arith) (omega arith) (λ x. refl) (λ x. in-all x k c ts (rw n (omega arith)) (omega (arith, z))) (peak-is k c ts n) (omega arith) (omega arith))
+      rw e (whole-of h (omega arith) (omega arith) (λ x. refl) (λ x. stop-all x k c ts (rw n (omega arith)) (omega (arith, z))) q (omega arith) (omega arith))
 
   -- bare x
-  first-bare : {s : Sum} {ts : List Power} (c : Float) → eq c one64 ≡ true → Good left s → Listed s ts → Rising 2 ts → length ts ≤ 64 → Whole s true end (power 1 c ∷ ts)
-  unfolding value termValue times inTerm firstNotFinite cost peakOf
+  first-bare : {s : Sum} {ts : List Power} (c : Float) → eq c one64 ≡ true → Good left s → Listed s ts → Rising 3 ts → length ts ≤ 64 → Whole s true end (power (whole 1) c ∷ ts)
+  unfolding value termValue times inTerm firstNotFinite cost peakOf rootFirst
   first-bare {ts = ts} c e g d up few =
-      whole (only left g d up few) (omega arith) (omega arith) (λ x. rw e) (λ x. places x) (peaks ts) (low ts) (high ts few)
+      whole-of (only left g d up few) (omega arith) (omega arith) (λ x. rw e) (λ x. places x) (peaks ts) (low ts) (high ts few)
     where
-      places : (x : Float) → firstNotFinite (inSum (0 + (2 * length ts - 1)) x x ts) ≡ firstNotFinite (inAll x (power 1 c ∷ ts))
-      places x = rw e at (in-all x 1 c ts {a = 2 * length ts - 1} {b = 0 + (2 * length ts - 1)} (rw e) (rw e (omega arith)))
+      places : (x : Float) → stopSum (0 + (2 * length ts - 1)) x x ts ≡ stopAll x (power (whole 1) c ∷ ts)
+      places x = rw e at (stop-all x (whole 1) c ts {a = 2 * length ts - 1} {b = 0 + (2 * length ts - 1)} (rw e) (rw e (omega arith)))
 
-      peaks : (us : List Power) → onlyPeak us ≡ peakOf (power 1 c ∷ us)
+      peaks : (us : List Power) → onlyPeak us ≡ exactPeak (power (whole 1) c ∷ us)
       peaks [] = rw e
-      peaks (u ∷ us) = omega arith
+      peaks (power k d ∷ us) = omega arith
 
       low : (us : List Power) → 1 ≤ onlyPeak us
       low [] = omega arith
@@ -200,20 +264,21 @@ module _ (left : ℕ) where
       high [] h = omega arith
       high (u ∷ us) h = omega arith
 
-  first-term : {s : Sum} {ts : List Power} (p c : Float) (k : ℕ) → T (isNumber p) → T (isNumber c) → smallWhole p ≡ Is k → Good left s → Listed s ts → Rising (suc k) ts → length ts ≤ 64
+  first-term : {s : Sum} {ts : List Power} (p c : Float) (k : Exponent) → T (isNumber p) → T (isNumber c) → IsWholeOrHalf p k → Good left s → Listed s ts → Rising (suc (twice k)) ts → length ts ≤ 64
       → Whole s (isBare (formOf k)) (piece p k c) (power k c ∷ ts)
   unfolding append
-  first-term p c zero fp fc w g d up few = first p c 0 _ _ _ fp fc w refl refl g d few
-  first-term {s} {ts} p c (suc zero) fp fc w g d up few = go (eq c one64) refl
+  first-term p c (whole zero) fp fc w g d up few = first p c (whole 0) _ _ _ fp fc w refl refl g d up few
+  first-term p c half fp fc w g d up few = first p c half _ _ _ fp fc w refl refl g d up few
+  first-term {s} {ts} p c (whole (suc zero)) fp fc w g d up few = go (eq c one64) refl
     where
-      go : (b : Bool) → eq c one64 ≡ b → Whole s true (piece p 1 c) (power 1 c ∷ ts)
-      go true e = let z : piece p 1 c ≡ end = rw e in rw z (first-bare c e g d up few)
-      go false e = first p c 1 (push c) end (one (does prim.Mul)) fp fc w e (rw e) g d few
-  first-term p c (suc (suc zero)) fp fc w g d up few = first p c 2 _ _ _ fp fc w refl refl g d few
-  first-term p c (suc (suc (suc n))) fp fc w g d up few = first p c (suc (suc (suc n))) _ _ _ fp fc w refl refl g d few
+      go : (b : Bool) → eq c one64 ≡ b → Whole s true (piece p (whole 1) c) (power (whole 1) c ∷ ts)
+      go true e = let z : piece p (whole 1) c ≡ end = rw e in rw z (first-bare c e g d up few)
+      go false e = first p c (whole 1) (push c) end (one (does prim.Mul)) fp fc w e (rw e) g d up few
+  first-term p c (whole (suc (suc zero))) fp fc w g d up few = first p c (whole 2) _ _ _ fp fc w refl refl g d up few
+  first-term p c (whole (suc (suc (suc n)))) fp fc w g d up few = first p c (whole (suc (suc (suc n)))) _ _ _ fp fc w refl refl g d up few
 
-  pub whole-list : {s : Sum} {ts : List Power} → Good left s → Listed s ts → Rising 0 ts → length ts ≤ 65 → Whole s false end ts
-  unfolding write append size inAll firstNotFinite value peakOf
+  pub whole-list : {s : Sum} {ts : List Power} → Good left s → Listed s ts → Rising 0 ts → length ts ≤ 64 → Whole s false end ts
+  unfolding write append size stopAll value peakOf rootFirst
   whole-list g nothing up few = record {
     list = two (push zero64) (does prim.Mul);
     fine = fine-more 2048 129 (built-zero .fine) (omega arith) (omega arith);
@@ -226,4 +291,4 @@ module _ (left : ℕ) where
   whole-list g (term {p} {k = l} {j} {c} {r = s} {ts} z re w t) up few =
       let f = first-good left kinds.X p j c s g in
       let h = first-term p (c .re) l (f .entry-good .number) (f .entry-good .re) w (f .rest) t (up .1) (omega arith) in
-      record { list = h .list; fine = h .fine; written = write-term p j c s false end l z (f .entry-good .re) re w ∙ h .written; run = h .run }
+      record { list = h .list; fine = h .fine; written = write-term p j c s false end l z (f .entry-good .number) (f .entry-good .re) re w ∙ h .written; run = h .run }
