@@ -27,6 +27,7 @@ use Rattle.calculus.specs.Integral as integral
 use Rattle.drafts.specs.Writing as drafts
 use Rattle.writer.specs.ToNodes as writer
 use Rattle.inverse.specs.Inverse as inverse
+use Rattle.radicals.specs.Root as radicals
 use Rattle.running.specs.Primitives as acts
 use Rattle.running.specs.Running as runs
 use Rattle.answers.specs.Making as answers
@@ -90,7 +91,7 @@ writing = tt
 
 -- running a list
 unfoldable pub acting : Unit {0}
-unfolding acts.times acts.power acts.leave acts.apply acts.act runs.runs runs.modified runs.runOne runs.runNodes runs.runList
+unfolding radicals.root acts.times acts.power acts.squareRoot acts.leave acts.apply acts.act runs.runs runs.modified runs.runOne runs.runNodes runs.runList
 acting = tt
 
 -- what the entries answer

@@ -5,6 +5,7 @@ pub mod Finite
 pub mod Listed
 pub mod Pieces
 pub mod Rising
+pub mod RootExamples
 pub mod Steps
 pub mod Stops
 pub mod Terms

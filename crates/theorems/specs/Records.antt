@@ -45,12 +45,12 @@ abbrev pub isRoot : Exponent → Float → Bool
 isRoot (whole k) c = false
 isRoot half c = eq c one64
 
--- whether bare √x is the first term, and no other follows it or bare x does
+-- whether the first term is bare √x, and the only one or followed by bare x
 unfoldable pub rootFirst : List Power → Bool
 rootFirst [] = false
 rootFirst (power k c ∷ []) = isRoot k c
 rootFirst (power k c ∷ power l d ∷ ts) = isRoot k c && isX l d
 
--- the peak of the run: document 01's, which is n + 1 then, but n in that case, since neither √x nor x takes a number beside it
+-- the peak of the run: document 01's, but in that case one less, which is n, since neither √x nor x needs a number beside it
 abbrev pub exactPeak : List Power → ℕ
 exactPeak ts = peakOf ts - cond (rootFirst ts) 1 0

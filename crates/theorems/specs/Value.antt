@@ -25,16 +25,17 @@ pub data Exponent : Type 0 where
 pub data Power : Type 0 where
   power : Exponent → Float → Power
 
--- p is the exponent k, a whole number from 0 to 64; or 0.5 too. Both are compared as numbers
+-- p is the whole number k, from 0 to 64
 abbrev pub IsWhole : Float → Exponent → Type 0
 IsWhole p (whole k) = smallWhole p ≡ Is k
 IsWhole p half = ⊥
 
+-- p is such a number, or 0.5; it is compared as a number
 abbrev pub IsWholeOrHalf : Float → Exponent → Type 0
 IsWholeOrHalf p (whole k) = smallWhole p ≡ Is k
 IsWholeOrHalf p half = eq p half64 ≡ true
 
--- the terms of the sum that aren't zero are powers of x that are allowed, and ts lists them with the real parts of their coefficients
+-- the terms of the sum that aren't zero are x to powers that are allowed, and ts lists them with the real parts of their coefficients
 pub data TermsOf (Allowed : Float → Exponent → Type 0) : Sum → List Power → Type 0 where
   nothing : TermsOf Allowed Sum.none []
   zero-term : {k : ℕ} {p : Float} {j : Sum} {c : Complex} {r : Sum} {ts : List Power}
@@ -43,11 +44,11 @@ pub data TermsOf (Allowed : Float → Exponent → Type 0) : Sum → List Power 
       → complex.same c complex.zero ≡ false → Allowed p k → TermsOf Allowed r ts
       → TermsOf Allowed (and kinds.X p j c r) (power k (c .re) ∷ ts)
 
--- they are whole powers from 0 to 64
+-- whole powers from 0 to 64
 abbrev pub Terms : Sum → List Power → Type 0
 Terms s ts = TermsOf IsWhole s ts
 
--- they are whole powers from 0 to 64, or the power 0.5
+-- whole powers from 0 to 64, or the power 0.5
 abbrev pub RootTerms : Sum → List Power → Type 0
 RootTerms s ts = TermsOf IsWholeOrHalf s ts
 

@@ -49,8 +49,8 @@ pub record Built (N : Nodes) (n d : ℕ) (r : Float → Float) (q : ℕ) (b : Fl
   pub fine : Fine n d N
   pub yields : (x : Float) → T (finite x) → Yields N x (r x) q (b x)
 
-pub rebuild : {N : Nodes} {n d : ℕ} {r : Float → Float} {q : ℕ} {b : Float → ℕ → Option Stop} (m e p : ℕ) (c : Float → ℕ → Option Stop) → n ≤ m → d ≤ e → q ≡ p → ((x : Float) (at : ℕ) → b x at ≡ c x at)
-    → Built N n d r q b → Built N m e r p c
+pub rebuild : {N : Nodes} {n d : ℕ} {r : Float → Float} {q : ℕ} {b : Float → ℕ → Option Stop} (m e p : ℕ) (c : Float → ℕ → Option Stop) → n ≤ m → d ≤ e → q ≡ p
+    → ((x : Float) (at : ℕ) → b x at ≡ c x at) → Built N n d r q b → Built N m e r p c
 rebuild {N} {r = r} {b = b} m e p c few deep same places g = record {
   fine = fine-more m e (g .fine) few deep;
   yields = λ x fx. subst (λ (k : ℕ). Yields N x (r x) k (c x)) same (reyield (b x) (c x) (places x) (g .yields x fx));
@@ -83,7 +83,8 @@ module _ {P : Nodes} {t : Float → Float} {q : ℕ} {e : Float → ℕ → Opti
   built-join {N} {n} {d} few K low g = record {
     fine = fine-more (n + 7) (d + 2)
         (fine-say (append (wrapped N) P) (does prim.Add)
-        (fine-append (wrapped N) P (fine-wrapped N (omega arith) (g .fine)) (fine-more 4 (d + 2) (f .fine) (omega arith) (omega arith))) (omega arith) (plain-does prim.Add)) (omega arith) (omega arith);
+        (fine-append (wrapped N) P (fine-wrapped N (omega arith) (g .fine)) (fine-more 4 (d + 2) (f .fine) (omega arith) (omega arith)))
+        (omega arith) (plain-does prim.Add)) (omega arith) (omega arith);
     yields = λ x fx. join-yields K low (g .yields x fx) (f .yields x fx);
   }
 

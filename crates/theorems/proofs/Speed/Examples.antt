@@ -32,14 +32,14 @@ use Rattle.theorems.specs.Contract.PowerSum.{PowerSum}
 use Rattle.theorems.specs.Value as value
 use Rattle.theorems.proofs.Speed.Theorem.{power-sum}
 
-abbrev three64 : Float
+abbrev pub three64 : Float
 three64 = ofBits binary64 0x4008000000000000
 
 -- c times x to the p, before the rest
-abbrev x-to : Float → Float → Sum → Sum
+abbrev pub x-to : Float → Float → Sum → Sum
 x-to p c r = and kinds.X p Sum.none (complex.real c) r
 
-abbrev run-written : Written → Float → RunAnswer
+abbrev pub run-written : Written → Float → RunAnswer
 run-written (wrote ns) x = runNodes ns x
 run-written (refused q) x = Refused q 0
 
@@ -94,5 +94,6 @@ large = ofBits binary64 0x7e70000000000000
 
 -- its square isn't finite, and is formed at place 7
 pub refused-at-7 : (run-written (toNodes false sum) large ≡ Refused NotFinite 7) × (firstNotFinite (inAll large terms) ≡ some 7)
-unfolding ofBits toBits eq lt add mul belowEpsilon smallWhole form write append size count kindOf primitiveOf times power leave apply act runs runNodes termValue plusTerms cost inTerm inSum inAll firstNotFinite
+unfolding ofBits toBits eq lt add mul belowEpsilon smallWhole form write append size count kindOf primitiveOf times power leave apply act runs runNodes
+    termValue plusTerms cost inTerm inSum inAll firstNotFinite
 refused-at-7 = (refl, refl)

@@ -45,7 +45,8 @@ then-yields {A} {x} {r} {t} {v} {q} {b} op low high g k f = record {
       restate (or (b at) (bad v (at + size A + 1))) (v ∷ s) {n = n + size A + 1 + 1} {p = max p₂ (suc (length s) + h)} (omega (arith, size-append A (two (push t) op))) (omega arith)
       (both A (two (push t) op) at h (b at) (bad v (at + size A + 1)) (state (x ∷ s) n p) (state (r ∷ s) (n + size A) p₁) (state (v ∷ s) (n + size A + 1 + 1) (max p₂ (suc (length s) + h)))
       (g .run s at h n p (omega arith) i)
-      (both (one (push t)) (one op) (at + size A) h none (bad v (at + size A + 1)) (state (r ∷ s) (n + size A) p₁) (state (t ∷ r ∷ s) (n + size A + 1) p₂) (state (v ∷ s) (n + size A + 1 + 1) (max p₂ (suc (length s) + h)))
+      (both (one (push t)) (one op) (at + size A) h none (bad v (at + size A + 1))
+      (state (r ∷ s) (n + size A) p₁) (state (t ∷ r ∷ s) (n + size A + 1) p₂) (state (v ∷ s) (n + size A + 1 + 1) (max p₂ (suc (length s) + h)))
       (push-out t (r ∷ s) (at + size A) h (n + size A) p₁ k (omega arith))
       (f .run s (at + size A + 1) h (n + size A + 1) p₂ (omega arith))));
 }
@@ -57,7 +58,8 @@ square-yields x = record {
   run = λ s at h n p room i.
       let p₁ = max p (suc (suc (length s)) + h) in
       restate (bad (x ⊗ x) (at + 1)) ((x ⊗ x) ∷ s) {n = n + 1 + 1} {p = max p₁ (suc (length s) + h)} (omega arith) (omega arith)
-      (both (one (does prim.Dup)) (one (does prim.Mul)) at h none (bad (x ⊗ x) (at + 1)) (state (x ∷ s) n p) (state (x ∷ x ∷ s) (n + 1) p₁) (state ((x ⊗ x) ∷ s) (n + 1 + 1) (max p₁ (suc (length s) + h)))
+      (both (one (does prim.Dup)) (one (does prim.Mul)) at h none (bad (x ⊗ x) (at + 1))
+      (state (x ∷ s) n p) (state (x ∷ x ∷ s) (n + 1) p₁) (state ((x ⊗ x) ∷ s) (n + 1 + 1) (max p₁ (suc (length s) + h)))
       (dup-out x s at h n p (omega arith))
       (multiplies x x .run s (at + 1) h (n + 1) p₁ (omega arith)));
 }
@@ -104,7 +106,8 @@ join-yields {N} {P} {x} {r} {t} {k} {q} {b} {d} K low g f = record {
       let e₂ : at + (size N + 2) + size P ≡ at + size (append (wrapped N) P) = omega (arith, size-wrapped N, size-append (wrapped N) P) in
       restate (or (or a₁ a₂) a₃) ((r ⊕ t) ∷ s) {n = n₁ + size P + 1} {p = max p₂ (suc (length s) + h)}
       (omega (arith, size-wrapped N, size-append (wrapped N) P, size-append (append (wrapped N) P) (one (does prim.Add)), size-one (does prim.Add))) (omega arith)
-      (both (append (wrapped N) P) (one (does prim.Add)) at h (or a₁ a₂) a₃ (state (x ∷ s) n p) (state (t ∷ r ∷ s) (n₁ + size P) p₂) (state ((r ⊕ t) ∷ s) (n₁ + size P + 1) (max p₂ (suc (length s) + h)))
+      (both (append (wrapped N) P) (one (does prim.Add)) at h (or a₁ a₂) a₃
+      (state (x ∷ s) n p) (state (t ∷ r ∷ s) (n₁ + size P) p₂) (state ((r ⊕ t) ∷ s) (n₁ + size P + 1) (max p₂ (suc (length s) + h)))
       (both (wrapped N) P at h a₁ a₂ (state (x ∷ s) n p) (state (x ∷ r ∷ s) n₁ p₁) (state (t ∷ r ∷ s) (n₁ + size P) p₂)
       (on-out K g s at h n p (omega arith) i)
       (subst (λ (m : ℕ). runs P m h (state (x ∷ r ∷ s) n₁ p₁) ≡ out a₂ (state (t ∷ r ∷ s) (n₁ + size P) p₂)) e₁
@@ -126,7 +129,8 @@ dup-yields {P} {x} {t} {d} f = record {
       let e : at + 1 + size P ≡ at + size (append (one (does prim.Dup)) P) = omega (arith, size-append (one (does prim.Dup)) P) in
       restate (or a₁ a₂) ((x ⊕ t) ∷ s) {n = n + 1 + size P + 1} {p = max p₂ (suc (length s) + h)}
       (omega (arith, size-append (one (does prim.Dup)) P, size-append (append (one (does prim.Dup)) P) (one (does prim.Add)))) (omega arith)
-      (both (append (one (does prim.Dup)) P) (one (does prim.Add)) at h a₁ a₂ (state (x ∷ s) n p) (state (t ∷ x ∷ s) (n + 1 + size P) p₂) (state ((x ⊕ t) ∷ s) (n + 1 + size P + 1) (max p₂ (suc (length s) + h)))
+      (both (append (one (does prim.Dup)) P) (one (does prim.Add)) at h a₁ a₂
+      (state (x ∷ s) n p) (state (t ∷ x ∷ s) (n + 1 + size P) p₂) (state ((x ⊕ t) ∷ s) (n + 1 + size P + 1) (max p₂ (suc (length s) + h)))
       (both (one (does prim.Dup)) P at h none a₁ (state (x ∷ s) n p) (state (x ∷ x ∷ s) (n + 1) p₁) (state (t ∷ x ∷ s) (n + 1 + size P) p₂)
       (dup-out x s at h n p (omega arith))
       (f .run (x ∷ s) (at + 1) h (n + 1) p₁ (omega arith) (omega arith)))

@@ -89,8 +89,8 @@ module _ (left : ℕ) where
       term-chain (entry k (size i) p complex.zero) i (entry l (size j) q complex.zero) j (entry l′ (size j′) q′ complex.zero) j′ K (first-key f) (first-key (first-good l′ q′ j′ d′ r′ (f .rest)))
       .less b (f .before)
 
-  above : {r : Sum} {ts : List Power} (p : Float) (i : Sum) (k : Exponent) → TermKey kinds.X p i → isEmpty i ≡ true → T (finite p) → IsWholeOrHalf p k → Good left r → Listed r ts → Before kinds.X p i r
-      → Rising (suc (twice k)) ts
+  above : {r : Sum} {ts : List Power} (p : Float) (i : Sum) (k : Exponent) → TermKey kinds.X p i → isEmpty i ≡ true → T (finite p) → IsWholeOrHalf p k
+      → Good left r → Listed r ts → Before kinds.X p i r → Rising (suc (twice k)) ts
   above p i k K e fp w g nothing b = tt
   above p i k K e fp w g (zero-term {k = l} {p = q} {j} {c = d} {r} z t) b =
       above p i k K e fp w (first-good l q j d r g .rest) t (before-rest kinds.X l p q i j d r K g b)

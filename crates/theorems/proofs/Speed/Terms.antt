@@ -105,7 +105,8 @@ zero-fine = fine-two 1 (push zero64) (does prim.Mul) (omega arith) (plain-push z
 
 pub piece-fine : (p c : Float) (k : Exponent) → T (isNumber p) → T (isNumber c) → Fine 4 1 (piece p k c)
 piece-fine p c half fp fc =
-    fine-append (one (does prim.Sqrt)) (tail (eq c one64) c) (fine-more 2 1 (fine-one 1 (does prim.Sqrt) (omega arith) (plain-does prim.Sqrt)) (omega arith) (omega arith)) (tail-fine (eq c one64) c fc)
+    fine-append (one (does prim.Sqrt)) (tail (eq c one64) c)
+    (fine-more 2 1 (fine-one 1 (does prim.Sqrt) (omega arith) (plain-does prim.Sqrt)) (omega arith) (omega arith)) (tail-fine (eq c one64) c fc)
 piece-fine p c (whole zero) fp fc =
     fine-append (two (push zero64) (does prim.Mul)) (two (push c) (does prim.Add)) zero-fine
     (fine-two 1 (push c) (does prim.Add) (omega arith) (plain-push c (number-fits c fc)) (plain-does prim.Add))

@@ -90,8 +90,8 @@ module _ (left : ℕ) where
   first-good l q j d r g = good-and left (entry l (entries j) q d) j r g
 
   -- something is written
-  more : {s : Sum} {ts : List Power} → Good left s → Listed s ts → (id : Bool) (a : Record) (i m : Nodes) (n d : ℕ) (r : Float → Float) (k : ℕ) (b : Float → ℕ → Option Stop) → n + 7 * length ts ≤ 2048 → 1 ≤ k
-      → Built (rec a i m) n d r k b
+  more : {s : Sum} {ts : List Power} → Good left s → Listed s ts → (id : Bool) (a : Record) (i m : Nodes) (n d : ℕ) (r : Float → Float) (k : ℕ) (b : Float → ℕ → Option Stop)
+      → n + 7 * length ts ≤ 2048 → 1 ≤ k → Built (rec a i m) n d r k b
       → More s id (rec a i m) (n + 7 * length ts) (d + 2 * length ts) (λ x. plusTerms x (r x) ts) (peakAfter k ts)
       (λ x at. or (b x (at + 2 * length ts)) (stopSum (at + 2 * length ts + size (rec a i m)) x (r x) ts))
   unfolding write plusTerms append stopSum peakAfter
@@ -118,7 +118,8 @@ module _ (left : ℕ) where
         list = h .list;
         written = (rw (and-false (not id)) at (write-term p j c s id N l z (f .entry-good .number) (f .entry-good .re) re w)) ∙ h .written;
         built = rebuild _ _ _ _ (omega arith) (omega arith) refl
-            (λ x at. same-places x (r x) l (c .re) ts {a = at + 2 * suc (length ts) + size N} (ap (b x) (e at)) (omega arith) (omega (arith, piece-size p (c .re) l)) (omega (arith, piece-size p (c .re) l, joined-size N P)))
+            (λ x at. same-places x (r x) l (c .re) ts {a = at + 2 * suc (length ts) + size N} (ap (b x) (e at))
+            (omega arith) (omega (arith, piece-size p (c .re) l)) (omega (arith, piece-size p (c .re) l, joined-size N P)))
             (h .built);
       }
 
@@ -141,7 +142,8 @@ module _ (left : ℕ) where
         list = h .list;
         written = write-term p j c s true end l z (f .entry-good .number) (f .entry-good .re) re w ∙ h .written;
         built = rebuild _ _ _ _ (omega arith) (omega arith) (peak-after 3 ts (omega arith))
-            (λ x at. same-places x x l (c .re) ts {o = none} {o′ = none} {a = at + (2 * suc (length ts) - 1)} refl (omega arith) (omega (arith, piece-size p (c .re) l)) (omega (arith, piece-size p (c .re) l, dup-size P)))
+            (λ x at. same-places x x l (c .re) ts {o = none} {o′ = none} {a = at + (2 * suc (length ts) - 1)} refl
+            (omega arith) (omega (arith, piece-size p (c .re) l)) (omega (arith, piece-size p (c .re) l, dup-size P)))
             (h .built);
       }
 
@@ -196,7 +198,8 @@ first-peak half c [] e up = go (eq c one64)
     go true = refl
     go false = refl
 first-peak half c (power half d ∷ ts) e up = absurd (omega (arith, up .0))
-first-peak half c (power (whole l) d ∷ ts) e up = peak-after (suc (max (cond (eq c one64) 1 2) (cond (isX (whole l) d) 1 2))) ts (low (eq c one64) (isX (whole l) d)) ∙ go (eq c one64) (isX (whole l) d)
+first-peak half c (power (whole l) d ∷ ts) e up =
+    peak-after (suc (max (cond (eq c one64) 1 2) (cond (isX (whole l) d) 1 2))) ts (low (eq c one64) (isX (whole l) d)) ∙ go (eq c one64) (isX (whole l) d)
   where
     low : (a b : Bool) → 2 ≤ suc (max (cond a 1 2) (cond b 1 2))
     low true true = omega arith
@@ -239,7 +242,8 @@ module _ (left : ℕ) where
   first {s} {ts} p c k a i m fp fc w n e g d up few =
       let q = first-peak k c ts n up in
       let u = peak-some (power k c ∷ ts) in
-      let h = more left g d (isBare (formOf k)) a i m 4 1 (λ x. termValue x k c) (cond (light k c) 1 2) (λ x at. stopTerm at x k c) (omega arith) (peak-low (light k c)) (rw e at (built-term p c k fp fc w)) in
+      let h = more left g d (isBare (formOf k)) a i m 4 1 (λ x. termValue x k c) (cond (light k c) 1 2)
+      (λ x at. stopTerm at x k c) (omega arith) (peak-low (light k c)) (rw e at (built-term p c k fp fc w)) in
       let z : size (rec a i m) ≡ costOf k c = ap size (sym e) ∙ piece-size p c k in
       rw e (whole-of h (omega arith) (omega arith) (λ x. refl) (λ x. stop-all x k c ts (rw n (omega arith)) (omega (arith, z))) q (omega arith) (omega arith))
 

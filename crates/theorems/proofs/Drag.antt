@@ -1,0 +1,36 @@
+-- A drag formula, x to the 1.5, from its bytes to the bits of its speed, 1.5√x, computed. Assumes nothing.
+use mathlib.Core.Path.{_≡_, refl}
+use mathlib.Core.List.{List, [], _∷_}
+use Prim.Native.Nat.{ℕ}
+use lib.Ieee.{Float, binary64, ofBits}
+use Rattle.limits.specs.declared.Refusal.the-variants.{NeedsMath}
+use Rattle.formats.specs.declared.record.Primitive.the-variants.{Pow, Sqrt, Mul}
+use Rattle.drafts.specs.Writing.{push, does}
+use Rattle.running.specs.declared.RunAnswer.the-variants.{Value, Refused}
+use Rattle.running.specs.Running.{runList}
+use Rattle.answers.specs.Making.{made}
+use Rattle.algebra.specs.Entries.{derivative}
+use Rattle.theorems.specs.Cases.{bytesOf}
+use Rattle.theorems.proofs.Computing.{arithmetic, comparing, listBytes, listRules, sumBytes, maps, products, raised, steps, reading, calculus, writing, acting, answering}
+
+abbrev number : ℕ → Float
+number b = ofBits binary64 b
+
+abbrev one-and-a-half : Float
+one-and-a-half = number 0x3ff8000000000000
+
+abbrev speed : List ℕ
+speed = bytesOf (does Sqrt ∷ push one-and-a-half ∷ does Mul ∷ [])
+
+-- it is derived in three records
+pub derived : derivative (bytesOf (push one-and-a-half ∷ does Pow ∷ [])) ≡ made 3 speed
+unfolding arithmetic comparing listBytes listRules sumBytes maps products raised steps reading calculus writing answering
+derived = refl
+
+-- at 2.25 they give 2.25, in 3 steps, holding 2 numbers; at -0 they give -0, and at -1 they are refused with 14 at place 0
+pub runs :
+    (runList speed (number 0x4002000000000000) ≡ Value (number 0x4002000000000000) 3 2)
+    × (runList speed (number 0x8000000000000000) ≡ Value (number 0x8000000000000000) 3 2)
+    × (runList speed (number 0xbff0000000000000) ≡ Refused NeedsMath 0)
+unfolding arithmetic comparing listBytes listRules acting
+runs = (refl, refl, refl)
