@@ -45,9 +45,9 @@ const READ: Vocabulary = Vocabulary {
     reals_only: false,
 };
 
-/// Neg, Not, Reciprocal; Add, Sub, Mul, Div, Pow; On.
+/// Neg, Not, Sqrt, Reciprocal; Add, Sub, Mul, Div, Pow; On.
 const RUN: Vocabulary = Vocabulary {
-    unary: &[5, 6, 16],
+    unary: &[5, 6, 7, 16],
     binary: &[8, 9, 10, 11, 12],
     modifiers: &[modifier::ON],
     reals_only: true,
@@ -939,8 +939,40 @@ pub fn near_limits_of_the_run() -> Vec<Vec<u8>> {
     lists
 }
 
+/// Numbers whose roots are stored: squares and their neighbours, powers of 2,
+/// subnormals, the largest, some below zero, and numbers next to the square of
+/// a middle of two neighbours, where rounding is hardest.
+const ROOTS_OF: [&str; 26] = [
+    "0",
+    "-0",
+    "1",
+    "2",
+    "3",
+    "4",
+    "3.9999999999999996",
+    "4.000000000000001",
+    "0.9999999999999999",
+    "1.0000000000000002",
+    "2^-1022",
+    "2^-1021",
+    "2^1023",
+    "2^1022",
+    "5e-324",
+    "1e-323",
+    "1.5e-323",
+    "2.2250738585072009e-308",
+    "1.7976931348623157e308",
+    "1.0000000000000004",
+    "1.0000000000000007",
+    "9007199254740993",
+    "9007199254740995",
+    "-5e-324",
+    "-1",
+    "-1e308",
+];
+
 /// Formulas of dives, whose derivatives are run.
-const FORMULAS: [&str; 12] = [
+const FORMULAS: [&str; 18] = [
     "",
     "0 Pow",
     "2 Pow",
@@ -953,6 +985,13 @@ const FORMULAS: [&str; 12] = [
     "On(1: 3 Pow) On(1: 9 Pow) 33 Pow Add Add",
     "1 Add 7 Pow",
     "1 Add 63 Pow",
+    // drag formulas: their speed has the root of x
+    "1.5 Pow",
+    "1.5 Pow 2 Mul",
+    "Dup 1.5 Pow Add",
+    "Dup 1.5 Pow -12 Mul Flip 48 Mul Add",
+    "Dup 1.5 Pow Flip 2 Pow Sub",
+    "On(1: 1.5 Pow 0.6666666666666666 Mul) On(1: 2 Pow 0.5 Mul) 3 Pow Add Add",
 ];
 
 /// Lists whose runs are stored whatever else they meet: a power of every
@@ -988,6 +1027,21 @@ pub fn runs_to_store() -> Vec<Vec<u8>> {
         for base in ["0", "-0", "5e-324", "-7", "1e308"] {
             add(&format!("Pop {base} {power} Pow"));
         }
+    }
+    for root in ROOTS_OF {
+        add(&format!("Pop {root} Sqrt"));
+    }
+    for words in [
+        "Sqrt",
+        "Pop Sqrt",
+        "Neg Sqrt",
+        "Dup Sqrt Mul",
+        "On(1: Sqrt) Mul",
+        "Sqrt Dup Mul",
+        "Dup Mul Sqrt",
+        "2 Root",
+    ] {
+        add(words);
     }
     for count in [MOST_RECORDS, MOST_RECORDS + 1] {
         add(&"Neg ".repeat(count));

@@ -118,7 +118,7 @@ impl Runner<'_> {
         match (record.kind, record.code) {
             (kind::REAL, _) => format!("push {}", sort(f64::from_bits(record.re))),
             (kind::PRIMITIVE, 8..=12) => format!("primitive {} {:?}", record.code, top(2)),
-            (kind::PRIMITIVE, 5 | 6 | 16) => format!("primitive {} {:?}", record.code, top(1)),
+            (kind::PRIMITIVE, 5..=7 | 16) => format!("primitive {} {:?}", record.code, top(1)),
             (kind, code) => format!("{kind} {code}"),
         }
     }
@@ -230,6 +230,14 @@ impl Runner<'_> {
             }
             5 => self.unary(|a| -a),
             6 => self.unary(|a| 1.0 - a),
+            7 => {
+                let a = self.pop()?;
+                // the processor's root, which is the nearest number; -0 isn't below zero
+                if a < 0.0 {
+                    return Err(NEEDS_MATH);
+                }
+                self.leave(a.sqrt())
+            }
             8 => self.binary(|b, a| b + a),
             9 => self.binary(|b, a| b - a),
             10 => self.binary(|b, a| b * a),
@@ -246,8 +254,8 @@ impl Runner<'_> {
                 self.stack.extend([b, a, b]);
                 Ok(())
             }
-            // Listed, and not run: Sqrt, Exp, Sin, Cos, Max, SinH, CosH, Exp2 to Log10, Root.
-            7 | 13..=15 | 18..=20 | 32..=37 | 39 => Err(NEEDS_MATH),
+            // Listed, and not run: Exp, Sin, Cos, Max, SinH, CosH, Exp2 to Log10, Root.
+            13..=15 | 18..=20 | 32..=37 | 39 => Err(NEEDS_MATH),
             _ => Err(NOT_SUPPORTED),
         }
     }

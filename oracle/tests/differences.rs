@@ -215,6 +215,18 @@ mod reading_and_running {
     }
 
     #[test]
+    fn roots() {
+        let words = "Dup, Mul, Sqrt";
+        assert_eq!(reads(words), "(x)");
+        assert_eq!((runs(words, 2.0), runs(words, -3.0)), (2.0, 3.0));
+        let words = "Sqrt, Dup, Mul";
+        assert_eq!(reads(words), "(x)");
+        assert_eq!(runs(words, 2.0), 2.0000000000000004);
+        let below = runner::run(&text::list(words), -2.0);
+        assert_eq!(below, Err(Refusal::new(14, 0)));
+    }
+
+    #[test]
     fn times_a_power_nought() {
         let words = "Dup, push 0, Pow, Mul";
         assert_eq!(reads(words), "(0x)");

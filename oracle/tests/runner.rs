@@ -84,6 +84,34 @@ fn powers_of_nought() {
     refuses("push -5e-324, Pow", 2.0, 14, 1);
 }
 
+/// The root is the nearest number; zeros keep their sign, and below zero there is none.
+#[test]
+fn roots() {
+    gives("Sqrt", 4.0, 2.0, 1, 1);
+    gives("Sqrt", 2.0, std::f64::consts::SQRT_2, 1, 1);
+    gives("Sqrt", 0.0, 0.0, 1, 1);
+    gives("Sqrt", -0.0, -0.0, 1, 1);
+    // the root of the smallest number, 2^-1074, is 2^-537
+    gives("Sqrt", 5e-324, f64::from_bits((1023 - 537) << 52), 1, 1);
+    gives("Sqrt", f64::MAX, 1.3407807929942596e154, 1, 1);
+    gives("Dup, Sqrt, Mul", 2.25, 3.375, 3, 2);
+    gives("On(1: Sqrt) Mul", 2.25, 3.375, 4, 2);
+    refuses("Sqrt", -5e-324, 14, 0);
+    refuses("Neg Sqrt", 1.0, 14, 1);
+    refuses("Pop Sqrt", 1.0, 1, 1);
+    refuses("push 0.5, Pow", 4.0, 14, 1);
+    refuses("push 2, Root", 4.0, 14, 1);
+    refuses("Sqrt", f64::INFINITY, 15, 0);
+    // a drag formula's derivative: 1.5 times the root of x
+    let list = judge::derivative(&text::list("push 1.5, Pow")).done();
+    let list = list.expect("done");
+    let ran = |x: f64| runner::run(&list, x);
+    assert_eq!(ran(2.25).expect("a value").value, 2.25);
+    assert_eq!(ran(0.0).expect("a value").value, 0.0);
+    assert!(ran(-0.0).expect("a value").value.is_sign_negative());
+    assert_eq!(ran(-1.0), Err(Refusal::new(14, 0)));
+}
+
 #[test]
 fn each_primitive() {
     gives("Identity", -0.0, -0.0, 1, 1);
@@ -103,8 +131,8 @@ fn each_primitive() {
 #[test]
 fn what_it_lacks_and_what_isnt_supported() {
     for name in [
-        "Sqrt", "Exp", "Sin", "Cos", "Max", "SinH", "CosH", "Exp2", "Exp10", "Log", "Ln", "Log2",
-        "Log10", "Root",
+        "Exp", "Sin", "Cos", "Max", "SinH", "CosH", "Exp2", "Exp10", "Log", "Ln", "Log2", "Log10",
+        "Root",
     ] {
         refuses(&format!("Pop {name}"), 2.0, 14, 1);
     }

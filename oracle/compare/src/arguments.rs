@@ -9,13 +9,14 @@ use std::{
 pub const USAGE: &str = "\
 compare: the proved library against the judge, in one process
 
-    compare [--exhaustive LENGTH] [--modifiers] [--lists N] [--seconds S]
+    compare [--exhaustive LENGTH] [--modifiers] [--lists N] [--seconds S] [--roots N]
             [--seed SEED] [--block B] [--threads T] [--record FILE]
 
 --exhaustive LENGTH  all lists of up to LENGTH records of an alphabet of 31
 --modifiers          all short lists of one modifier with bodies of up to one record
 --lists N            N random lists, no two the same, after those near every limit
 --seconds S          random lists until S seconds have passed in all
+--roots N            a list of one Sqrt at N numbers, against the processor's root
 --seed SEED          what random lists start from; otherwise the clock decides, and it is printed
 --block B            only this block of random lists, to see a difference again
 --threads T          otherwise as many as there are cores
@@ -30,6 +31,7 @@ pub struct Settings {
     pub modifiers: bool,
     pub lists: Option<u64>,
     pub seconds: Option<u64>,
+    pub roots: u64,
     pub seed: u64,
     pub block: Option<u64>,
     pub threads: usize,
@@ -53,6 +55,7 @@ pub fn parse(words: impl IntoIterator<Item = String>) -> Result<Settings, String
         modifiers: false,
         lists: None,
         seconds: None,
+        roots: 0,
         seed: fresh_seed(),
         block: None,
         threads: std::thread::available_parallelism().map_or(1, usize::from),
@@ -66,6 +69,7 @@ pub fn parse(words: impl IntoIterator<Item = String>) -> Result<Settings, String
             "--modifiers" => settings.modifiers = true,
             "--lists" => settings.lists = Some(number(&word, value()?)?),
             "--seconds" => settings.seconds = Some(number(&word, value()?)?),
+            "--roots" => settings.roots = number(&word, value()?)?,
             "--seed" => settings.seed = number(&word, value()?)?,
             "--block" => settings.block = Some(number(&word, value()?)?),
             "--threads" => settings.threads = number(&word, value()?)?.clamp(1, 256) as usize,
@@ -74,7 +78,7 @@ pub fn parse(words: impl IntoIterator<Item = String>) -> Result<Settings, String
         }
     }
     let is_asked = settings.exhaustive.is_some() || settings.modifiers || settings.block.is_some();
-    if !is_asked && !settings.is_random() {
+    if !is_asked && !settings.is_random() && settings.roots == 0 {
         return Err("nothing to compare".into());
     }
     Ok(settings)

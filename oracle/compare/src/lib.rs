@@ -7,6 +7,7 @@ pub mod difference;
 pub mod lists;
 pub mod report;
 pub mod room;
+pub mod roots;
 pub mod seen;
 pub mod tally;
 pub mod work;

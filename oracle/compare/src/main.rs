@@ -4,7 +4,7 @@ use std::{env, fs, process::ExitCode};
 
 use compare::{
     arguments::{self, Settings, USAGE},
-    report, work,
+    report, roots, work,
 };
 
 fn main() -> ExitCode {
@@ -20,8 +20,10 @@ fn main() -> ExitCode {
 
 fn compare_all(settings: &Settings, words: &[String]) -> ExitCode {
     println!("seed {}", settings.seed);
-    let compared = work::compare(settings, proved::LIBRARY);
-    let report = report::report(settings, &compared);
+    let roots = roots::compare(proved::LIBRARY, settings.roots, settings.seed);
+    let mut compared = work::compare(settings, proved::LIBRARY);
+    compared.differences.extend(roots.differences);
+    let report = report::report(settings, &compared, roots.compared);
     println!("\n{report}");
     for difference in &compared.differences {
         println!("DIFFERENCE {difference}\n");

@@ -18,7 +18,7 @@ fn origin_name(origin: Origin) -> &'static str {
 }
 
 /// The lines that say how much was compared, and the table by entry and number.
-pub fn report(settings: &Settings, compared: &Compared) -> String {
+pub fn report(settings: &Settings, compared: &Compared, roots: u64) -> String {
     let mut text = String::new();
     let tally = &compared.tally;
     let seconds = compared.time.as_secs_f64();
@@ -38,6 +38,7 @@ pub fn report(settings: &Settings, compared: &Compared) -> String {
     line("lists compared, no two the same", lists(tally));
     line("sums compared, no two the same", thousands(tally.sums));
     line("answers compared", answers(tally));
+    line("square roots by themselves", thousands(roots));
     line("runs that meet a power nought", thousands(tally.noughts));
     line("met again, and not compared again", again(tally));
     line(

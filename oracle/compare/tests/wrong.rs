@@ -74,6 +74,25 @@ fn nought_is_0(list: &[u8], x: f64) -> Ran {
     ran
 }
 
+/// The root rounded down where it should be rounded up, at times.
+fn root_rounded_down(list: &[u8], x: f64) -> Ran {
+    let mut ran = proved::run(list, x);
+    let root = f64::from_bits(ran.value);
+    if list.len() == 24 && list[1] == 7 && root.mul_add(root, -x) > 0.0 {
+        ran.value -= 1;
+    }
+    ran
+}
+
+#[test]
+fn wrong_roots_are_found() {
+    let right = compare::roots::compare(LIBRARY, 70_000, 1);
+    assert_eq!((right.compared, right.differences), (70_000, Vec::new()));
+    let run = root_rounded_down;
+    let wrong = compare::roots::compare(Library { run, ..LIBRARY }, 70_000, 1);
+    assert_eq!(wrong.differences.len(), 10);
+}
+
 fn last_bit_wrong(list: &[u8], out: &mut [u8]) -> Told<2> {
     let told = proved::derivative(list, out);
     if told.number == 0 && told.answer[1] == 6 {
