@@ -41,7 +41,7 @@ enum uplink_number {
     UPLINK_BAD_RECORD = 11,        /* the bytes are no list, or no sum */
     UPLINK_NO_ROOM = 12,           /* a sum, the stack, or what is held grows too large */
     UPLINK_TOO_DEEP = 13,          /* nested too deep */
-    UPLINK_NEEDS_MATH = 14,        /* a power, log or root outside of the exact cases */
+    UPLINK_NEEDS_MATH = 14,        /* a power, log or root outside of the exact cases; in the run also a root below zero */
     UPLINK_NOT_FINITE = 15,        /* a number that isn't finite, given or formed, but for a power of x */
     UPLINK_BIG_POWER = 16,         /* a sum raised to a whole number above 64 */
     UPLINK_OUTPUT_ROOM = 17,       /* the output lent is too short */
@@ -160,7 +160,8 @@ uint64_t uplink_inverse(const uint8_t *list, size_t list_bytes, uint8_t *out, si
 
 /* The value of a list at x; +0 when refused. Pow raises to whole powers from 0 to 64, by products from
  * the left, and to no others (UPLINK_NEEDS_MATH). To the power 0, and -0 counts as 0, every number gives
- * 1; read as a formula, the same step makes the constant 0. */
+ * 1; read as a formula, the same step makes the constant 0. Sqrt gives the number nearest to the root,
+ * and the zero that it finds; below zero it is UPLINK_NEEDS_MATH. */
 uint64_t uplink_run(const uint8_t *list, size_t list_bytes, double x, double *value,
                     struct uplink_run_answer *answer);
 

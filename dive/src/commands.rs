@@ -15,7 +15,7 @@ use crate::{
     plot::{self, Heading},
     remarks,
     source::{save, Source},
-    table::{self, Minutes, Row},
+    table::{self, Minutes},
     words,
 };
 
@@ -183,31 +183,31 @@ fn run_list(file: &str, x: f64) -> Done {
 
 fn table(file: &str, minutes: Minutes, csv: bool) -> Done {
     let source = Source::load(file)?;
-    let rows = table::rows(&source, minutes)?;
+    let table = table::table(&source, minutes)?;
     let text = if csv {
-        table::csv(&rows)
+        table::csv(&table.rows)
     } else {
-        table::text(&rows, minutes)
+        table::text(&table.rows, minutes)
     };
     Ok(Printed {
         text,
-        remarks: of_rows(&source, &rows),
+        remarks: of_table(&source, table.gaps),
     })
 }
 
-fn of_rows(source: &Source, rows: &[Row]) -> Vec<String> {
+fn of_table(source: &Source, gaps: Vec<String>) -> Vec<String> {
     let sum = source.list().ok().and_then(|list| read(&list).ok());
     let departure = sum.and_then(|sum| remarks::of_derivative(&sum.entries));
     of_source(source)
         .into_iter()
         .chain(departure)
-        .chain(table::gaps(rows))
+        .chain(gaps)
         .collect()
 }
 
 fn plot(file: &str, minutes: Minutes, out: &str) -> Done {
     let source = Source::load(file)?;
-    let rows = table::rows(&source, minutes)?;
+    let table = table::table(&source, minutes)?;
     let title = Path::new(&source.name)
         .file_name()
         .map_or(source.name.as_str().into(), |name| name.to_string_lossy());
@@ -215,17 +215,17 @@ fn plot(file: &str, minutes: Minutes, out: &str) -> Done {
         title: &title,
         subtitle: &subtitle(&source),
     };
-    let picture = plot::svg(heading, &rows, minutes)
+    let picture = plot::svg(heading, &table.rows, minutes)
         .ok_or_else(|| Failure::Refused(format!("{file}: the values lie too far apart to draw")))?;
     save(out, picture.as_bytes(), file)?;
-    let points = counted(rows.len(), "point", "points");
+    let points = counted(table.rows.len(), "point", "points");
     let text = format!(
         "{out}: {points} from {} to {} minutes\n",
         minutes.from, minutes.to
     );
     Ok(Printed {
         text,
-        remarks: of_rows(&source, &rows),
+        remarks: of_table(&source, table.gaps),
     })
 }
 

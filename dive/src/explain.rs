@@ -93,13 +93,13 @@ const PAGE: &str =
 fn of_the_run(refusal: Refusal, record: &Record, x: f64) -> Option<String> {
     Some(match (refusal, record) {
         (Refusal::NeedsMath, Record::Primitive(Primitive::Pow)) => {
-            format!("The runner raises to whole powers from 0 to 64 and to no others, {PAGE}")
+            format!("The runner raises to whole powers from 0 to 64 and to no others, {PAGE} x to the power 1.5 can be run as Dup, Sqrt, Mul.")
         }
         (Refusal::NeedsMath, Record::Primitive(Primitive::Sqrt)) => {
-            format!("This is the power 0.5. The runner raises to whole powers from 0 to 64 and has no roots, {PAGE}")
+            format!("At x = {} this is the root of a number below zero, and there is none.", numbers::text(x))
         }
         (Refusal::NeedsMath, record) => {
-            format!("The runner has no {}: it adds, subtracts, multiplies, divides and raises to whole powers, {PAGE}", words::name(record))
+            format!("The runner has no {}: it adds, subtracts, multiplies, divides, takes square roots and raises to whole powers, {PAGE}", words::name(record))
         }
         (Refusal::NotSupported, Record::Modifier { .. }) => {
             "Of the modifiers the runner has On alone. `dive write` writes the same formula with no other modifier.".into()

@@ -111,9 +111,10 @@ printed.
 Runs the list at x = X, as the page does, and prints the value, how many records
 were run (steps), and the most values that there were at once (peak).
 
-The runner adds, subtracts, multiplies and divides real numbers, raises to whole
-powers from 0 to 64, and has the modifier On. Anything else is refused, although
-it can be read and derived.
+The runner adds, subtracts, multiplies and divides real numbers, takes square
+roots of numbers that aren't below zero, raises to whole powers from 0 to 64,
+and has the modifier On. Anything else is refused, although it can be read and
+derived.
 
 Pow gives 1 for the power 0, whatever number is raised. Read as a formula the
 same step makes the constant 0, and the derivative goes by that.
@@ -126,7 +127,8 @@ same step makes the constant 0, and the derivative goes by that.
 Prints depth (the list's value, in metres) and speed (its derivative's value, in
 metres per minute, above 0 on the way down) at the minutes FROM, FROM + STEP and
 so on up to TO. Metres are rounded to two digits; --csv prints every number in
-full, parted by commas. Where a value isn't finite there is a dash.
+full, parted by commas. Where there is no value there is a dash, and below the
+table it is said why.
 ",
     },
     Command {

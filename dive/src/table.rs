@@ -1,6 +1,6 @@
 //! Depth and speed at minutes from one number to another.
 
-use uplink::{bytes, Refusal, LIST_BYTES};
+use uplink::{bytes, Refusal, Refused, LIST_BYTES};
 
 use crate::{
     explain::{explained, Asked},
@@ -98,7 +98,7 @@ fn digits_behind_point(word: &str) -> Option<usize> {
     (is_plain && digits <= 15).then_some(digits)
 }
 
-/// Depth and speed at a minute; none where the value isn't finite.
+/// Depth and speed at a minute; none where the run is refused.
 #[derive(Debug, Clone, Copy, PartialEq)]
 pub struct Row {
     pub minute: f64,
@@ -106,26 +106,64 @@ pub struct Row {
     pub speed: Option<f64>,
 }
 
-/// The rows of a list and its derivative.
-pub fn rows(source: &Source, minutes: Minutes) -> Result<Vec<Row>, Failure> {
-    let speed = derivative(source)?;
-    let mut rows = Vec::new();
-    for minute in minutes.each() {
-        let (depth, speed) = (value(source, minute)?, value(&speed, minute)?);
-        rows.push(Row {
-            minute,
-            depth,
-            speed,
-        });
+/// The rows of a list and its derivative, and why values are left out.
+#[derive(Debug, Clone, PartialEq)]
+pub struct Table {
+    pub rows: Vec<Row>,
+    pub gaps: Vec<String>,
+}
+
+/// The table of a list.
+///
+/// # Errors
+/// Where there is no derivative, or no value at any minute.
+pub fn table(source: &Source, minutes: Minutes) -> Result<Table, Failure> {
+    let derived = derivative(source)?;
+    let run = |source: &Source| -> Vec<Value> {
+        minutes.each().map(|minute| value(source, minute)).collect()
+    };
+    let (depths, speeds) = (run(source), run(&derived));
+    let of = [("depth", source, &depths), ("speed", &derived, &speeds)];
+    let gaps = of.map(|(name, source, values)| gap(name, source, values));
+    let gaps: Vec<String> = gaps.into_iter().flatten().collect();
+    if depths.iter().chain(&speeds).all(Result::is_err) {
+        return Err(Failure::Refused(gaps.join("\n")));
     }
-    if rows
-        .iter()
-        .all(|row| row.depth.is_none() && row.speed.is_none())
-    {
-        let message = "neither depth nor speed is finite at any of these minutes";
-        return Err(Failure::Refused(format!("{}: {message}", source.name)));
-    }
-    Ok(rows)
+    let rows = minutes.each().zip(depths.into_iter().zip(speeds));
+    let rows = rows.map(|(minute, (depth, speed))| Row {
+        minute,
+        depth: depth.ok(),
+        speed: speed.ok(),
+    });
+    Ok(Table {
+        rows: rows.collect(),
+        gaps,
+    })
+}
+
+/// A list's value, or at which minute it was refused.
+type Value = Result<f64, (f64, Refused)>;
+
+fn value(source: &Source, minute: f64) -> Value {
+    bytes::run(&source.bytes, minute)
+        .map(|ran| ran.value)
+        .map_err(|refused| (minute, refused))
+}
+
+/// Why values are left out, if any are: by the first of them.
+fn gap(name: &str, source: &Source, values: &[Value]) -> Option<String> {
+    let mut refused = values.iter().filter_map(|value| value.as_ref().err());
+    let (minute, first) = refused.next()?;
+    let count = 1 + refused.count();
+    let all = values.len();
+    let left_out = format!("the {name} is left out at {count} of {all} minutes");
+    Some(match first.refusal {
+        Refusal::NotFinite => format!("{left_out}, where it isn't finite (NotFinite)"),
+        _ => format!(
+            "{left_out}. {}",
+            explained(Asked::Run(*minute), source, *first)
+        ),
+    })
 }
 
 fn derivative(source: &Source) -> Result<Source, Failure> {
@@ -140,14 +178,6 @@ fn derivative(source: &Source) -> Result<Source, Failure> {
             source,
             refused,
         ))),
-    }
-}
-
-fn value(source: &Source, x: f64) -> Result<Option<f64>, Failure> {
-    match bytes::run(&source.bytes, x) {
-        Ok(ran) => Ok(Some(ran.value)),
-        Err(refused) if refused.refusal == Refusal::NotFinite => Ok(None),
-        Err(refused) => Err(Failure::Refused(explained(Asked::Run(x), source, refused))),
     }
 }
 
@@ -201,18 +231,6 @@ pub fn csv(rows: &[Row]) -> String {
     text
 }
 
-/// What to say of minutes at which a value isn't finite, if there are any.
-pub fn gaps(rows: &[Row]) -> Option<String> {
-    let is_gap = |row: &&Row| row.depth.is_none() || row.speed.is_none();
-    let count = rows.iter().filter(is_gap).count();
-    (count > 0).then(|| {
-        format!(
-            "at {count} of {} minutes a value isn't finite (NotFinite), and is left out",
-            rows.len()
-        )
-    })
-}
-
 #[cfg(test)]
 mod tests {
     use super::*;
@@ -247,6 +265,28 @@ mod tests {
     }
 
     #[test]
+    fn gaps_say_why() {
+        let of = |text: &[u8], words| table(&Source::of_records("a".into(), text), minutes(words));
+        let root = uplink::encode_list(&[uplink::Primitive::Sqrt.into()]);
+        let found = of(&root, ["-1", "1", "1"]).expect("a table");
+        assert_eq!(found.rows[0].depth, None);
+        assert_eq!(found.rows[2].depth, Some(1.0));
+        assert!(found.gaps[0].starts_with(
+            "the depth is left out at 1 of 3 minutes. a: its run at x = -1 is refused: NeedsMath"
+        ));
+        // the derivative, 0.5 x^-0.5, has a power that isn't run
+        assert!(found.gaps[1].starts_with("the speed is left out at 3 of 3 minutes"));
+        assert!(of(&root, ["-2", "-1", "1"]).is_err());
+        let square =
+            uplink::encode_list(&[uplink::Primitive::Dup.into(), uplink::Primitive::Mul.into()]);
+        let found = of(&square, ["0", "1e200", "1e200"]).expect("a table");
+        assert_eq!(
+            found.gaps,
+            ["the depth is left out at 1 of 2 minutes, where it isn't finite (NotFinite)"]
+        );
+    }
+
+    #[test]
     fn tables_are_aligned() {
         let rows = [
             Row {
@@ -266,7 +306,5 @@ mod tests {
             csv(&rows),
             "minutes,depth_m,speed_m_per_min\n0,-0.001,\n0.5,1234.567,-1000000000000\n"
         );
-        assert!(gaps(&rows).expect("a gap").contains("1 of 2"));
-        assert_eq!(gaps(&rows[1..]), None);
     }
 }

@@ -153,25 +153,65 @@ fn a_plot_is_a_picture() {
 }
 
 #[test]
-fn the_drag_formula_is_derived_and_its_run_is_explained() {
+fn the_drag_formula_is_derived_and_its_speed_is_run() {
     let made = line("derivative samples/drag.txt").done();
     assert!(made.starts_with("48 - 18 x^0.5\n"), "{made}");
     assert!(made.contains("Sqrt"), "{made}");
-    let said = line("table samples/drag.txt 0 16 1").failed(1);
+    let ended = line("table samples/drag.txt 0 16 4");
+    assert_eq!(ended.code, 0, "{ended:?}");
     assert!(
-        said.contains("its run at x = 0 is refused: NeedsMath (14) at record 2, Pow\n"),
-        "{said}"
+        ended
+            .printed
+            .contains("       4             -           12.00\n"),
+        "{ended:?}"
     );
+    let said = ended.remarked;
+    assert!(said.contains("the depth is left out at 5 of 5 minutes. samples/drag.txt: its run at x = 0 is refused: NeedsMath (14) at record 2, Pow\n"), "{said}");
     assert!(said.contains("Dup, push 1.5, Pow"), "{said}");
+    assert!(said.contains("can be run as Dup, Sqrt, Mul"), "{said}");
+    assert!(!said.contains("the speed is left out"), "{said}");
+    let picture = path(&folder("drag").join("drag.svg"));
+    line(&format!("plot samples/drag.txt 0 16 1 -o {picture}")).done();
+    let picture = fs::read_to_string(picture).expect("a picture");
+    assert_eq!(picture.matches("<polyline").count(), 1);
+}
+
+#[test]
+fn a_root_is_run() {
+    let ended = line("table samples/root.txt 0 16 4");
+    assert_eq!(ended.remarked, "");
+    let table = ended.done();
     assert!(
-        said.contains("whole powers from 0 to 64 and to no others"),
-        "{said}"
+        table.contains("       4         96.00           12.00\n"),
+        "{table}"
     );
-    let speed = path(&folder("drag").join("speed.list"));
-    line(&format!("derivative samples/drag.txt -o {speed}")).done();
-    let said = line(&format!("run {speed} 4")).failed(1);
-    assert!(said.contains("NeedsMath (14) at record 6, Sqrt"), "{said}");
-    assert!(said.contains("the power 0.5"), "{said}");
+    assert_eq!(
+        line("derivative samples/root.txt").done(),
+        line("derivative samples/drag.txt").done()
+    );
+    let ended = line("table samples/root.txt -1 1 1");
+    assert!(
+        ended
+            .printed
+            .contains("      -1             -               -\n"),
+        "{ended:?}"
+    );
+    assert!(
+        ended
+            .remarked
+            .contains("the depth is left out at 1 of 3 minutes"),
+        "{ended:?}"
+    );
+    assert!(
+        ended.remarked.contains("the root of a number below zero"),
+        "{ended:?}"
+    );
+    assert!(
+        ended
+            .remarked
+            .contains("the speed is left out at 1 of 3 minutes"),
+        "{ended:?}"
+    );
 }
 
 #[test]
@@ -336,7 +376,7 @@ fn minutes_without_a_value_are_left_out() {
     assert!(
         ended
             .remarked
-            .contains("at 1 of 2 minutes a value isn't finite"),
+            .contains("the depth is left out at 1 of 2 minutes, where it isn't finite"),
         "{}",
         ended.remarked
     );

@@ -135,7 +135,7 @@ pub fn inverse<'a>(list: &[u8], out: &'a mut [u8]) -> Result<&'a [u8], Refused> 
 }
 
 /// The value of a list at x. Pow raises to whole powers from 0 to 64, by products from the left, and to no others; to the power 0, and -0 counts
-/// as 0, every number gives 1. (Read as a formula, that step makes the constant 0.)
+/// as 0, every number gives 1. (Read as a formula, that step makes the constant 0.) Sqrt gives the number nearest to the root; below zero it is NeedsMath.
 ///
 /// # Errors
 /// What the runner lacks (NotSupported, NonScalar, NonReal, NeedsMath), and what goes wrong on the way.

@@ -70,7 +70,7 @@ codes! {
         Neg = 5,
         /// 1 - a
         Not = 6,
-        /// The square root of a.
+        /// The square root of a. The run has it from 0 up.
         Sqrt = 7,
         /// b + a
         Add = 8,

@@ -134,7 +134,7 @@ pub fn inverse(list: &[Record]) -> Result<Vec<Record>, Refused> {
     bytes::inverse(&encode_list(list), &mut room).map(records)
 }
 
-/// The value of a list at x, with steps and peak. What Pow does is told at [`bytes::run`].
+/// The value of a list at x, with steps and peak. What Pow and Sqrt do is told at [`bytes::run`].
 ///
 /// ```
 /// use uplink::{run, Primitive, Record, Refusal};
@@ -143,7 +143,9 @@ pub fn inverse(list: &[Record]) -> Result<Vec<Record>, Refused> {
 /// let to_nought = [Record::RealPush(0.0), Primitive::Pow.into()];
 /// assert_eq!(run(&to_nought, 3.0)?.value, 1.0);
 /// let root = [Primitive::Sqrt.into()];
-/// assert_eq!(run(&root, 9.0).map_err(|refused| refused.refusal), Err(Refusal::NeedsMath));
+/// assert_eq!(run(&root, 9.0)?.value, 3.0);
+/// let sine = [Primitive::Sin.into()];
+/// assert_eq!(run(&sine, 9.0).map_err(|refused| refused.refusal), Err(Refusal::NeedsMath));
 /// # Ok::<(), uplink::Refused>(())
 /// ```
 ///

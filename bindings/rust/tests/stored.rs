@@ -154,7 +154,7 @@ fn stored_answers_of_the_run_hold() {
             }
         }
     }
-    assert_eq!(count, 474 * 8);
+    assert_eq!(count, 505 * 8);
 }
 
 #[test]
