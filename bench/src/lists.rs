@@ -10,15 +10,21 @@ pub struct Group {
     pub derivatives: Vec<Vec<u8>>,
 }
 
-pub fn groups(lists: usize, seed: u64) -> [Group; 2] {
+pub fn groups(lists: usize, seed: u64) -> [Group; 3] {
     let mut random = Random::new(seed);
     [
-        group("sums of powers", lists / 2, || formula(&mut random)),
+        group("sums of powers", lists / 2, || formula(&mut random, "")),
         {
             let mut random = Random::new(seed + 1);
             group("lists of all kinds", lists - lists / 2, || {
                 let size = 2 + random.below(40);
                 generate::good_list(&mut random, size)
+            })
+        },
+        {
+            let mut random = Random::new(seed + 2);
+            group("drag formulas", lists / 2, || {
+                formula(&mut random, "Over 1.5 Pow -12 Mul Add ")
             })
         },
     ]
@@ -42,8 +48,8 @@ fn group(name: &'static str, count: usize, mut list: impl FnMut() -> Vec<u8>) ->
 }
 
 /// A fitted formula: one to eight terms of whole powers, each as x to a power
-/// times a coefficient, added up.
-fn formula(random: &mut Random) -> Vec<u8> {
+/// times a coefficient, added up; and then some more.
+fn formula(random: &mut Random, more: &str) -> Vec<u8> {
     let terms = 1 + random.below(8);
     let mut words = String::new();
     for term in 0..terms {
@@ -55,5 +61,5 @@ fn formula(random: &mut Random) -> Vec<u8> {
             words += "Add ";
         }
     }
-    text::list(&(words + "Flip Pop"))
+    text::list(&(words + more + "Flip Pop"))
 }

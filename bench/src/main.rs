@@ -54,9 +54,17 @@ fn measure(settings: &Settings, words: &[String]) -> String {
     let derivatives = groups
         .each_ref()
         .map(|group| sides::derivative(group, settings.rounds));
-    let runs = groups
+    let mut runs = groups
         .each_ref()
-        .map(|group| sides::run(group, settings.rounds));
+        .map(|group| sides::run(group, settings.rounds))
+        .to_vec();
+    for (words, name) in [
+        ("", "an empty list"),
+        ("Neg", "one Neg"),
+        ("Sqrt", "one Sqrt"),
+    ] {
+        runs.push(sides::run_one(words, name, settings.rounds));
+    }
     let command = ["bench"]
         .into_iter()
         .chain(words.iter().map(String::as_str))

@@ -23,8 +23,9 @@ What is inside the timed part:
 - **Plain runner** (run): the Rust module has no runner, so this is oracle/src/runner.rs, a plain one in Rust from document 01's text. Records are decoded and
   checked inside, into a vector that is allocated each time.
 
-The lists: sums of one to eight whole powers as a fitted formula has them; and random lists of all kinds with a derivative. The run is of the derivatives'
-lists at 1.5, of those that run to a value. Before anything is timed, the results of both sides are compared, byte for byte.
+The lists: sums of one to eight whole powers as a fitted formula has them; random lists of all kinds with a derivative; and such sums with x to the power 1.5 beside them, whose
+derivatives have a square root. The run is of the derivatives' lists at 1.5, of those that run to a value, and of lists of one step, which show what a step takes beside the
+empty list. Before anything is timed, the results of both sides are compared, byte for byte.
 ";
 
 fn machine() -> String {

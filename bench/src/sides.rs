@@ -5,7 +5,7 @@ use std::hint::black_box;
 use oracle::{
     Assembly, Node, algebra,
     records::{self, RECORD, bytes_of},
-    runner,
+    runner, text,
 };
 
 use crate::{
@@ -14,6 +14,7 @@ use crate::{
 };
 
 /// One line of the table.
+#[derive(Clone)]
 pub struct Line {
     pub what: String,
     pub lists: usize,
@@ -80,12 +81,24 @@ fn check_derivatives(group: &Group, out: &mut [u8], asm: &Assembly) {
     }
 }
 
+/// Where lists are run.
+const X: f64 = 1.5;
+
 /// The proved run and the plain runner, over the derivatives' lists that run.
 pub fn run(group: &Group, rounds: usize) -> Line {
-    const X: f64 = 1.5;
     let runs = |list: &&Vec<u8>| runner::run(list, X).is_ok();
     let lists: Vec<&Vec<u8>> = group.derivatives.iter().filter(runs).collect();
-    for list in &lists {
+    run_lists(format!("derivatives of {}", group.name), &lists, rounds)
+}
+
+/// The same list a thousand times.
+pub fn run_one(words: &str, name: &str, rounds: usize) -> Line {
+    let list = text::list(words);
+    run_lists(name.into(), &vec![&list; 1000], rounds)
+}
+
+fn run_lists(what: String, lists: &[&Vec<u8>], rounds: usize) -> Line {
+    for list in lists {
         let plain = runner::run(list, X).expect("a value");
         assert_eq!(proved::run(list, X).value, plain.value.to_bits());
     }
@@ -94,22 +107,18 @@ pub fn run(group: &Group, rounds: usize) -> Line {
         lists.len(),
         &mut [
             &mut || {
-                for list in &lists {
+                for list in lists {
                     black_box(proved::run(black_box(list), X));
                 }
             },
             &mut || {
-                for list in &lists {
+                for list in lists {
                     black_box(runner::run(black_box(list), X)).ok();
                 }
             },
         ],
     );
-    line(
-        format!("run, derivatives of {}", group.name),
-        lists.len(),
-        measured,
-    )
+    line(format!("run, {what}"), lists.len(), measured)
 }
 
 fn line(what: String, lists: usize, mut measured: Vec<Measured>) -> Line {
