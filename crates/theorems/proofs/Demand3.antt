@@ -1,7 +1,7 @@
 -- Demand 3 for whole powers, and at which record 15 is given: what is proved with √x among the powers, where there is none. Assumes nothing.
 use Prim.Native.Nat.{ℕ}
 use mathlib.Core.Path.{_≡_, refl, ap, _∙_}
-use mathlib.Core.Bool.{Bool, true, false, _&&_}
+use mathlib.Core.Bool.{false}
 use mathlib.Core.List.{List}
 use mathlib.Core.Option.{Option, none, some}
 use lib.Dec.{T}
@@ -13,11 +13,11 @@ use Rattle.limits.specs.declared.Refusal.the-variants.{NotFinite}
 use Rattle.trees.specs.Sums.{Sum}
 use Rattle.running.specs.declared.RunAnswer.the-variants.{Value, Refused}
 use Rattle.running.specs.Running.{runList}
-use Rattle.theorems.specs.Value.{whole, half, Power, TermsOf, nothing, zero-term, term, Terms, RootTerms, value}
+use Rattle.theorems.specs.Value.{whole, half, Power, nothing, zero-term, term, Terms, RootTerms, value}
 use Rattle.theorems.specs.Records.{records}
 use Rattle.theorems.specs.Demand3.{Formula, Runs, Demand3}
 use Rattle.theorems.specs.Places.{inAll, firstNotFinite, PlaceOf15}
-use Rattle.theorems.specs.Roots.{anyRoot, lacksRoot, RootFormula, RootRuns, RootSpeed}
+use Rattle.theorems.specs.Roots.{anyRoot, lacksRoot, RootRuns, RootSpeed}
 use Rattle.theorems.proofs.Roots.{demand-3-roots}
 
 -- whole powers are among those allowed, and none is a root

@@ -1,9 +1,9 @@
 -- Demand 3 with √x among the powers, for every byte list that is read without a complex step; and of the C functions. Assumes nothing.
 use Prim.Native.Nat.{ℕ, _*_, _≤_}
 use native.Mathlib.Omega.{arith}
-use mathlib.Core.Path.{_≡_, refl, ap, subst, _∙_}
-use mathlib.Core.Bool.{Bool, true, false, true≢false}
-use mathlib.Core.List.{List, [], _∷_}
+use mathlib.Core.Path.{_≡_, ap, subst, _∙_}
+use mathlib.Core.Bool.{Bool, true, false}
+use mathlib.Core.List.{List}
 use lib.Dec.{T, leb}
 use lib.Ieee.{Float}
 use lib.Ieee.Scale.{finite}
@@ -30,15 +30,16 @@ use Rattle.algebra.specs.Reading.{byVerdict, readList}
 use Rattle.algebra.specs.Entries.{derivative}
 use Rattle.algebra.specs.Replies.{ofAnswer, ofRun}
 use Rattle.uplink.specs.Told.{Ran, withCount, withSteps}
-use Rattle.theorems.specs.Contract.Reals.{RealSum}
+use Rattle.theorems.specs.Reals.{RealSum}
 use Rattle.theorems.specs.Contract.PowerSum.{PowerSum}
-use Rattle.theorems.specs.Value.{whole, half, Power, power, value}
-use Rattle.theorems.specs.Records.{isX, records, peakOf, rootFirst, exactPeak}
-use Rattle.theorems.specs.Roots.{anyRoot, RootFormula, RootRuns, Demand3Roots, RootRunsTold, FunctionsRoots}
+use Rattle.theorems.specs.Value.{Power, value}
+use Rattle.theorems.specs.Records.{records, exactPeak}
+use Rattle.theorems.specs.Roots.{RootFormula, RootRuns, Demand3Roots, RootRunsTold, FunctionsRoots}
 use Rattle.theorems.proofs.Reading.{sum-good}
 use Rattle.theorems.proofs.Real.Reading.{read-real}
 use Rattle.theorems.proofs.Real.Calculus.{derive-real}
 use Rattle.theorems.proofs.Speed.Listed.{listed}
+use Rattle.theorems.proofs.Speed.Peaks.{peak-at-most, peak-no-less}
 use Rattle.theorems.proofs.Speed.Rising.{rising}
 use Rattle.theorems.proofs.Speed.Finite.{value-finite}
 use Rattle.theorems.proofs.Speed.Theorem.{power-sum}
@@ -96,20 +97,6 @@ module _ {l : List ℕ} {ts : List Power} (f : RootFormula l ts) where
         lacks = λ x fx l. run-is x fx ∙ p .lacks x fx l;
       }
 
--- ---- the peak
-
--- only a root makes it less than document 01's
-no-root-first : (ts : List Power) → anyRoot ts ≡ false → rootFirst ts ≡ false
-unfolding anyRoot rootFirst
-no-root-first [] e = refl
-no-root-first (power (whole k) c ∷ []) e = refl
-no-root-first (power half c ∷ []) e = absurd (true≢false e)
-no-root-first (power (whole k) c ∷ power l d ∷ ts) e = refl
-no-root-first (power half c ∷ power l d ∷ ts) e = absurd (true≢false e)
-
-peak-no-less : (ts : List Power) → anyRoot ts ≡ false → exactPeak ts ≡ peakOf ts
-peak-no-less ts e = rw (no-root-first ts e) (omega arith)
-
 -- ---- the demand
 
 pub demand-3-roots : Demand3Roots
@@ -118,7 +105,7 @@ demand-3-roots l ts f =
     record {
       rises = rising 4 (good f .good) (listed (real f) (f .terms));
       none-exactly = λ x fx. value-finite x fx ts;
-      at-most = omega arith;
+      at-most = peak-at-most ts;
       no-less = peak-no-less ts;
       writes = λ out out′ r room g. (answers f p room g, runs f p room g);
     }

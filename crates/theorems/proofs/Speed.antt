@@ -3,6 +3,7 @@ pub mod Building
 pub mod Examples
 pub mod Finite
 pub mod Listed
+pub mod Peaks
 pub mod Pieces
 pub mod Rising
 pub mod RootExamples

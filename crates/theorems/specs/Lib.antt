@@ -1,5 +1,6 @@
 -- The root of theorems' definitions.
 pub mod Contract
+pub mod Reals
 pub mod Value
 pub mod Records
 pub mod Demands

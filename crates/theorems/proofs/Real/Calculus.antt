@@ -25,7 +25,7 @@ use Rattle.calculus.specs.declared.Ln.{Ln}
 use Rattle.calculus.specs.declared.Ln.the-variants.{Is, Other}
 use Rattle.calculus.specs.Derivative.{slope, vanishes, primeStep, foundThen, primeFrom, prime, byPrime, firstCoef, turnedTo, byLn, deriveX, deriveDiv, deriveExp, deriveBy, lnOf, deriveLog, deriveInto, orZero, derive}
 use Rattle.calculus.specs.Integral.{x, stored, integrateX, integrateBy, integrateInto, integrate}
-use Rattle.theorems.specs.Contract.Reals.{RealSum}
+use Rattle.theorems.specs.Reals.{RealSum}
 use Rattle.theorems.proofs.Real.Coefs.{RealOnce, real-is, plus-real, times-real, timesReal-real, overReal-real}
 use Rattle.theorems.proofs.Real.Terms.{none-real, single-real, constant-real, formed-real, each-real, product-real}
 

@@ -18,7 +18,7 @@ use Rattle.forms.specs.Forms.{ofOne, ofTwo}
 use Rattle.steps.specs.Steps.{isComplexPrimitive}
 use Rattle.bodies.specs.Reading.{done, readNodes}
 use Rattle.bodies.proofs.Keeps.{Keeping, read-keeps}
-use Rattle.theorems.specs.Contract.Reals.{RealSum}
+use Rattle.theorems.specs.Reals.{RealSum}
 use Rattle.theorems.proofs.Real.Coefs.{real-is}
 use Rattle.theorems.proofs.Real.Terms.{none-real, single-real, constant-real, alone-real, neg-real, add-real, sub-real, product-real, quotient-real, pow-real, log-real}
 

@@ -32,7 +32,7 @@ use Rattle.terms.specs.Product.{mulable, mulTerm, mulInto, product}
 use Rattle.terms.specs.Quotient.{xTo, allDivable, addTimes, divTerm, divBySeveral, quotient}
 use Rattle.terms.specs.Power.{raised, wholePower, rootable, unitCoefs, rootOfOne, rooted, power, byReal, isEuler, pow, log}
 use Rattle.terms.proofs.Steps.{never, sum-is, then-sum, unless-sum, either}
-use Rattle.theorems.specs.Contract.Reals.{RealSum}
+use Rattle.theorems.specs.Reals.{RealSum}
 use Rattle.theorems.proofs.Real.Coefs.{RealOnce, real-is, negated-real, times-real, over-real, merged-real, root-real}
 
 -- ---- entries formed

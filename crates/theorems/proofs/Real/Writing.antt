@@ -26,7 +26,7 @@ use Rattle.calculus.specs.Derivative.{derive}
 use Rattle.calculus.specs.Integral.{integrate}
 use Rattle.calculus.proofs.Good.{derive-good, integrate-good}
 use Rattle.writer.specs.ToNodes.{Form, constant, root, bare, square, power, form, isBare, isConstant, isEmpty, before, writePower, writeTerm, timesCoef, plus, turn, write, toNodes}
-use Rattle.theorems.specs.Contract.Reals.{RealSum}
+use Rattle.theorems.specs.Reals.{RealSum}
 use Rattle.theorems.proofs.Real.Reading.{read-real}
 use Rattle.theorems.proofs.Real.Calculus.{derive-real, integrate-real}
 

@@ -1,6 +1,6 @@
 -- A list so far and the next term: it keeps the rules of lists, and runs as its value says. Assumes nothing.
 use Prim.Native.Nat.{ℕ, suc, _+_, _≤_, max}
-use mathlib.Core.Path.{_≡_, refl, sym, ap, _∙_, subst}
+use mathlib.Core.Path.{_≡_, _∙_, subst}
 use mathlib.Core.Bool.{cond}
 use mathlib.Core.List.{List, [], _∷_}
 use mathlib.Core.Option.{Option, none}
@@ -19,8 +19,9 @@ use Rattle.drafts.proofs.Fine.{Fine, fine-more, fine-one, fine-append, fine-say
 use Rattle.theorems.specs.Value.{Exponent, Power, power, IsWholeOrHalf, termValue}
 use Rattle.theorems.specs.Records.{costOf}
 use Rattle.theorems.proofs.Speed.Steps.{Stop, or, or-join, bad, restate, identity-out, multiplies}
+use Rattle.theorems.proofs.Speed.Peaks.{light}
 use Rattle.theorems.proofs.Speed.Pieces.{Yields, end-yields, then-yields, join-yields, dup-yields}
-use Rattle.theorems.proofs.Speed.Terms.{piece, light, stopTerm, piece-yields, piece-fine, zero-number, zero-fine, reyield}
+use Rattle.theorems.proofs.Speed.Terms.{piece, stopTerm, piece-yields, piece-fine, zero-number, zero-fine, reyield}
 
 -- ---- what refuses a list
 

@@ -20,7 +20,7 @@ use Rattle.formats.specs.Tree.{Nodes, size, count}
 use Rattle.drafts.specs.Writing.{append, Written, wrote, refused}
 use Rattle.writer.specs.ToNodes.{form, write, toNodes}
 use Rattle.writer.specs.Count.{cost, costs, recordsFor}
-use Rattle.theorems.specs.Contract.Reals.{RealSum}
+use Rattle.theorems.specs.Reals.{RealSum}
 use Rattle.running.specs.declared.RunAnswer.{RunAnswer}
 use Rattle.running.specs.declared.RunAnswer.the-variants.{Value, Refused}
 use Rattle.running.specs.Primitives.{times, power, leave, apply, act}

@@ -9,7 +9,7 @@ use Rattle.complex.specs.Arith as complex
 use Rattle.complex.specs.Contract.Real.{Real}
 use Rattle.trees.specs.Kinds as kinds
 use Rattle.trees.specs.Sums.{Sum, and}
-use Rattle.theorems.specs.Contract.Reals.{RealSum}
+use Rattle.theorems.specs.Reals.{RealSum}
 use Rattle.theorems.specs.Value as value
 use Rattle.theorems.specs.Value.{Exponent, Power, power, IsWholeOrHalf, RootTerms}
 

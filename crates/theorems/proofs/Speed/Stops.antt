@@ -12,12 +12,11 @@ use lib.Ieee.{Float, binary64, fits, lt}
 use lib.Ieee.Bits.{is-true}
 use lib.Ieee.Fits.{and-l, and-r}
 use lib.Ieee.Scale.{finite}
-use Rattle.numbers.specs.Signs.{zero64, Zero}
+use Rattle.numbers.specs.Signs.{zero64}
 use Rattle.numbers.specs.Ops.{_⊕_, _⊗_}
-use Rattle.numbers.proofs.Bools.{and-true, and-false}
+use Rattle.numbers.proofs.Bools.{and-true}
 use Rattle.numbers.proofs.Values.{bits-0}
 use Rattle.numbers.proofs.Zeros.{zero-of, zero-finite, zero-or-not, mul-zero-right, add-zeros, zero-plus}
-use Rattle.complex.specs.declared.Complex.{Complex}
 use Rattle.limits.specs.declared.Refusal.the-variants.{NeedsMath}
 use Rattle.trees.specs.Sums.{Sum, size as entries, entry}
 use Rattle.trees.specs.Kinds as kinds
@@ -29,7 +28,7 @@ use Rattle.theorems.specs.Records.{costOf, isX}
 use Rattle.theorems.specs.Places.{Formed, formed, inTerm, inSum, inAll, unlessFinite, firstNotFinite}
 use Rattle.theorems.specs.Roots.{anyRoot, lacksRoot, placeOfSqrt}
 use Rattle.theorems.proofs.Speed.Listed.{Listed, nothing, zero-term, term}
-use Rattle.theorems.proofs.Speed.Steps.{Stop, stopAt, or, fifteen, bad}
+use Rattle.theorems.proofs.Speed.Steps.{stopAt, or, fifteen, bad}
 use Rattle.theorems.proofs.Speed.Terms.{stopTerm, or-fifteen}
 use Rattle.theorems.proofs.Speed.Building.{stopSum}
 use Rattle.theorems.proofs.Speed.Whole.{stopAll}

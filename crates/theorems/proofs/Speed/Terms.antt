@@ -16,9 +16,8 @@ use lib.Ieee.Scale.{finite}
 use Rattle.numbers.specs.Constants.{half64, two64}
 use Rattle.numbers.specs.Signs.{zero64, one64, Zero}
 use Rattle.numbers.specs.Ops.{_⊕_, _⊗_}
-use Rattle.numbers.specs.Numbers.{smallWhole, belowEpsilon}
+use Rattle.numbers.specs.Numbers.{belowEpsilon}
 use Rattle.numbers.specs.Wholes.{Means}
-use Rattle.numbers.specs.declared.SmallWhole.the-variants.{Is}
 use Rattle.numbers.proofs.Bools.{bool-ext, T-of, and-true, and-false}
 use Rattle.numbers.proofs.Zeros.{zero-test}
 use Rattle.numbers.proofs.Order.{eq-symmetric, eq-transitive}
@@ -40,9 +39,10 @@ use Rattle.writer.specs.ToNodes.{Form, form, isBare, isConstant, isEmpty, befor
 use Rattle.writer.specs.Count.{cost}
 use Rattle.running.specs.Primitives.{times}
 use Rattle.theorems.specs.Value.{Exponent, whole, half, IsWholeOrHalf, termValue, timesUnless}
-use Rattle.theorems.specs.Records.{formOf, costOf, isX}
+use Rattle.theorems.specs.Records.{formOf, costOf}
 use Rattle.theorems.specs.Places.{formedUnless, inTerm, unlessFinite, firstNotFinite}
 use Rattle.theorems.proofs.Speed.Steps.{Stop, state, out, or, or-none, fifteen, bad, unlessBelow, number-finite, adds, multiplies, raises}
+use Rattle.theorems.proofs.Speed.Peaks.{light}
 use Rattle.theorems.proofs.Speed.Pieces.{Yields, end-yields, then-yields, square-yields, root-yields}
 
 -- ---- the records of a term
@@ -129,11 +129,6 @@ reyield {N} {x} {r} {q} b d e g = record { run = λ s at h n p room i. g .run s 
 cond-same : (b : Bool) (n : ℕ) → cond b n n ≡ n
 cond-same true n = refl
 cond-same false n = refl
-
--- √x and x take no number beside them
-abbrev pub light : Exponent → Float → Bool
-light (whole k) c = isX (whole k) c
-light half c = eq c one64
 
 -- what refuses a term whose first record has the place
 abbrev pub stopTerm : ℕ → Float → Exponent → Float → Option Stop

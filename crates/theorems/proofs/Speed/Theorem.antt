@@ -1,9 +1,9 @@
 -- Every good sum of whole powers and of a square root without imaginary parts has a list, and it runs as document 01 says. Assumes nothing.
 use Prim.Native.Nat.{ℕ, _≤_}
-use mathlib.Core.Path.{_≡_, refl, sym, ap, _∙_}
+use mathlib.Core.Path.{_≡_, sym, ap, _∙_}
 use mathlib.Core.Bool.{false}
 use mathlib.Core.List.{List, [], _∷_}
-use mathlib.Core.Option.{Option, none, some}
+use mathlib.Core.Option.{Option}
 use native.Mathlib.Omega.{arith}
 use lib.Dec.{T}
 use lib.Ieee.{Float}
@@ -20,7 +20,7 @@ use Rattle.drafts.proofs.Fine.{Fine, fine-good}
 use Rattle.writer.specs.Count as count
 use Rattle.writer.specs.Count.{Powers}
 use Rattle.writer.proofs.Count.{record-count}
-use Rattle.theorems.specs.Contract.Reals.{RealSum}
+use Rattle.theorems.specs.Reals.{RealSum}
 use Rattle.running.specs.declared.RunAnswer.{RunAnswer}
 use Rattle.running.specs.Running.{ended, runNodes, runList}
 use Rattle.theorems.specs.Value.{Power, RootTerms, value}

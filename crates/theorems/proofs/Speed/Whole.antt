@@ -1,7 +1,7 @@
 -- A whole sum: what is written for it, and how that runs. Assumes nothing.
 use Prim.Native.Nat.{ℕ, zero, suc, _+_, _-_, _*_, _≤_, max}
 use mathlib.Core.Path.{_≡_, refl, sym, ap, _∙_}
-use mathlib.Core.Bool.{Bool, true, false, not, _&&_, _||_, cond, true≢false}
+use mathlib.Core.Bool.{Bool, true, false, not, _||_, cond}
 use mathlib.Core.List.{List, [], _∷_}
 use mathlib.Core.Option.{Option, none}
 use native.Mathlib.Omega.{arith}
@@ -28,11 +28,12 @@ use Rattle.writer.specs.Count.{cost}
 use Rattle.running.specs.Primitives.{times}
 use Rattle.running.specs.Running.{runs}
 use Rattle.theorems.specs.Value.{Exponent, whole, half, Power, power, IsWholeOrHalf, twice, Rising, termValue, plusTerms, value}
-use Rattle.theorems.specs.Records.{formOf, costOf, isX, isRoot, peakOf, rootFirst, exactPeak}
+use Rattle.theorems.specs.Records.{formOf, costOf, isX, peakOf, rootFirst, exactPeak}
 use Rattle.theorems.specs.Places.{inTerm, firstNotFinite}
 use Rattle.theorems.proofs.Speed.Listed.{Listed, nothing, zero-term, term}
 use Rattle.theorems.proofs.Speed.Steps.{Stop, state, out, or, or-none, bad}
-use Rattle.theorems.proofs.Speed.Terms.{piece, piece-size, light, stopTerm, write-zero, write-term}
+use Rattle.theorems.proofs.Speed.Terms.{piece, piece-size, stopTerm, write-zero, write-term}
+use Rattle.theorems.proofs.Speed.Peaks.{light, peak-low, peak-high, not-bare, peakAfter, peak-after, peak-some, first-peak}
 use Rattle.theorems.proofs.Speed.Building.{stopSum, same-places, Built, rebuild, built-zero, built-x, built-term, built-join, built-dup}
 
 -- ---- after the first term
@@ -42,35 +43,6 @@ record More (s : Sum) (id : Bool) (ns : Nodes) (n d : ℕ) (r : Float → Float)
   list : Nodes
   written : write false s id ns ≡ wrote list
   built : Built list n d r q b
-
-peak-low : (b : Bool) → 1 ≤ cond b 1 2
-peak-low true = omega arith
-peak-low false = omega arith
-
--- what takes a number beside x isn't bare x
-not-bare : (k : Exponent) (c : Float) → 3 ≤ twice k → light k c ≡ false
-not-bare half c h = absurd (omega arith)
-not-bare (whole zero) c h = refl
-not-bare (whole (suc zero)) c h = absurd (omega arith)
-not-bare (whole (suc (suc zero))) c h = refl
-not-bare (whole (suc (suc (suc n)))) c h = refl
-
--- the peak after some terms, where that of what came before is k
-peakAfter : ℕ → List Power → ℕ
-peakAfter k [] = k
-peakAfter k (power l c ∷ ts) = peakAfter (suc (max k (cond (light l c) 1 2))) ts
-
-peak-after : (k : ℕ) (ts : List Power) → 2 ≤ k → peakAfter k ts ≡ k + length ts
-unfolding peakAfter
-peak-after k [] h = omega arith
-peak-after k (power l c ∷ ts) h =
-    let q = peak-high (light l c) in
-    let m = peak-after (suc (max k (cond (light l c) 1 2))) ts (omega arith) in
-    omega arith
-  where
-    peak-high : (b : Bool) → cond b 1 2 ≤ 2
-    peak-high true = omega arith
-    peak-high false = omega arith
 
 joined-size : (N P : Nodes) → size (rec (on (size N + 1)) (rec (body (size N)) N end) (append P (one (does prim.Add)))) ≡ size N + size P + 3
 unfolding size
@@ -183,57 +155,6 @@ stop-all x k c ts {a} ea eb =
     let ec : _ ≡ A + costOf k c = eb ∙ ap (λ (n : ℕ). n + costOf k c) ea in
     λ i. or (stopTerm (ea i) x k c) (stopSum (ec i) x (termValue x k c) ts)
 
--- the peak where something is written for the first term
-first-peak : (k : Exponent) (c : Float) (ts : List Power) → isX k c ≡ false → Rising (suc (twice k)) ts → peakAfter (cond (light k c) 1 2) ts ≡ exactPeak (power k c ∷ ts)
-unfolding peakAfter peakOf rootFirst
-first-peak (whole k) c [] e up = rw e
-first-peak (whole k) c (power l d ∷ ts) e up = rw e (peak-after (suc (max 2 (cond (light l d) 1 2))) ts (omega arith) ∙ two (light l d))
-  where
-    two : (b : Bool) → suc (max 2 (cond b 1 2)) + length ts ≡ suc (suc (suc (length ts))) - 0
-    two true = omega arith
-    two false = omega arith
-first-peak half c [] e up = go (eq c one64)
-  where
-    go : (b : Bool) → cond b 1 2 ≡ 2 - cond b 1 0
-    go true = refl
-    go false = refl
-first-peak half c (power half d ∷ ts) e up = absurd (omega (arith, up .0))
-first-peak half c (power (whole l) d ∷ ts) e up =
-    peak-after (suc (max (cond (eq c one64) 1 2) (cond (isX (whole l) d) 1 2))) ts (low (eq c one64) (isX (whole l) d)) ∙ go (eq c one64) (isX (whole l) d)
-  where
-    low : (a b : Bool) → 2 ≤ suc (max (cond a 1 2) (cond b 1 2))
-    low true true = omega arith
-    low true false = omega arith
-    low false true = omega arith
-    low false false = omega arith
-
-    go : (a b : Bool) → suc (max (cond a 1 2) (cond b 1 2)) + length ts ≡ suc (suc (suc (length ts))) - cond (a && b) 1 0
-    go true true = omega arith
-    go true false = omega arith
-    go false true = omega arith
-    go false false = omega arith
-
--- every peak lies between 1 and 2 more than there are terms
-peak-some : (ts : List Power) → (1 ≤ exactPeak ts) × (exactPeak ts ≤ 2 + length ts)
-unfolding peakOf rootFirst
-peak-some [] = (omega arith, omega arith)
-peak-some (power k c ∷ []) = go (isX k c) (isRoot k c) (one-not-both k c)
-  where
-    one-not-both : (k : Exponent) (c : Float) → (isX k c && isRoot k c) ≡ false
-    one-not-both (whole k) c = and-false (isX (whole k) c)
-    one-not-both half c = refl
-
-    go : (a b : Bool) → (a && b) ≡ false → (1 ≤ cond a 1 2 - cond b 1 0) × (cond a 1 2 - cond b 1 0 ≤ 3)
-    go true true e = absurd (true≢false e)
-    go true false e = (omega arith, omega arith)
-    go false true e = (omega arith, omega arith)
-    go false false e = (omega arith, omega arith)
-peak-some (power k c ∷ power l d ∷ ts) = go (isRoot k c && isX l d)
-  where
-    go : (b : Bool) → (1 ≤ suc (suc (suc (length ts))) - cond b 1 0) × (suc (suc (suc (length ts))) - cond b 1 0 ≤ 2 + suc (suc (length ts)))
-    go true = (omega arith, omega arith)
-    go false = (omega arith, omega arith)
-
 module _ (left : ℕ) where
   -- something is written for it
   first : {s : Sum} {ts : List Power} (p c : Float) (k : Exponent) (a : Record) (i m : Nodes) → T (isNumber p) → T (isNumber c) → IsWholeOrHalf p k → isX k c ≡ false → piece p k c ≡ rec a i m
@@ -241,7 +162,8 @@ module _ (left : ℕ) where
   unfolding value
   first {s} {ts} p c k a i m fp fc w n e g d up few =
       let q = first-peak k c ts n up in
-      let u = peak-some (power k c ∷ ts) in
+      let u = peak-some (cond (light k c) 1 2) ts (peak-low (light k c)) in
+      let v = peak-high (light k c) in
       let h = more left g d (isBare (formOf k)) a i m 4 1 (λ x. termValue x k c) (cond (light k c) 1 2)
       (λ x at. stopTerm at x k c) (omega arith) (peak-low (light k c)) (rw e at (built-term p c k fp fc w)) in
       let z : size (rec a i m) ≡ costOf k c = ap size (sym e) ∙ piece-size p c k in
