@@ -1,19 +1,17 @@
 -- The powers of a good sum rise strictly, and there are no more of them than entries. Assumes nothing.
-use Prim.Native.Nat.{ℕ, suc, _+_, _-_, _*_, _≤_, _<_}
+use Prim.Native.Nat.{ℕ, suc, _-_, _≤_, _<_}
 use mathlib.Core.Path.{_≡_, refl, sym, _∙_}
 use mathlib.Core.Bool.{true, true≢false}
 use mathlib.Core.List.{List}
 use native.Mathlib.Omega.{arith}
 use lib.Dec.{T, ltb→lt}
 use lib.ListN.{length}
-use lib.Ieee.{Float, eq, lt, ofBits}
+use lib.Ieee.{Float, lt, ofBits}
 use lib.Ieee.Scale.{finite}
 use Rattle.numbers.specs.Constants.{half64}
 use Rattle.numbers.specs.Signs.{zero64, one64}
-use Rattle.numbers.specs.Numbers.{smallWhole}
 use Rattle.numbers.specs.Order.{cmpNum, andThen}
 use Rattle.numbers.specs.declared.Ordering.the-variants.{Less, Equal}
-use Rattle.numbers.specs.declared.SmallWhole.the-variants.{Is}
 use Rattle.numbers.proofs.Bools.{T-of}
 use Rattle.numbers.proofs.Order.{cmp-less, then-equal, lt-irreflexive, lt-transitive, lt-eq-left, lt-eq-right}
 use Rattle.numbers.proofs.Wholes.{means-lt, means-1, small-whole}
@@ -30,7 +28,7 @@ use Rattle.theorems.proofs.Speed.Terms.{means-0, half-finite}
 use Rattle.theorems.proofs.Speed.Steps.{number-finite}
 use Rattle.theorems.proofs.Speed.Listed.{Listed, nothing, zero-term, term}
 
-is-none : (i : Sum) → isEmpty i ≡ true → i ≡ none
+pub is-none : (i : Sum) → isEmpty i ≡ true → i ≡ none
 is-none none e = refl
 is-none (and k p j c r) e = let z : _≡_ {A = ℕ} 0 1 = cc in absurd (omega arith)
 
@@ -69,20 +67,20 @@ powers-less p q i j n m k l ei ej fp fq wp wq h =
 
 -- ---- the terms of a good sum
 
-abbrev TermKey : ℕ → Float → Sum → Type 0
+abbrev pub TermKey : ℕ → Float → Sum → Type 0
 TermKey k p i = Key (entry k (size i) p complex.zero) i
 
 module _ (left : ℕ) where
-  first-key : {l : ℕ} {q : Float} {j : Sum} {d : Complex} {r : Sum} → GoodFirst left (entry l (size j) q d) j r → TermKey l q j
+  pub first-key : {l : ℕ} {q : Float} {j : Sum} {d : Complex} {r : Sum} → GoodFirst left (entry l (size j) q d) j r → TermKey l q j
   first-key {l} {q} {j} {d} f =
       let K = good-key (left - 1) l (size j) q j d (f .entry-good) (f .inner) in
       record { num = K .num; inside = K .inside }
 
-  first-good : (l : ℕ) (q : Float) (j : Sum) (d : Complex) (r : Sum) → Good left (and l q j d r) → GoodFirst left (entry l (size j) q d) j r
+  pub first-good : (l : ℕ) (q : Float) (j : Sum) (d : Complex) (r : Sum) → Good left (and l q j d r) → GoodFirst left (entry l (size j) q d) j r
   first-good l q j d r g = good-and left (entry l (size j) q d) j r g
 
   -- what comes before a good sum comes before the rest of it
-  before-rest : (k l : ℕ) (p q : Float) (i j : Sum) (d : Complex) (r : Sum) → TermKey k p i → Good left (and l q j d r) → Before k p i (and l q j d r) → Before k p i r
+  pub before-rest : (k l : ℕ) (p q : Float) (i j : Sum) (d : Complex) (r : Sum) → TermKey k p i → Good left (and l q j d r) → Before k p i (and l q j d r) → Before k p i r
   before-rest k l p q i j d none K g b = tt
   before-rest k l p q i j d (and l′ q′ j′ d′ r′) K g b =
       let f = first-good l q j d (and l′ q′ j′ d′ r′) g in
