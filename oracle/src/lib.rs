@@ -7,6 +7,7 @@
 //! Rust says so, and the answer is marked as the paper's.
 
 pub mod answer;
+pub mod back;
 pub mod evaluate;
 pub mod features;
 pub mod generate;

@@ -3,7 +3,7 @@
 use crate::{
     Refusal,
     answer::Answer,
-    judge,
+    back, judge,
     records::RECORD,
     runner,
     sums::ENTRY,
@@ -107,6 +107,10 @@ fn sum_answers(sum: &[u8], decider: Decider) -> String {
     for (name, complex) in [("write 0", false), ("write 1", true)] {
         text += &answer_line(name, by(decider, judge::write(sum, complex)), RECORD);
     }
+    if decider == Decider::Rust && back::terms(sum).is_some() {
+        text += &back_line(sum, false);
+        text += &back_line(sum, true);
+    }
     text
 }
 
@@ -133,5 +137,22 @@ fn run_line(list: &[u8], x: f64) -> String {
         Err(Refusal { number, place }) => {
             format!("run {at:016x} {number} {place} {:016x} 0 0\n", 0)
         }
+    }
+}
+
+/// What is read of the list that a formula is written as, where it comes back.
+fn back_line(sum: &[u8], complex: bool) -> String {
+    let list = judge::write(sum, complex).done();
+    match list.and_then(|list| judge::read(&list).done()) {
+        Some(read) => {
+            let flags = [complex, read.complex].map(u8::from);
+            format!(
+                "back {} 0 0 {}{}\n",
+                flags[0],
+                flags[1],
+                hex(&read.entries, ENTRY)
+            )
+        }
+        None => String::new(),
     }
 }

@@ -6,6 +6,7 @@
 use oracle::{
     Answer, Complex, Refusal,
     algebra::values::{sum_text, sum_value},
+    back,
     evaluate::list_value,
     judge, records, runner, rust,
     stand_ins::{RELEASE_DEPTH, with_depth_limit},
@@ -464,6 +465,56 @@ mod writing {
         let constant = derivative("push 3, Mul");
         assert_eq!(constant, "push 0, Mul, push 3, Add");
         assert_eq!(reads(&constant), "(31 + 0x)");
+    }
+
+    /// The sum of a list, the list that it is written as, and the sum of that;
+    /// each sum as the bits of its powers and imaginary parts.
+    fn there_and_back(words: &str, complex: bool) -> (Vec<[u64; 2]>, String, Vec<[u64; 2]>) {
+        let sum = |list: &[u8]| rust::read(list).expect("no panic").expect("read").entries;
+        let bits = |sum: &[u8]| {
+            let entries = back::outermost(sum).into_iter();
+            entries
+                .map(|entry| [entry.number, entry.im].map(f64::to_bits))
+                .collect()
+        };
+        let before = sum(&text::list(words));
+        let list = written(rust::write(&before, complex));
+        let after = sum(&text::list(&list));
+        (bits(&before), list, bits(&after))
+    }
+
+    #[test]
+    fn signs_of_zeros_are_not_kept() {
+        let entry = |power: f64, im: f64| [power, im].map(f64::to_bits);
+        assert_eq!(
+            there_and_back("Dup, Div, Reciprocal", false),
+            (
+                vec![entry(-0.0, 0.0)],
+                "push 0, Mul, push 1, Add".into(),
+                vec![entry(0.0, 0.0), entry(1.0, 0.0)]
+            )
+        );
+        for (complex, list) in [(false, "push -1, Mul"), (true, "push -1;-0, Mul")] {
+            assert_eq!(
+                there_and_back("Neg", complex),
+                (vec![entry(1.0, -0.0)], list.into(), vec![entry(1.0, 0.0)])
+            );
+        }
+        let (_, list, _) = there_and_back("push -1;-0, Mul", true);
+        assert_eq!(list, "push -1;0, Mul");
+        for (power, words) in [
+            (-0.5, "Sqrt, Reciprocal"),
+            (-1.5, "push 1.5, Pow, Reciprocal"),
+        ] {
+            assert_eq!(
+                there_and_back(words, false),
+                (
+                    vec![entry(power, 0.0)],
+                    format!("push {power}, Pow"),
+                    vec![entry(power, -0.0)]
+                )
+            );
+        }
     }
 
     #[test]

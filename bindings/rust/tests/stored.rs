@@ -65,6 +65,7 @@ fn answers(line: &Line<'_>, given: &[u8]) -> [Result<Vec<u8>, Refused>; 2] {
         "derive" => bytes::derive(given, &mut room),
         "integrate" => bytes::integrate(given, &mut room),
         "write" => bytes::write(given, line.number(0) == 1, &mut room),
+        "back" => return back_answers(line, given),
         other => panic!("no entry is called {other}"),
     };
     let each = if matches!(line.keyword, "derive" | "integrate") {
@@ -74,6 +75,15 @@ fn answers(line: &Line<'_>, given: &[u8]) -> [Result<Vec<u8>, Refused>; 2] {
     };
     let at = usize::from(line.keyword == "write");
     [answer.map(<[u8]>::to_vec), line.answer(at, 0, each)]
+}
+
+/// What is read of the list that a sum is written as.
+fn back_answers(line: &Line<'_>, sum: &[u8]) -> [Result<Vec<u8>, Refused>; 2] {
+    let (mut room, mut list) = ([0; SUM_BYTES], vec![0; LIST_BYTES]);
+    let wrote = bytes::write(sum, line.number(0) == 1, &mut list).expect("a list");
+    let read = bytes::read(wrote, &mut room).expect("a sum");
+    assert_eq!(u64::from(read.is_complex), line.number(3));
+    [Ok(read.sum.to_vec()), line.answer(1, 1, ENTRY_BYTES)]
 }
 
 fn read_answers(line: &Line<'_>, given: &[u8]) -> [Result<Vec<u8>, Refused>; 2] {
@@ -113,7 +123,7 @@ fn stored_answers_of_lists_hold() {
 
 #[test]
 fn stored_answers_of_sums_hold() {
-    assert_eq!(replayed("sums.txt"), 1548 + 1648 + 2612);
+    assert_eq!(replayed("sums.txt"), 1548 + 1648 + 2612 + 522);
 }
 
 #[test]

@@ -1,8 +1,9 @@
 // The entries under test, each with its answer as a stored line has it.
 use answers::Numbers;
+use limits::LIST_RECORDS;
 ghost use Prim.Native.Nat.{_<_};
 
-// What a line is: an input, an answer of an entry, or something else. An answer of `write` begins with the flag that was handed over.
+// What a line is: an input, an answer of an entry, or something else. An answer of `write` begins with the flag that was handed over, and so does that of `read` to what `write` wrote.
 pub enum Keyword {
     List,
     Sum,
@@ -15,6 +16,8 @@ pub enum Keyword {
     Integral,
     Inverse,
     Run,
+    BackReal,
+    BackComplex,
     Other,
 }
 
@@ -60,6 +63,12 @@ pub fn keyword_of(line: &[u8]) -> Keyword {
     if replay::text::is_keyword(line, b"run") {
         return Keyword::Run;
     }
+    if replay::text::is_keyword(line, b"back 0") {
+        return Keyword::BackReal;
+    }
+    if replay::text::is_keyword(line, b"back 1") {
+        return Keyword::BackComplex;
+    }
     Keyword::Other
 }
 
@@ -77,13 +86,15 @@ pub fn word_len(k: Keyword) -> usize {
         Keyword::Integral => 8,
         Keyword::Inverse => 7,
         Keyword::Run => 3,
+        Keyword::BackReal => 6,
+        Keyword::BackComplex => 6,
         Keyword::Other => 0,
     }
 }
 
 // The row in which an entry's calls are counted; a line that is no answer makes no call.
 pub fn row(k: Keyword) -> usize
-    ensures { λ r. ⌜ r < 9 ⌝ }
+    ensures { λ r. ⌜ r < 10 ⌝ }
 {
     match k {
         Keyword::Read => replay::count::READ,
@@ -95,6 +106,8 @@ pub fn row(k: Keyword) -> usize
         Keyword::Integral => replay::count::INTEGRAL,
         Keyword::Inverse => replay::count::INVERSE,
         Keyword::Run => replay::count::RUN,
+        Keyword::BackReal => replay::count::BACK,
+        Keyword::BackComplex => replay::count::BACK,
         _ => replay::count::LINES,
     }
 }
@@ -106,6 +119,18 @@ pub fn takes_sum(k: Keyword) -> bool {
         Keyword::Integrate => true,
         Keyword::WriteReal => true,
         Keyword::WriteComplex => true,
+        Keyword::BackReal => true,
+        Keyword::BackComplex => true,
+        _ => false,
+    }
+}
+
+// Whether an answer has the complex flag behind the place.
+pub fn tells_flag(k: Keyword) -> bool {
+    match k {
+        Keyword::Read => true,
+        Keyword::BackReal => true,
+        Keyword::BackComplex => true,
         _ => false,
     }
 }
@@ -116,6 +141,8 @@ pub fn writes_sum(k: Keyword) -> bool {
         Keyword::Read => true,
         Keyword::Derive => true,
         Keyword::Integrate => true,
+        Keyword::BackReal => true,
+        Keyword::BackComplex => true,
         _ => false,
     }
 }
@@ -150,6 +177,23 @@ fn given(a: answers::Answer) -> Answer {
     told(answers::answer_numbers(a))
 }
 
+// The most bytes that a list has.
+const LIST_BYTES: usize = 49152;
+
+// What `read` answers to the list that `write` writes of a sum; what `write` refuses, where it does.
+fn back(sum: &[u8], complex: bool, out: &mut [u8]) -> Answer {
+    let mut list = [0u8; LIST_BYTES];
+    let wrote = answers::answer_numbers(algebra::write(sum, complex, &mut list));
+    if wrote.number != 0 {
+        return told(wrote);
+    }
+    if LIST_RECORDS < wrote.count {
+        return refusal(0, 0);
+    }
+    let n = wrote.count * 24;
+    told(algebra::read_numbers(algebra::read(&list[..n], out)))
+}
+
 // What the entry of this keyword answers; 0 at 0 with nothing written, which no entry answers, where there is none.
 pub fn call(k: Keyword, input: &[u8], out: &mut [u8]) -> Answer {
     match k {
@@ -161,6 +205,8 @@ pub fn call(k: Keyword, input: &[u8], out: &mut [u8]) -> Answer {
         Keyword::Derivative => given(algebra::derivative(input, out)),
         Keyword::Integral => given(algebra::integral(input, out)),
         Keyword::Inverse => given(algebra::inverse(input, out)),
+        Keyword::BackReal => back(input, false, out),
+        Keyword::BackComplex => back(input, true, out),
         _ => refusal(0, 0),
     }
 }

@@ -6,7 +6,7 @@ mod lines;
 mod runs;
 
 fn main() {
-    let mut counts = [0u64; 72];
+    let mut counts = [0u64; 80];
     files::run(b"lists.txt", &mut counts);
     files::run(b"sums.txt", &mut counts);
     files::run(b"limits.txt", &mut counts);
