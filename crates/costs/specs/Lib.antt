@@ -1,0 +1,4 @@
+-- The root of costs' definitions.
+pub mod Cost
+pub mod Counting
+pub mod Theorem
