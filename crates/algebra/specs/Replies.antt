@@ -1,4 +1,4 @@
--- The eight entries side by side: what each may answer, in document 01's numbers.
+-- The nine entries side by side: what each may answer, in document 01's numbers.
 use Prim.Native.Nat.{ℕ}
 use mathlib.Core.Path.{_≡_}
 use mathlib.Core.Bool.{Bool, false}
@@ -12,6 +12,9 @@ use Rattle.entries.specs.Encoding.{entriesIn}
 use Rattle.running.specs.declared.RunAnswer.{RunAnswer}
 use Rattle.running.specs.declared.RunNumbers.{RunNumbers}
 use Rattle.running.specs.Running.{runList, numbersOf}
+use Rattle.costs.specs.declared.CostAnswer.{CostAnswer}
+use Rattle.costs.specs.declared.CostNumbers.{CostNumbers}
+use Rattle.costs.specs.Cost.{costList, costNumbers}
 use Rattle.answers.specs.declared.Answer.{Answer}
 use Rattle.answers.specs.declared.Numbers.{Numbers}
 use Rattle.answers.specs.Promises.{Promise}
@@ -23,11 +26,11 @@ use Rattle.algebra.specs.Entries as lists
 
 -- write is handed a flag, and run a number
 pub data Entry : Type 0 where
-  read derive integrate derivative integral inverse : Entry
+  read derive integrate derivative integral inverse cost : Entry
   write : Bool → Entry
   run : Float → Entry
 
--- number, place and counts; the flag is read's, value, steps and peak are run's
+-- number, place and counts; the flag is read's, value and peak are run's, steps are run's and cost's
 pub record Reply : Type 0 where
   pub number : ℕ
   pub place : ℕ
@@ -41,12 +44,15 @@ pub record Reply : Type 0 where
 abbrev pub refusing : Refusal → ℕ → Reply
 refusing q at = record { number = refusalNo q; place = at; count = 0; flag = false; value = zero64; steps = 0; peak = 0 }
 
--- the numbers of what is written, and those of a run: each has zeros for the other's
+-- the numbers of what is written, those of a run and those of a cost: each has zeros for the others'
 abbrev pub ofNumbers : Numbers → Reply
 ofNumbers n = record { number = n .number; place = n .place; count = n .count; flag = n .flag; value = zero64; steps = 0; peak = 0 }
 
 abbrev pub ofRunNumbers : RunNumbers → Reply
 ofRunNumbers n = record { number = n .number; place = n .place; count = 0; flag = false; value = n .value; steps = n .steps; peak = n .peak }
+
+abbrev pub ofCostNumbers : CostNumbers → Reply
+ofCostNumbers n = record { number = n .number; place = n .place; count = 0; flag = false; value = zero64; steps = n .steps; peak = 0 }
 
 abbrev pub ofRead : ReadAnswer → Reply
 ofRead a = ofNumbers (readNumbers a)
@@ -57,7 +63,10 @@ ofAnswer a = ofNumbers (answerNumbers a)
 abbrev pub ofRun : RunAnswer → Reply
 ofRun a = ofRunNumbers (numbersOf a)
 
--- of the input l and an output that was out and is out′ then; run has no output
+abbrev pub ofCost : CostAnswer → Reply
+ofCost a = ofCostNumbers (costNumbers a)
+
+-- of the input l and an output that was out and is out′ then; run and cost have no output
 abbrev pub Promised : Entry → List ℕ → List ℕ → List ℕ → Reply → Type 0
 Promised read l out out′ r = (a : ReadAnswer) × (r ≡ ofRead a) × Promise (answerOf (readList l)) (bytesOf (readList l)) out out′ a
 Promised derive l out out′ r = (a : Answer) × (r ≡ ofAnswer a) × OfBytes entriesIn making.derive l out out′ a
@@ -67,3 +76,4 @@ Promised derivative l out out′ r = (a : Answer) × (r ≡ ofAnswer a) × Gives
 Promised integral l out out′ r = (a : Answer) × (r ≡ ofAnswer a) × Gives recordsIn (lists.integral l) out out′ a
 Promised inverse l out out′ r = (a : Answer) × (r ≡ ofAnswer a) × Gives recordsIn (lists.inverse l) out out′ a
 Promised (run x) l out out′ r = (r ≡ ofRun (runList l x)) × (out′ ≡ out)
+Promised cost l out out′ r = (r ≡ ofCost (costList l)) × (out′ ≡ out)

@@ -1,6 +1,7 @@
 // The entries. None asks anything of its caller: every byte list gets a result or one refusal, and a refusal changes no output byte.
 use answers::Answer;
 use answers::Numbers;
+use costs::CostAnswer;
 use entries::Taken;
 use env::AlgebraData;
 use formats::record::Verdict;
@@ -27,7 +28,7 @@ ghost use Rattle.answers.specs.Making.{answered, Gives, OfBytes};
 ghost use Rattle.algebra.specs.Reading.{readList, flagged, answerOf, bytesOf, readNumbers};
 ghost use Rattle.algebra.specs.Entries as lists;
 ghost use Rattle.algebra.specs.Replies as entry;
-ghost use Rattle.algebra.specs.Replies.{Promised, ofRead, ofAnswer, ofRun};
+ghost use Rattle.algebra.specs.Replies.{Promised, ofRead, ofAnswer, ofRun, ofCost};
 
 // What `read` answers: a sum of so many entries, with the complex flag, or a refusal with its place.
 pub enum ReadAnswer {
@@ -278,4 +279,13 @@ pub fn run(list: &[u8], x: f64) -> RunAnswer
     ensures { λ r. ⌜ Promised (entry.run x) (now (list .entry)) [] [] (ofRun r) ⌝ }
 {
     running::run::run(list, x)
+}
+
+// ---- of a list, before it is read
+
+// How many records a reading of the list runs.
+pub fn cost(list: &[u8]) -> CostAnswer
+    ensures { λ r. ⌜ Promised entry.cost (now (list .entry)) [] [] (ofCost r) ⌝ }
+{
+    costs::cost(list)
 }

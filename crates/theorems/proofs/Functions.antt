@@ -6,7 +6,7 @@ use mathlib.Core.Logic.{_⊎_, inl, inr, ⊎-elim}
 use Rattle.limits.specs.declared.Refusal.{Refusal}
 use Rattle.algebra.specs.Replies as entry
 use Rattle.algebra.specs.Replies.{Reply, refusing, ofAnswer, ofRun}
-use Rattle.uplink.specs.Told.{withCount, withFlag, withSteps}
+use Rattle.uplink.specs.Told.{withCount, withFlag, withSteps, withCost}
 use Rattle.theorems.specs.Value.{Power}
 use Rattle.theorems.specs.Demands.{Numbered, Refuses, Answers}
 use Rattle.theorems.specs.Demand3.{Runs}
@@ -39,6 +39,7 @@ functions-answer = record {
   runs = λ x l no v answer t.
       ⊎-elim (λ e. inl (t .returned ∙ e)) (λ u. inr (told-refusal withSteps (0 ∷ 0 ∷ []) (λ q at. refl) (t .returned) (t .told) u, t .valued ∙ ap (λ z. z .value) (u .is)))
       (demand-1 (entry.run x) l [] [] (t .reply) (t .promised));
+  costs = λ e l out out′ no answer t. told-answer withCost (0 ∷ []) (λ q at. refl) (t .returned) (t .told) (demand-1 e l out out′ (t .reply) (t .promised));
 }
 
 -- ---- determined

@@ -10,6 +10,7 @@ pub mod Roots
 pub mod Demand3
 pub mod Drag
 pub mod Functions
+pub mod Cost
 pub mod Written
 pub mod Real
 pub mod Speed

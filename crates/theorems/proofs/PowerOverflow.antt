@@ -1,4 +1,4 @@
--- 18: where it comes from, that integrate, write and run never answer it, and that each other entry does. Assumes nothing.
+-- 18: where it comes from, that integrate, write, run and cost never answer it, and that each other entry does. Assumes nothing.
 use Prim.Native.Nat.{ℕ, _≤_}
 use native.Mathlib.Omega.{arith}
 use mathlib.Core.Path.{_≡_, refl, sym, ap, subst, _∙_}
@@ -32,6 +32,8 @@ use Rattle.writer.specs.ToNodes.{toNodes}
 use Rattle.writer.proofs.Refusals.{only-15}
 use Rattle.running.specs.Running.{runList, numbersOf}
 use Rattle.running.proofs.Refusals.{run-number}
+use Rattle.costs.specs.Cost.{costList, costNumbers}
+use Rattle.costs.proofs.Theorem.{cost-number}
 use Rattle.calculus.specs.Integral as integrals
 use Rattle.calculus.proofs.Overflow.{derive-overflow, integrate-quiet}
 use Rattle.bodies.specs.Reading as bodies
@@ -124,6 +126,7 @@ only-these Replies.derivative l out out′ r p n = tt
 only-these Replies.integral l out out′ r p n = tt
 only-these Replies.inverse l out out′ r p n = tt
 only-these (Replies.run x) l out out′ r p n = absurd (let z : 18 ≡ numbersOf (runList l x) .number = sym n ∙ ap (λ z. z .number) (p .0) in omega (arith, run-number l x))
+only-these Replies.cost l out out′ r p n = absurd (let z : 18 ≡ costNumbers (costList l) .number = sym n ∙ ap (λ z. z .number) (p .0) in omega (arith, cost-number l))
 
 pub only-these-functions : OnlyTheseFunctions
 only-these-functions = record {

@@ -1,4 +1,4 @@
--- The demands, of the C functions: the number that one returns, and what then stands in `answer` and in the output. `Told` is the contract of seven of them, whose
+-- The demands, of the C functions: the number that one returns, and what then stands in `answer` and in the output. `Told` is the contract of eight of them, whose
 -- entry it names, and `Ran` is the contract of uplink_run.
 use Prim.Native.Nat.{ℕ, _*_, _≤_}
 use mathlib.Core.Path.{_≡_}
@@ -16,7 +16,7 @@ use Rattle.limits.specs.Refusals.{refusalNo}
 use Rattle.formats.specs.Tree.{recordsIn}
 use Rattle.algebra.specs.Replies as entry
 use Rattle.algebra.specs.Replies.{Entry, Reply}
-use Rattle.uplink.specs.Told.{Told, Ran, withCount, withFlag}
+use Rattle.uplink.specs.Told.{Told, Ran, withCount, withFlag, withCost}
 use Rattle.theorems.specs.Value.{Power, value}
 use Rattle.theorems.specs.Records.{records, peakOf}
 use Rattle.theorems.specs.Demands.{Numbered}
@@ -33,11 +33,12 @@ pub record ToldRefusal (zeros out out′ : List ℕ) (number : ℕ) (answer : Li
   pub told : answer ≡ place ∷ zeros
   pub quiet : out′ ≡ out
 
--- each function returns 0, or refuses: those that tell a count, uplink_read, which tells a flag too, and uplink_run, whose value is then +0
+-- each function returns 0, or refuses: those that tell a count, uplink_read, which tells a flag too, uplink_run, whose value is then +0, and uplink_cost
 pub record FunctionsAnswer : Type 0 where
   pub counts : (e : Entry) (l out out′ : List ℕ) (no : ℕ) (answer : List ℕ) → Told e withCount l out out′ no answer → (no ≡ 0) ⊎ ToldRefusal (0 ∷ []) out out′ no answer
   pub flags : (e : Entry) (l out out′ : List ℕ) (no : ℕ) (answer : List ℕ) → Told e withFlag l out out′ no answer → (no ≡ 0) ⊎ ToldRefusal (0 ∷ 0 ∷ []) out out′ no answer
   pub runs : (x : Float) (l : List ℕ) (no : ℕ) (v : Float) (answer : List ℕ) → Ran x l no v answer → (no ≡ 0) ⊎ (ToldRefusal (0 ∷ 0 ∷ []) [] [] no answer × (v ≡ zero64))
+  pub costs : (e : Entry) (l out out′ : List ℕ) (no : ℕ) (answer : List ℕ) → Told e withCost l out out′ no answer → (no ≡ 0) ⊎ ToldRefusal (0 ∷ []) out out′ no answer
 
 -- ---- determined
 

@@ -8,6 +8,7 @@ pub mod Demand3
 pub mod Places
 pub mod Roots
 pub mod Functions
+pub mod Cost
 pub mod Composing
 pub mod Written
 pub mod Cases

@@ -8,14 +8,17 @@ use mir.Val.{boolByte}
 use Rattle.running.specs.declared.RunAnswer.{RunAnswer}
 use Rattle.running.specs.declared.RunNumbers.{RunNumbers}
 use Rattle.running.specs.Running.{numbersOf}
+use Rattle.costs.specs.declared.CostAnswer.{CostAnswer}
+use Rattle.costs.specs.declared.CostNumbers.{CostNumbers}
+use Rattle.costs.specs.Cost.{costNumbers}
 use Rattle.answers.specs.declared.Answer.{Answer}
 use Rattle.answers.specs.declared.Numbers.{Numbers}
 use Rattle.answers.specs.Making.{answerNumbers}
 use Rattle.algebra.specs.declared.ReadAnswer.{ReadAnswer}
 use Rattle.algebra.specs.Reading.{readNumbers}
 use Rattle.algebra.specs.Replies as entry
-use Rattle.algebra.specs.Replies.{Entry, Promised, ofRead, ofAnswer, ofRun}
-use Rattle.uplink.specs.Told.{Told, Ran, withCount, withFlag}
+use Rattle.algebra.specs.Replies.{Entry, Promised, ofRead, ofAnswer, ofRun, ofCost}
+use Rattle.uplink.specs.Told.{Told, Ran, withCount, withFlag, withCost}
 
 as-number : (t : Bool) → boolByte t ≡ cond t 1 0
 as-number true = refl
@@ -29,3 +32,6 @@ told-flag e a {n} i p = record { reply = ofRead a; promised = p; returned = ap (
 
 pub told-run : {x : Float} {l : List ℕ} {n : RunNumbers} (a : RunAnswer) → Promised (entry.run x) l [] [] (ofRun a) → n ≡ numbersOf a → Ran x l (n .number) (n .value) (n .place ∷ n .steps ∷ n .peak ∷ [])
 told-run a p i = record { reply = ofRun a; promised = p; returned = ap (λ z. z .number) i; valued = ap (λ z. z .value) i; told = ap (λ z. z .place ∷ z .steps ∷ z .peak ∷ []) i }
+
+pub told-cost : {l : List ℕ} {n : CostNumbers} (a : CostAnswer) → Promised entry.cost l [] [] (ofCost a) → n ≡ costNumbers a → Told entry.cost withCost l [] [] (n .number) (n .place ∷ n .steps ∷ [])
+told-cost a p i = record { reply = ofCost a; promised = p; returned = ap (λ z. z .number) i; told = ap (λ z. z .place ∷ z .steps ∷ []) i }

@@ -17,6 +17,9 @@ withFlag r = r .place ∷ r .count ∷ cond (r .flag) 1 0 ∷ []
 abbrev pub withSteps : Reply → List ℕ
 withSteps r = r .place ∷ r .steps ∷ r .peak ∷ []
 
+abbrev pub withCost : Reply → List ℕ
+withCost r = r .place ∷ r .steps ∷ []
+
 -- the entry's promise allows a reply, whose number is returned and whose place and counts stand in `answer`
 pub record Told (e : Entry) (shown : Reply → List ℕ) (l out out′ : List ℕ) (number : ℕ) (answer : List ℕ) : Type 0 where
   pub reply : Reply

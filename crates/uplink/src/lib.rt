@@ -1,8 +1,9 @@
-// The eight entries as C functions: each returns the number, and writes place and counts into `answer`. A slice is passed as a pointer and a length.
+// The nine entries as C functions: each returns the number, and writes place and counts into `answer`. A slice is passed as a pointer and a length.
 ghost use mathlib.Core.Bool.{not};
+ghost use mathlib.Core.List.{[]};
 ghost use lib.Dec.{eqb};
 ghost use Rattle.algebra.specs.Replies as entry;
-ghost use Rattle.uplink.specs.Told.{Told, Ran, withFlag, withCount};
+ghost use Rattle.uplink.specs.Told.{Told, Ran, withFlag, withCount, withCost};
 
 // From a list to the sum that it stands for; `answer` is place, count and complex flag.
 #[no_mangle]
@@ -87,5 +88,15 @@ pub extern "C" fn uplink_run(list: &[u8], x: f64, value: &mut f64, answer: &mut 
     let n = running::run_numbers(algebra::run(list, x));
     *answer = [n.place as u64, n.steps as u64, n.peak as u64];
     *value = n.value;
+    n.number
+}
+
+// How many records a reading of the list runs, known before it is read; `answer` is place and steps.
+#[no_mangle]
+pub extern "C" fn uplink_cost(list: &[u8], answer: &mut [u64; 2]) -> u64
+    ensures { λ r. ⌜ Told entry.cost withCost (now (list .entry)) [] [] r (now (answer .exit)) ⌝ }
+{
+    let n = costs::cost_numbers(algebra::cost(list));
+    *answer = [n.place, n.steps];
     n.number
 }
