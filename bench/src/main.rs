@@ -2,6 +2,7 @@
 
 use std::{env, fs, path::PathBuf, process::ExitCode};
 
+mod costs;
 mod lists;
 mod measure;
 mod report;
@@ -69,7 +70,12 @@ fn measure(settings: &Settings, words: &[String]) -> String {
         .into_iter()
         .chain(words.iter().map(String::as_str))
         .collect::<Vec<_>>();
+    let costs = groups
+        .each_ref()
+        .map(|group| costs::cost(group, settings.rounds));
+    let readings = costs::readings(settings.rounds);
     report::report(&command.join(" "), settings.rounds, &derivatives, &runs)
+        + &report::costs(&costs, &readings)
 }
 
 fn main() -> ExitCode {

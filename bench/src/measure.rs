@@ -36,6 +36,18 @@ pub struct Measured {
     pub most: f64,
 }
 
+impl Measured {
+    /// What is left of it, shared out to so many.
+    pub fn less(self, taken: f64, shares: u64) -> Measured {
+        let share = |time: f64| (time - taken) / shares as f64;
+        Measured {
+            median: share(self.median),
+            least: share(self.least),
+            most: share(self.most),
+        }
+    }
+}
+
 /// Go over all lists with each side, by turns and in changing order, so many
 /// times; the first time isn't counted.
 pub fn by_turns(rounds: usize, lists: usize, sides: &mut [&mut dyn FnMut()]) -> Vec<Measured> {
@@ -73,6 +85,15 @@ mod tests {
         assert_eq!(
             (measured.least, measured.median, measured.most),
             (1.0, 3.0, 9.0)
+        );
+    }
+
+    #[test]
+    fn shares_of_what_is_left() {
+        let measured = measured(vec![30.0, 50.0, 20.0]).less(10.0, 2);
+        assert_eq!(
+            (measured.least, measured.median, measured.most),
+            (5.0, 10.0, 20.0)
         );
     }
 

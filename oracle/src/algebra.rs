@@ -13,4 +13,4 @@ pub mod sums;
 pub mod values;
 
 pub use forming::with_one_number;
-pub use guard::MOST_STACKED;
+pub use guard::{MOST_STACKED, MOST_STEPS};

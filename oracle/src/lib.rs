@@ -8,6 +8,8 @@
 
 pub mod answer;
 pub mod back;
+pub mod cost;
+pub mod costly;
 pub mod evaluate;
 pub mod features;
 pub mod generate;

@@ -1,10 +1,10 @@
 //! Lists and sums as text: words for people, hex for stored answers.
 //!
 //! In words a number is a push and `re;im` a complex push; a primitive is its
-//! name; a modifier's bodies follow it, each as `(arguments: records)`; `Run`
-//! and `Custom` are followed by one `(records)`. `Array`, `Other`, `Obverse`,
-//! `NoNormal`, `Under` and `Else` are the remaining kinds. Commas and the word
-//! `push` are for the eye.
+//! name; a modifier's bodies follow it, each as `(arguments: records)`, and one
+//! without a name is `Modifier` with its code; `Run` and `Custom` are followed
+//! by one `(records)`. `Array`, `Other`, `Obverse`, `NoNormal`, `Under` and
+//! `Else` are the remaining kinds. Commas and the word `push` are for the eye.
 
 use std::f64::consts::E;
 
@@ -80,7 +80,9 @@ fn word_record(word: &str) -> Option<Record> {
     if let Some((kind, _)) = plain {
         return Some(Record::of(*kind));
     }
-    if let Some(code) = (1..=7).find(|&code| modifier_name(code) == word) {
+    let unlisted = || word.strip_prefix("Modifier")?.parse().ok();
+    let listed = (1..=7).find(|&code| modifier_name(code) == word);
+    if let Some(code) = listed.or_else(unlisted) {
         return Some(Record {
             code,
             ..Record::of(kind::MODIFIER)

@@ -5,7 +5,9 @@
  * Every buffer is of exact size and comes from malloc, and the answers start undefined, so that valgrind sees
  * any byte read or written outside of what was lent and any answer that isn't written. The program itself sees
  * that a refusal changes no byte and has counts of zero, that a success leaves the bytes past its count, that
- * the input stays, that room doesn't change a result, and that the same call twice gives the same.
+ * the input stays, that room doesn't change a result, and that the same call twice gives the same. Nested Both,
+ * which nobody can read to its end, and damaged copies of it go through uplink_cost alone, which has to tell in
+ * milliseconds what they cost.
  *
  * With a third word it does wrong on purpose, to show that it would be noticed: it writes a byte past the room
  * that was lent, changes a byte after a refusal, or reads an answer that nobody wrote. */
@@ -13,10 +15,11 @@
 #include <stdio.h>
 #include <stdlib.h>
 #include <string.h>
+#include <time.h>
 
 #include "uplink.h"
 
-enum { NUMBERS = 18, FILL = 0xa5, SHORT = 40, NESTING = 5 };
+enum { NUMBERS = 19, FILL = 0xa5, SHORT = 40, NESTING = 5, MOST_BOTHS = 66, MOST_MILLISECONDS = 100 };
 
 /* ---- random numbers */
 
@@ -263,15 +266,19 @@ static struct bytes some_bytes(int is_list) {
 
 /* ---- calls */
 
-enum function { READ, DERIVATIVE, INTEGRAL, INVERSE, DERIVE, INTEGRATE, WRITE, RUN, FUNCTIONS };
+enum function { READ, DERIVATIVE, INTEGRAL, INVERSE, DERIVE, INTEGRATE, WRITE, RUN, COST, FUNCTIONS };
 
-static const char *const names[FUNCTIONS] = {"read",   "derivative", "integral", "inverse",
-                                             "derive", "integrate",  "write",    "run"};
+static const char *const names[FUNCTIONS] = {"read",      "derivative", "integral", "inverse", "derive",
+                                             "integrate", "write",      "run",      "cost"};
 static unsigned long counts[FUNCTIONS][NUMBERS];
 static const char *wrong = "";
 
 static int takes_a_list(enum function function) {
     return function != DERIVE && function != INTEGRATE && function != WRITE;
+}
+
+static int writes_bytes(enum function function) {
+    return function != RUN && function != COST;
 }
 
 static size_t result_size(enum function function) {
@@ -303,6 +310,7 @@ static struct given call(enum function function, struct bytes input, uint8_t com
     struct uplink_answer *two = (void *)exact(sizeof *two);
     struct uplink_read_answer *three = (void *)exact(sizeof *three);
     struct uplink_run_answer *ran = (void *)exact(sizeof *ran);
+    struct uplink_cost_answer *cost = (void *)exact(sizeof *cost);
     double *value = (void *)exact(sizeof *value);
     uint8_t *out = given.out.at;
     if (room > 0) memset(out, FILL, room);
@@ -314,17 +322,20 @@ static struct given call(enum function function, struct bytes input, uint8_t com
     case DERIVE: given.number = uplink_derive(input.at, input.length, out, room, two); break;
     case INTEGRATE: given.number = uplink_integrate(input.at, input.length, out, room, two); break;
     case WRITE: given.number = uplink_write(input.at, input.length, complex, out, room, two); break;
+    case COST: given.number = uplink_cost(input.at, input.length, cost); break;
     default: given.number = uplink_run(input.at, input.length, x, value, ran);
     }
     if (function == READ || strcmp(wrong, "forgotten") == 0)
         given.place = three->place, given.second = three->count, given.third = three->complex;
     else if (function == RUN)
         given.place = ran->place, given.second = ran->steps, given.third = ran->peak, given.value = *value;
+    else if (function == COST)
+        given.place = cost->place, given.second = cost->steps;
     else
         given.place = two->place, given.second = two->count;
     if (strcmp(wrong, "overrun") == 0) given.out.at[room] = FILL;
     if (strcmp(wrong, "changed") == 0 && given.number != 0 && room > 0) out[room - 1] = 0;
-    free(two), free(three), free(ran), free(value);
+    free(two), free(three), free(ran), free(cost), free(value);
     return given;
 }
 
@@ -347,7 +358,7 @@ static void check(enum function function, struct bytes input, struct given given
             fail(function, input, room, "a place that no record has");
     } else {
         if (given.place != 0) fail(function, input, room, "a success with a place");
-        if (function == RUN) return;
+        if (!writes_bytes(function)) return;
         if (given.second > room / size) fail(function, input, room, "more counted than there is room for");
         if (!all_filled(given.out, given.second * size)) fail(function, input, room, "a byte past the count changed");
         if (given.third > 1) fail(function, input, room, "a flag that is neither 0 nor 1");
@@ -373,11 +384,11 @@ static struct given call_twice(enum function function, struct bytes input, uint8
 static void send(enum function function, struct bytes input) {
     uint8_t complex = (uint8_t)(below(2) == 0 ? 0 : bits());
     double x = some_number();
-    size_t size = result_size(function), most = function == RUN ? 0 : UPLINK_LIST_BYTES;
+    size_t size = result_size(function), most = writes_bytes(function) ? UPLINK_LIST_BYTES : 0;
     struct given ample = call_twice(function, input, complex, x, most);
-    size_t needed = ample.number == 0 && function != RUN ? ample.second * size : 0;
+    size_t needed = ample.number == 0 && writes_bytes(function) ? ample.second * size : 0;
     size_t rooms[3] = {needed, needed == 0 ? below(99) : needed - 1, needed == 0 ? 0 : below(needed)};
-    for (int i = 0; i < 3 && function != RUN; i++) {
+    for (int i = 0; i < 3 && writes_bytes(function); i++) {
         struct given given = call_twice(function, input, complex, x, rooms[i]);
         int has_room = rooms[i] >= needed;
         if (has_room && !is_same(&ample, &given)) fail(function, input, rooms[i], "room changes the answer");
@@ -396,6 +407,52 @@ static void send_to_all(int is_list) {
     int crosses = below(20) == 0;
     for (enum function function = READ; function < FUNCTIONS; function++)
         if (takes_a_list(function) == is_list || crosses) send(function, input);
+    free(input.at);
+}
+
+/* So many Boths around so many Neg. */
+static struct bytes nested_both(size_t boths, size_t inside) {
+    size_t count = 2 * boths + inside;
+    record_count = 0;
+    for (size_t i = 0; i < boths; i++) {
+        put_record(UPLINK_MODIFIER, UPLINK_BOTH)->inside = (uint32_t)(count - 2 * i - 1);
+        put_record(UPLINK_BODY, 0)->inside = (uint32_t)(count - 2 * i - 2);
+    }
+    while (record_count < count) put_record(UPLINK_PRIMITIVE, UPLINK_NEG);
+    return copy_of(records, count * sizeof *records);
+}
+
+/* 2^boths times inside + 3, less 3; from 2^64 - 1 on 2^64 - 1. */
+static uint64_t steps_of_both(size_t boths, size_t inside) {
+    uint64_t steps = inside;
+    for (size_t i = 0; i < boths; i++) steps = steps > (UINT64_MAX - 3) / 2 ? UINT64_MAX : 2 * steps + 3;
+    return steps;
+}
+
+/* What nested Both costs, and how long it takes to tell. */
+static void cost_nested_both(size_t boths, size_t inside) {
+    struct bytes input = nested_both(boths, inside);
+    int is_deep = boths > 64; /* a body inside 129 others */
+    clock_t start = clock();
+    struct given given = call_twice(COST, input, 0, 0, 0);
+    double milliseconds = 1000.0 * (double)(clock() - start) / CLOCKS_PER_SEC;
+    if (given.number != (is_deep ? UPLINK_TOO_DEEP : UPLINK_DONE)) fail(COST, input, 0, "another number");
+    if (!is_deep && given.second != steps_of_both(boths, inside)) fail(COST, input, 0, "another cost");
+    if (milliseconds > MOST_MILLISECONDS) fail(COST, input, 0, "it takes too long");
+    if (boths == 64 && inside == 1) printf("cost       twice of 64 nested Boths in %.1f ms\n", milliseconds);
+    free(given.out.at), free(input.at);
+}
+
+static void cost_all_nested_both(void) {
+    for (size_t boths = 0; boths < MOST_BOTHS; boths++)
+        for (size_t inside = 0; inside < 3; inside++) cost_nested_both(boths, inside);
+}
+
+/* A damaged copy, which may still take for ever to read. */
+static void cost_damaged_both(void) {
+    struct bytes input = nested_both(below(MOST_BOTHS), below(4));
+    damage(&input, UPLINK_RECORD_BYTES);
+    send(COST, input);
     free(input.at);
 }
 
@@ -423,6 +480,10 @@ int main(int count, char **words) {
     unsigned long inputs = strtoul(words[1], NULL, 10);
     state = strtoull(words[2], NULL, 10);
     if (count == 4) wrong = words[3];
-    for (unsigned long i = 0; i < inputs; i++) send_to_all(i % 2 == 0);
+    cost_all_nested_both();
+    for (unsigned long i = 0; i < inputs; i++) {
+        send_to_all(i % 2 == 0);
+        cost_damaged_both();
+    }
     return report();
 }

@@ -1,7 +1,9 @@
 //! One list or sum, asked of the proved library and of the judge.
 
 use oracle::{
-    Answer, ReadSum, Refusal, judge,
+    Answer, ReadSum, Refusal,
+    algebra::MOST_STEPS,
+    cost, judge,
     random::Random,
     records::RECORD,
     runner::{self, Met, Ran},
@@ -102,7 +104,7 @@ impl<'a> Call<'a> {
             Entry::Derive => plain(library.derive, out),
             Entry::Integrate => plain(library.integrate, out),
             Entry::Write => Numbers::without_flag((library.write)(self.input, self.complex, out)),
-            Entry::Run => unreachable!("the run writes no bytes"),
+            Entry::Run | Entry::Cost => unreachable!("the run and the cost write no bytes"),
         }
     }
     fn refused(self, number: u64, place: u64) -> Numbers {
@@ -187,9 +189,22 @@ impl<'a> Checker<'a> {
         self.random = Random::new(seed);
     }
 
-    /// Every entry on a list, on the sum it reads to, and the run of the list
-    /// and of its derivative.
+    /// The cost of a list and its run; unless it costs too much to be read,
+    /// every other entry as well.
     pub fn list(&mut self, list: &[u8]) -> Outcome {
+        let steps = self.cost(list)?;
+        let x = self.some_x();
+        self.run(list, x)?;
+        if steps > MOST_STEPS as u64 {
+            self.skip_reading();
+            return Ok(());
+        }
+        self.reading(list, x)
+    }
+
+    /// Every entry that reads the list, those on the sum it reads to, and the
+    /// run of its derivative.
+    fn reading(&mut self, list: &[u8], x: f64) -> Outcome {
         let read = judge::read(list);
         let derivative = judge::derivative(list);
         self.compare(Call::new(Entry::Read, list), (&read).into())?;
@@ -202,8 +217,6 @@ impl<'a> Checker<'a> {
             Call::new(Entry::Inverse, list),
             (&judge::inverse(list)).into(),
         )?;
-        let x = self.some_x();
-        self.run(list, x)?;
         if let Some(derivative) = derivative.done() {
             self.run(&derivative, x)?;
         }
@@ -238,6 +251,18 @@ impl<'a> Checker<'a> {
             }
         }
         Ok(())
+    }
+
+    /// Nobody waits for the end of it.
+    fn skip_reading(&mut self) {
+        for entry in [
+            Entry::Read,
+            Entry::Derivative,
+            Entry::Integral,
+            Entry::Inverse,
+        ] {
+            self.tally.row_mut(entry).too_long += 1;
+        }
     }
 
     fn some_x(&mut self) -> f64 {
@@ -281,6 +306,35 @@ impl<'a> Checker<'a> {
         }
         self.tally.count(Entry::Run, owed.told.number);
         Ok(())
+    }
+
+    /// What a list costs, against the oracle's own reckoning; the steps, which
+    /// are 0 where it is refused.
+    fn cost(&mut self, list: &[u8]) -> Result<u64, Box<Difference>> {
+        let owed = match cost::cost(list) {
+            Ok(steps) => Told {
+                number: 0,
+                answer: [0, steps],
+            },
+            Err(Refusal { number, place }) => Told {
+                number: number.into(),
+                answer: [place as u64, 0],
+            },
+        };
+        let given = (self.library.cost)(list);
+        if given != owed {
+            let input = Input::List(list);
+            return Err(Difference::new(
+                "cost".into(),
+                input,
+                cost_text(owed),
+                cost_text(given),
+            ));
+        }
+        let [_, steps] = owed.answer;
+        self.tally.count(Entry::Cost, owed.number);
+        self.tally.capped += u64::from(steps == u64::MAX);
+        Ok(steps)
     }
 
     fn compare(&mut self, call: Call, owed: Owed) -> Outcome {
@@ -367,4 +421,9 @@ fn run_text(ran: proved::Ran) -> String {
         "number {}, place {place}, value {value:?} (bits {:016x}), steps {steps}, peak {peak}",
         ran.told.number, ran.value
     )
+}
+
+fn cost_text(told: Told<2>) -> String {
+    let [place, steps] = told.answer;
+    format!("number {}, place {place}, steps {steps}", told.number)
 }

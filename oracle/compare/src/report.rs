@@ -40,6 +40,7 @@ pub fn report(settings: &Settings, compared: &Compared, roots: u64) -> String {
     line("answers compared", answers(tally));
     line("square roots by themselves", thousands(roots));
     line("runs that meet a power nought", thousands(tally.noughts));
+    line("costs told as 2^64 - 1", thousands(tally.capped));
     line("met again, and not compared again", again(tally));
     line(
         "unexplained differences",
@@ -91,7 +92,10 @@ fn answers(tally: &Tally) -> String {
 fn table(tally: &Tally) -> String {
     let numbers = (1..NUMBERS).map(|number| number.to_string());
     let heads = ["entry", "compared", "done"].into_iter().map(String::from);
-    let skipped = ["skipped: the Rust panics", "skipped: over 100,000 steps"];
+    let skipped = [
+        "skipped: the Rust panics",
+        "skipped: costs over 100,000 steps",
+    ];
     let head: Vec<String> = heads
         .chain(numbers)
         .chain(skipped.map(String::from))
@@ -129,7 +133,8 @@ pub fn recorded(command: &str, report: &str, differences: &[String]) -> String {
     let mut text = format!(
         "# The proved library and the judge, compared\n\n\
          Written by the program `compare` itself (`--record`). Every answer that the judge owes was compared: number, place, count, \
-         complex flag and each byte; for the run value bits, steps and peak, with the plain runner of oracle/src/runner.rs. \
+         complex flag and each byte; for the run value bits, steps and peak, with the plain runner of oracle/src/runner.rs; \
+         the cost with the reckoning of oracle/src/cost.rs. \
          Columns 1 to 18 are refusals; 17 was asked for by room that is one record short.\n\n    {command}\n\n{report}"
     );
     for difference in differences {

@@ -11,9 +11,10 @@ pub enum Entry {
     Integrate,
     Write,
     Run,
+    Cost,
 }
 
-pub const ENTRIES: [Entry; 8] = [
+pub const ENTRIES: [Entry; 9] = [
     Entry::Read,
     Entry::Derivative,
     Entry::Integral,
@@ -22,6 +23,7 @@ pub const ENTRIES: [Entry; 8] = [
     Entry::Integrate,
     Entry::Write,
     Entry::Run,
+    Entry::Cost,
 ];
 
 impl Entry {
@@ -35,6 +37,7 @@ impl Entry {
             Entry::Integrate => "integrate",
             Entry::Write => "write",
             Entry::Run => "run",
+            Entry::Cost => "cost",
         }
     }
 }
@@ -59,12 +62,15 @@ pub const ORIGINS: [Origin; 4] = [
 pub const NUMBERS: usize = 19;
 
 /// Answers that a comparison of random lists has to meet: the refusals of a
-/// power and of another number that isn't finite.
-const TO_BE_MET: [(Entry, usize); 4] = [
+/// power and of another number that isn't finite; every number of the cost.
+const TO_BE_MET: [(Entry, usize); 7] = [
     (Entry::Read, 15),
     (Entry::Read, 18),
     (Entry::Derive, 15),
     (Entry::Derive, 18),
+    (Entry::Cost, 0),
+    (Entry::Cost, 11),
+    (Entry::Cost, 13),
 ];
 
 /// What was compared for one entry, and what couldn't be.
@@ -73,7 +79,7 @@ pub struct Row {
     pub numbers: [u64; NUMBERS],
     /// The Rust panics.
     pub panics: u64,
-    /// The judge stops after 100,000 steps.
+    /// The list costs over 100,000 steps.
     pub too_long: u64,
 }
 
@@ -103,6 +109,8 @@ pub struct Tally {
     pub sums_again: u64,
     /// Runs in which something was raised to the power nought.
     pub noughts: u64,
+    /// Costs that are told as 2^64 - 1.
+    pub capped: u64,
     /// Calls with room for exactly what is written, and with more.
     pub exact: u64,
     pub ample: u64,
@@ -126,10 +134,12 @@ impl Tally {
     }
     /// Answers that were to be met and weren't.
     pub fn missing(&self) -> Vec<String> {
+        let capped = (self.capped == 0).then(|| "cost never tells 2^64 - 1".into());
         TO_BE_MET
             .into_iter()
             .filter(|&(entry, number)| self.row(entry).numbers[number] == 0)
             .map(|(entry, number)| format!("{} never answers {number}", entry.name()))
+            .chain(capped)
             .collect()
     }
     pub fn add(&mut self, other: &Tally) {
@@ -143,6 +153,7 @@ impl Tally {
         self.sums += other.sums;
         self.sums_again += other.sums_again;
         self.noughts += other.noughts;
+        self.capped += other.capped;
         self.exact += other.exact;
         self.ample += other.ample;
     }

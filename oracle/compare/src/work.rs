@@ -9,7 +9,7 @@ use std::{
     time::{Duration, Instant},
 };
 
-use oracle::generate;
+use oracle::{costly, generate};
 use proved::Library;
 
 use crate::{
@@ -221,7 +221,12 @@ impl Shared<'_> {
 
 /// Compare what the settings ask for.
 pub fn compare(settings: &Settings, library: Library) -> Compared {
-    let near_limits = [generate::near_limits(), generate::near_limits_of_the_run()].concat();
+    let near_limits = [
+        generate::near_limits(),
+        generate::near_limits_of_the_run(),
+        costly::near_limits(),
+    ]
+    .concat();
     let shared = Shared {
         settings,
         library,

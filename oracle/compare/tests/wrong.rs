@@ -217,3 +217,106 @@ fn wrong_runs_are_found() {
         is_found("run", Library { run, ..LIBRARY });
     }
 }
+
+/// The cost of a list whose modifiers have other codes.
+fn cost_with_codes(list: &[u8], code: fn(u8) -> u8) -> Told<2> {
+    let mut list = list.to_vec();
+    for record in list.chunks_exact_mut(24).filter(|record| record[0] == 6) {
+        record[1] = code(record[1]);
+    }
+    proved::cost(&list)
+}
+
+fn both_counted_once(list: &[u8]) -> Told<2> {
+    cost_with_codes(list, |code| if code == 5 { 1 } else { code })
+}
+
+/// Fork asks for no number of bodies.
+fn bodies_of_a_refused_one_counted(list: &[u8]) -> Told<2> {
+    cost_with_codes(list, |code| if code == 5 { 5 } else { 7 })
+}
+
+fn unlisted_counted(list: &[u8]) -> Told<2> {
+    cost_with_codes(list, |code| if code < 8 { code } else { 7 })
+}
+
+fn fork_of_one_body_only(list: &[u8]) -> Told<2> {
+    cost_with_codes(list, |code| if code == 7 { 1 } else { code })
+}
+
+fn modifier_not_counted(list: &[u8]) -> Told<2> {
+    let mut told = proved::cost(list);
+    told.answer[1] -= u64::from(told.number == 0 && list.first() == Some(&6));
+    told
+}
+
+fn capped_at_2_63(list: &[u8]) -> Told<2> {
+    let mut told = proved::cost(list);
+    told.answer[1] = told.answer[1].min(1 << 63);
+    told
+}
+
+fn wrapped(list: &[u8]) -> Told<2> {
+    let mut told = proved::cost(list);
+    if told.answer[1] == u64::MAX {
+        told.answer[1] = 1;
+    }
+    told
+}
+
+fn capped_one_too_early(list: &[u8]) -> Told<2> {
+    let mut told = proved::cost(list);
+    if told.answer[1] == u64::MAX - 1 {
+        told.answer[1] = u64::MAX;
+    }
+    told
+}
+
+fn deep_told_as_11(list: &[u8]) -> Told<2> {
+    let mut told = proved::cost(list);
+    if told.number == 13 {
+        told.number = 11;
+    }
+    told
+}
+
+fn refused_with_steps(list: &[u8]) -> Told<2> {
+    let mut told = proved::cost(list);
+    if told.number == 11 {
+        told.answer[1] = (list.len() / 24) as u64;
+    }
+    told
+}
+
+#[test]
+fn wrong_costs_are_found() {
+    for cost in [
+        both_counted_once,
+        bodies_of_a_refused_one_counted,
+        unlisted_counted,
+        fork_of_one_body_only,
+        modifier_not_counted,
+        capped_at_2_63,
+        wrapped,
+        capped_one_too_early,
+        deep_told_as_11,
+        refused_with_steps,
+    ] {
+        is_found("cost", Library { cost, ..LIBRARY });
+    }
+}
+
+/// What wasn't met is said.
+#[test]
+fn answers_that_are_missing() {
+    let words = "--exhaustive 1".split(' ').map(String::from);
+    let settings = arguments::parse(words).expect("good words");
+    let missing = work::compare(&settings, LIBRARY).tally.missing();
+    for cost in [
+        "cost never answers 11",
+        "cost never answers 13",
+        "cost never tells 2^64 - 1",
+    ] {
+        assert!(missing.iter().any(|missing| missing == cost), "{cost}");
+    }
+}

@@ -63,11 +63,12 @@ mod c {
             value: *mut f64,
             answer: *mut u64,
         ) -> u64;
+        pub fn uplink_cost(list: *const u8, list_len: usize, answer: *mut u64) -> u64;
     }
 }
 
-/// What stands in an answer before the call.
-const UNWRITTEN: u64 = u64::MAX;
+/// What stands in an answer before the call; the cost of no list that is tried.
+const UNWRITTEN: u64 = 0xa5a5_a5a5_a5a5_a5a5;
 
 /// The number that comes back, and the numbers that go with it.
 #[derive(Debug, Clone, Copy, PartialEq, Eq)]
@@ -83,13 +84,13 @@ pub struct Ran {
     pub told: Told<3>,
 }
 
-/// The eight functions. That they can be replaced one by one lets a test of
+/// The nine functions. That they can be replaced one by one lets a test of
 /// the comparison put a wrong one in.
 #[derive(Clone, Copy)]
 pub struct Library {
     /// Place, count and complex flag.
     pub read: fn(&[u8], &mut [u8]) -> Told<3>,
-    /// Place and count; so for all that follow, but the run.
+    /// Place and count; so for all that follow, but the last two.
     pub derive: fn(&[u8], &mut [u8]) -> Told<2>,
     pub integrate: fn(&[u8], &mut [u8]) -> Told<2>,
     pub write: fn(&[u8], u8, &mut [u8]) -> Told<2>,
@@ -97,6 +98,8 @@ pub struct Library {
     pub integral: fn(&[u8], &mut [u8]) -> Told<2>,
     pub inverse: fn(&[u8], &mut [u8]) -> Told<2>,
     pub run: fn(&[u8], f64) -> Ran,
+    /// Place and steps.
+    pub cost: fn(&[u8]) -> Told<2>,
 }
 
 /// The proved library.
@@ -109,6 +112,7 @@ pub const LIBRARY: Library = Library {
     integral,
     inverse,
     run,
+    cost,
 };
 
 macro_rules! from_bytes_to_bytes {
@@ -167,4 +171,11 @@ pub fn run(list: &[u8], x: f64) -> Ran {
         value: value.to_bits(),
         told,
     }
+}
+
+pub fn cost(list: &[u8]) -> Told<2> {
+    let mut answer = [UNWRITTEN; 2];
+    // SAFETY: pointer and length are those of a live slice, and the answer has its length.
+    let number = unsafe { c::uplink_cost(list.as_ptr(), list.len(), answer.as_mut_ptr()) };
+    Told { number, answer }
 }

@@ -45,6 +45,15 @@ pub(super) fn walk(nodes: &[Node], features: &mut Features) -> Result<Read, Stop
     }
 }
 
+/// How many steps a reading under the paper's limits takes, up to its refusal
+/// or its end.
+pub(super) fn steps(nodes: &[Node]) -> u64 {
+    let mut features = Features::off();
+    let mut env = Env::new(&mut features);
+    env.nodes(nodes).ok();
+    env.steps as u64
+}
+
 enum Halt {
     Refused(Refusal),
     TooLong,
@@ -97,7 +106,8 @@ impl<'a> Env<'a> {
             Node::Mod(modifier, bodies, at) => self.modifier(*modifier, bodies, *at),
             Node::CustomInverse(custom, at) => match &custom.normal {
                 _ if custom.is_obverse => Err(refuse_at(*at)(NOT_SUPPORTED)),
-                Ok(normal) => self.node(&normal.node),
+                // one record, and so one step, with its inside
+                Ok(normal) => self.nodes(normal.node.as_slice()),
                 Err(_) => Err(refuse_at(*at)(NO_INVERSE)),
             },
             Node::PushUnder(..) | Node::CopyToUnder(..) | Node::PopUnder(..) => Ok(()),

@@ -14,6 +14,7 @@ use crate::{
     quiet::quietly,
     records,
     records::bytes_of,
+    stand_ins::steps::counted,
 };
 
 fn number_of(error: &AlgebraError) -> u8 {
@@ -68,6 +69,29 @@ pub mod rust {
                 Err(error) => Err(refusal_in(nodes, &asm, &error)),
             }
         })
+    }
+
+    /// How far the Rust comes in reading a list.
+    #[derive(Debug, Clone, Copy, PartialEq, Eq)]
+    pub enum End {
+        /// No record is refused; none or several sums may be left.
+        Whole,
+        Refused,
+        /// It was stopped as it began one step more than it may take.
+        Stopped,
+    }
+
+    /// How many steps the Rust takes in reading a list, of which it may take so many.
+    pub fn steps(list: &[u8], most: u64) -> Result<(u64, End), Refusal> {
+        let nodes = parse(list)?;
+        let asm = Assembly::default();
+        let (read, taken) = counted(most, || nodes_expr(&nodes, &asm).expr);
+        let end = match read {
+            None => End::Stopped,
+            Some(Ok(_) | Err(AlgebraError::NoOutput | AlgebraError::TooManyOutputs)) => End::Whole,
+            Some(Err(_)) => End::Refused,
+        };
+        Ok((taken, end))
     }
 
     /// A refusal after the reading has place 0.
@@ -314,6 +338,11 @@ pub fn guard_handled(list: &[u8]) -> Option<bool> {
         Err(Stop::Refused { handled, .. }) => Some(handled),
         Err(Stop::TooLong) => None,
     }
+}
+
+/// How many steps the guard's own walk takes, for holding it against the Rust.
+pub fn guard_steps(list: &[u8]) -> Option<u64> {
+    Some(guard::steps(&parse(list).ok()?))
 }
 
 /// What the guard's own steps come to for [`derive`].

@@ -4,6 +4,7 @@
 pub mod check;
 pub mod node;
 pub mod primitive;
+pub mod steps;
 pub mod value;
 
 #[rustfmt::skip]

@@ -11,7 +11,9 @@ use std::{
 
 use ecow::{EcoVec, eco_vec};
 
-use super::{ImplPrimitive, Primitive, Signature, Value, check::SigCheckError, check::nodes_sig};
+use super::{
+    ImplPrimitive, Primitive, Signature, Value, check::SigCheckError, check::nodes_sig, steps,
+};
 
 #[derive(Debug, Clone, PartialEq)]
 pub enum Node {
@@ -125,9 +127,14 @@ impl Node {
             self.as_vec().push(node);
         }
     }
+    /// The algebra asks for it as it begins a step, which is counted.
     pub fn span(&self) -> Option<usize> {
+        steps::come_to(self);
+        self.first_span()
+    }
+    fn first_span(&self) -> Option<usize> {
         match self {
-            Node::Run(nodes) => nodes.iter().find_map(Node::span),
+            Node::Run(nodes) => nodes.iter().find_map(Node::first_span),
             Node::Call(_, span)
             | Node::Push(_, span)
             | Node::Prim(_, span)
