@@ -6,8 +6,8 @@
  * that goes with it. A length of 0 is fine; its pointer is not read through.
  *
  * A result can be a long time coming: the modifier Both runs its body twice, so 127 records of nested
- * Both take 2^63 steps to read, and nothing refuses them. A program that reads lists from strangers
- * should turn such nesting away first.
+ * Both take more than 2^64 steps to read, and nothing refuses them. A program that reads lists from
+ * strangers asks uplink_cost first, and turns such a list away.
  *
  * Each function returns UPLINK_DONE or the number of a refusal. On a refusal the counts are zero
  * and no byte of `sum` or `out` is changed; on success bytes past what was written stay as they
@@ -136,6 +136,17 @@ struct uplink_run_answer {
     uint64_t peak;  /* the most values on the stack and held at once */
 };
 
+struct uplink_cost_answer {
+    uint64_t place; /* always 0 */
+    uint64_t steps; /* records that a reading runs; 2^64 - 1 stands for itself and for everything above */
+};
+
+/* A limit for uplink_cost, for programs without a reason for another. A list without Both never comes
+ * near it: it has at most 2,048 records, and each is run at most once. So many steps take less than a
+ * second where the sums are small, and hours at worst, where every other step is a power of a sum of 64
+ * terms (README.md, Lists from strangers). Who has less time sets a limit of 10,000: minutes at worst. */
+#define UPLINK_STEPS_RECOMMENDED 1000000
+
 /* From a list to the sum that it stands for. */
 uint64_t uplink_read(const uint8_t *list, size_t list_bytes, uint8_t *sum, size_t sum_bytes,
                      struct uplink_read_answer *answer);
@@ -164,6 +175,21 @@ uint64_t uplink_inverse(const uint8_t *list, size_t list_bytes, uint8_t *out, si
  * and the zero that it finds; below zero it is UPLINK_NEEDS_MATH. */
 uint64_t uplink_run(const uint8_t *list, size_t list_bytes, double x, double *value,
                     struct uplink_run_answer *answer);
+
+/* How many steps a reading of the list takes, known before it is read. A step is a record that is run,
+ * counted as often as it runs, and a body is a step of its own: Dup, Mul are 2 steps, Both with the body
+ * Neg is 5. Where uplink_read, uplink_derivative, uplink_integral or uplink_inverse meet no refusal in
+ * reading, they run exactly so many records; where they meet one, at most so many. (uplink_run runs each
+ * record at most once.) What follows reading is bounded by the 64 entries of a sum, and isn't counted.
+ *
+ * The only refusals are UPLINK_BAD_RECORD and UPLINK_TOO_DEEP, at place 0 with 0 steps. The time is linear
+ * in the records. What a collector writes before it reads a stranger's list:
+ *
+ *     struct uplink_cost_answer cost;
+ *     if (uplink_cost(list, list_bytes, &cost) != UPLINK_DONE) return NO_LIST;
+ *     if (cost.steps > UPLINK_STEPS_RECOMMENDED) return TOO_LONG;
+ */
+uint64_t uplink_cost(const uint8_t *list, size_t list_bytes, struct uplink_cost_answer *answer);
 
 #ifdef __cplusplus
 }

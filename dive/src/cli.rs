@@ -1,6 +1,8 @@
 //! The words of the command line.
 
-use crate::{explain::Asked, failure::Failure, help, nearest::nearest, numbers, table::Minutes};
+use crate::{
+    cost::ToRead, explain::Asked, failure::Failure, help, nearest::nearest, numbers, table::Minutes,
+};
 
 /// What the command line asks for.
 #[derive(Debug, Clone, PartialEq)]
@@ -18,14 +20,17 @@ pub enum Command {
         file: String,
         out: Option<String>,
     },
-    Read {
+    Cost {
         file: String,
+    },
+    Read {
+        list: ToRead,
         out: Option<String>,
     },
     /// Derivative, integral, inverse, or the list written anew.
     Make {
         asked: Asked,
-        file: String,
+        list: ToRead,
         out: Option<String>,
     },
     Run {
@@ -33,12 +38,12 @@ pub enum Command {
         x: f64,
     },
     Table {
-        file: String,
+        list: ToRead,
         minutes: Minutes,
         csv: bool,
     },
     Plot {
-        file: String,
+        list: ToRead,
         minutes: Minutes,
         out: String,
     },
@@ -50,6 +55,7 @@ struct Words {
     plain: Vec<String>,
     out: Option<String>,
     csv: bool,
+    long: bool,
     help: bool,
 }
 
@@ -117,6 +123,7 @@ fn sorted(rest: &[String]) -> Result<Words, String> {
                 }
             }
             "--csv" => words.csv = true,
+            "--long" => words.long = true,
             "-h" | "--help" => words.help = true,
             option
                 if option.len() > 1
@@ -133,33 +140,44 @@ fn sorted(rest: &[String]) -> Result<Words, String> {
 
 fn command(name: &str, words: Words) -> Result<Command, Failure> {
     check_options(name, &words)?;
-    let Words {
-        plain, out, csv, ..
-    } = words;
     match name {
-        "run" => run(plain),
-        "table" => {
-            let (file, minutes) = file_and_minutes(plain)?;
-            Ok(Command::Table { file, minutes, csv })
-        }
-        "plot" => plot(plain, out),
-        _ => of_one_file(name, one(plain)?, out),
+        "run" => run(words.plain),
+        "table" => table(words),
+        "plot" => plot(words),
+        _ => of_one_file(name, words),
     }
 }
+
+/// The commands that read a list as a formula.
+const READING: [&str; 7] = [
+    "read",
+    "derivative",
+    "integral",
+    "inverse",
+    "write",
+    "table",
+    "plot",
+];
 
 fn check_options(name: &str, words: &Words) -> Result<(), Failure> {
     if words.csv && name != "table" {
         return Err(Failure::Usage("--csv is for the table alone".into()));
     }
-    if words.out.is_some() && matches!(name, "show" | "run" | "table") {
+    if words.out.is_some() && matches!(name, "show" | "cost" | "run" | "table") {
         return Err(Failure::Usage(
             "what it finds is printed, and it takes no -o".into(),
+        ));
+    }
+    if words.long && !READING.contains(&name) {
+        return Err(Failure::Usage(
+            "it doesn't read the list as a formula, and takes no --long".into(),
         ));
     }
     Ok(())
 }
 
-fn of_one_file(name: &str, file: String, out: Option<String>) -> Result<Command, Failure> {
+fn of_one_file(name: &str, words: Words) -> Result<Command, Failure> {
+    let (file, out, long) = (one(words.plain)?, words.out, words.long);
     let asked = match name {
         "show" => return Ok(Command::Show { file }),
         "assemble" => {
@@ -169,13 +187,18 @@ fn of_one_file(name: &str, file: String, out: Option<String>) -> Result<Command,
             })
         }
         "text" => return Ok(Command::Text { file, out }),
-        "read" => return Ok(Command::Read { file, out }),
+        "cost" => return Ok(Command::Cost { file }),
+        "read" => {
+            let list = ToRead { file, long };
+            return Ok(Command::Read { list, out });
+        }
         "derivative" => Asked::Derivative,
         "integral" => Asked::Integral,
         "write" => Asked::Write,
         _ => Asked::Inverse,
     };
-    Ok(Command::Make { asked, file, out })
+    let list = ToRead { file, long };
+    Ok(Command::Make { asked, list, out })
 }
 
 fn run(plain: Vec<String>) -> Result<Command, Failure> {
@@ -184,15 +207,24 @@ fn run(plain: Vec<String>) -> Result<Command, Failure> {
     Ok(Command::Run { file, x })
 }
 
-fn plot(plain: Vec<String>, out: Option<String>) -> Result<Command, Failure> {
-    let (file, minutes) = file_and_minutes(plain)?;
+fn table(words: Words) -> Result<Command, Failure> {
+    let (list, minutes) = list_and_minutes(words.plain, words.long)?;
+    Ok(Command::Table {
+        list,
+        minutes,
+        csv: words.csv,
+    })
+}
+
+fn plot(words: Words) -> Result<Command, Failure> {
+    let (list, minutes) = list_and_minutes(words.plain, words.long)?;
     if minutes.from == minutes.to {
         return Err(Failure::Usage("FROM must be below TO for a plot".into()));
     }
     Ok(Command::Plot {
-        file,
+        list,
         minutes,
-        out: needed(out)?,
+        out: needed(words.out)?,
     })
 }
 
@@ -212,10 +244,10 @@ fn needed(out: Option<String>) -> Result<String, Failure> {
     out.ok_or_else(|| Failure::Usage("-o and the name of a file to write are needed".into()))
 }
 
-fn file_and_minutes(plain: Vec<String>) -> Result<(String, Minutes), Failure> {
+fn list_and_minutes(plain: Vec<String>, long: bool) -> Result<(ToRead, Minutes), Failure> {
     let [file, from, to, step] = exactly(plain, "FILE, FROM, TO and STEP")?;
     let minutes = Minutes::parse([&from, &to, &step])?;
-    Ok((file, minutes))
+    Ok((ToRead { file, long }, minutes))
 }
 
 #[cfg(test)]
@@ -236,6 +268,7 @@ mod tests {
     #[test]
     fn commands_are_understood() {
         let file = || String::from("a.txt");
+        let list = |long| ToRead { file: file(), long };
         assert_eq!(parsed("show a.txt"), Ok(Command::Show { file: file() }));
         assert_eq!(
             parsed("run a.txt -2.5"),
@@ -248,16 +281,17 @@ mod tests {
         assert_eq!(
             parsed("read -o b a.txt"),
             Ok(Command::Read {
-                file: file(),
+                list: list(false),
                 out: out.clone()
             })
         );
         let made = Command::Make {
             asked: Asked::Inverse,
-            file: file(),
+            list: list(true),
             out,
         };
-        assert_eq!(parsed("inverse a.txt --output b"), Ok(made));
+        assert_eq!(parsed("inverse a.txt --long --output b"), Ok(made));
+        assert_eq!(parsed("cost a.txt"), Ok(Command::Cost { file: file() }));
         assert!(matches!(
             parsed("table - 0 10 1 --csv"),
             Ok(Command::Table { csv: true, .. })
@@ -271,6 +305,38 @@ mod tests {
             Ok(Command::Help(Some("table".into())))
         );
         assert_eq!(parsed("--version"), Ok(Command::Version));
+    }
+
+    /// A command line of the commands that have these names.
+    fn lines<'a>(names: &'a [&str]) -> impl Iterator<Item = String> + 'a {
+        names.iter().map(|name| match *name {
+            "run" => "run a.txt 1".into(),
+            "table" => "table a.txt 0 1 1".into(),
+            "plot" => "plot a.txt 0 1 1 -o b".into(),
+            "assemble" => "assemble a.txt -o b".into(),
+            name => format!("{name} a.txt"),
+        })
+    }
+
+    #[test]
+    fn commands_that_read_take_long() {
+        let is_long = |line: &str| match parsed(line) {
+            Ok(
+                Command::Read { list, .. }
+                | Command::Make { list, .. }
+                | Command::Table { list, .. }
+                | Command::Plot { list, .. },
+            ) => list.long,
+            other => panic!("{other:?} reads no list"),
+        };
+        for line in lines(&READING) {
+            assert!(!is_long(&line), "{line}");
+            assert!(is_long(&(line.clone() + " --long")), "{line}");
+        }
+        for line in lines(&["show", "assemble", "text", "cost", "run"]) {
+            assert!(parsed(&line).is_ok(), "{line}");
+            assert!(refused(&(line + " --long")).contains("takes no --long"));
+        }
     }
 
     #[test]
@@ -287,6 +353,7 @@ mod tests {
         assert!(refused("show a.txt --fast").contains("no option --fast"));
         assert!(refused("show a.txt -o").contains("after -o"));
         assert!(refused("show a.txt -o b").contains("no -o"));
+        assert!(refused("cost a.txt -o b").contains("no -o"));
         assert!(refused("read a.txt --csv").contains("table alone"));
         assert!(refused("help me").contains("no command `me`"));
     }

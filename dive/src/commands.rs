@@ -8,6 +8,7 @@ use uplink::{
 
 use crate::{
     cli::Command,
+    cost::{self, ToRead},
     explain::{explained, Asked},
     failure::Failure,
     formula::{formula, table as term_table},
@@ -49,11 +50,12 @@ pub fn run(command: Command) -> Done {
         Command::Show { file } => show(&file),
         Command::Assemble { file, out } => assemble(&file, &out),
         Command::Text { file, out } => text(&file, out.as_deref()),
-        Command::Read { file, out } => read_list(&file, out.as_deref()),
-        Command::Make { asked, file, out } => make(asked, &file, out.as_deref()),
+        Command::Cost { file } => cost_of(&file),
+        Command::Read { list, out } => read_list(&list, out.as_deref()),
+        Command::Make { asked, list, out } => make(asked, &list, out.as_deref()),
         Command::Run { file, x } => run_list(&file, x),
-        Command::Table { file, minutes, csv } => table(&file, minutes, csv),
-        Command::Plot { file, minutes, out } => plot(&file, minutes, &out),
+        Command::Table { list, minutes, csv } => table(&list, minutes, csv),
+        Command::Plot { list, minutes, out } => plot(&list, minutes, &out),
     }
 }
 
@@ -93,13 +95,19 @@ fn refuse(asked: Asked, source: &Source) -> impl Fn(Refused) -> Failure + '_ {
     move |refused| Failure::Refused(explained(asked, source, refused))
 }
 
-fn read_list(file: &str, out: Option<&str>) -> Done {
+fn cost_of(file: &str) -> Done {
     let source = Source::load(file)?;
+    let steps = bytes::cost(&source.bytes).map_err(refuse(Asked::Cost, &source))?;
+    Ok(cost::text(steps).into())
+}
+
+fn read_list(list: &ToRead, out: Option<&str>) -> Done {
+    let source = list.load()?;
     let mut room = [0; SUM_BYTES];
     let found = bytes::read(&source.bytes, &mut room).map_err(refuse(Asked::Read, &source))?;
     let remarks = of_source(&source).into_iter().collect();
     if let Some(out) = out {
-        return save(out, found.sum, file).map(|()| Printed {
+        return save(out, found.sum, &list.file).map(|()| Printed {
             text: String::new(),
             remarks,
         });
@@ -121,8 +129,8 @@ fn of_source(source: &Source) -> Option<String> {
     remarks::of_list(&source.list().ok()?)
 }
 
-fn make(asked: Asked, file: &str, out: Option<&str>) -> Done {
-    let source = Source::load(file)?;
+fn make(asked: Asked, given: &ToRead, out: Option<&str>) -> Done {
+    let source = given.load()?;
     let mut room = vec![0; LIST_BYTES];
     let made = match asked {
         Asked::Derivative => bytes::derivative(&source.bytes, &mut room),
@@ -135,7 +143,7 @@ fn make(asked: Asked, file: &str, out: Option<&str>) -> Done {
     let (heading, of_result) = about(asked, &source, &list).unwrap_or_default();
     let remarks = of_source(&source).into_iter().chain(of_result).collect();
     match out {
-        Some(out) => save(out, made, file).map(|()| Printed {
+        Some(out) => save(out, made, &given.file).map(|()| Printed {
             text: String::new(),
             remarks,
         }),
@@ -181,8 +189,8 @@ fn run_list(file: &str, x: f64) -> Done {
     .into())
 }
 
-fn table(file: &str, minutes: Minutes, csv: bool) -> Done {
-    let source = Source::load(file)?;
+fn table(list: &ToRead, minutes: Minutes, csv: bool) -> Done {
+    let source = list.load()?;
     let table = table::table(&source, minutes)?;
     let text = if csv {
         table::csv(&table.rows)
@@ -205,8 +213,8 @@ fn of_table(source: &Source, gaps: Vec<String>) -> Vec<String> {
         .collect()
 }
 
-fn plot(file: &str, minutes: Minutes, out: &str) -> Done {
-    let source = Source::load(file)?;
+fn plot(list: &ToRead, minutes: Minutes, out: &str) -> Done {
+    let (file, source) = (&list.file, list.load()?);
     let table = table::table(&source, minutes)?;
     let title = Path::new(&source.name)
         .file_name()

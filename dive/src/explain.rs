@@ -11,6 +11,7 @@ use crate::{
 /// What was asked of a list.
 #[derive(Debug, Clone, Copy, PartialEq)]
 pub enum Asked {
+    Cost,
     Read,
     Derivative,
     Integral,
@@ -24,6 +25,7 @@ pub enum Asked {
 impl Asked {
     fn named(self) -> String {
         match self {
+            Asked::Cost => "its cost".into(),
             Asked::Read => "reading it".into(),
             Asked::Derivative => "its derivative".into(),
             Asked::Integral => "its integral".into(),
@@ -196,6 +198,7 @@ mod tests {
         let mut found = Vec::new();
         let mut add =
             |asked, refused: Option<Refused>| found.extend(refused.map(|refused| (asked, refused)));
+        add(Asked::Cost, bytes::cost(list).err());
         add(Asked::Read, bytes::read(list, &mut room).err());
         add(Asked::Derivative, bytes::derivative(list, &mut room).err());
         add(Asked::Integral, bytes::integral(list, &mut room).err());

@@ -14,6 +14,7 @@ dive: formulas of dives as lists of steps
   dive show FILE                       the list in words, numbered by place
   dive assemble FILE -o OUT            from the text notation to records
   dive text FILE                       from records to the text notation
+  dive cost FILE                       how many steps it takes to read the list
   dive read FILE                       the formula that the list stands for
   dive derivative FILE                 the list of its derivative: speed
   dive integral FILE                   the list of its integral
@@ -29,11 +30,14 @@ FILE is a list of records (24 bytes each) or in the text notation: a file with
 a zero byte in it is taken as records, any other as text. - is what comes from
 the standard input.
 
+A list that takes more than ten million steps to read is read only with --long:
+`dive help cost`.
+
 Exit codes: 0 done, 1 refused, 2 wrong usage or a file that can't be read or
 written.
 ";
 
-pub const COMMANDS: [Command; 12] = [
+pub const COMMANDS: [Command; 13] = [
     Command {
         name: "show",
         usage: "show FILE",
@@ -61,8 +65,28 @@ the same bytes.
 ",
     },
     Command {
+        name: "cost",
+        usage: "cost FILE",
+        about: "\
+Prints how many steps it takes to read the list as a formula, without reading
+it. A step is a record that is run, as often as it runs; a body is a step of its
+own. Both runs its body twice, so a Both inside a Both doubles the steps, and a
+short list can take longer than anyone can wait. More than 2^64 - 2 steps are
+not told apart: `more than 18 quintillion` is printed for them.
+
+Commands that read the list (read, derivative, integral, inverse, write, table,
+plot) ask for this number first. Above ten million they print it and stop,
+unless --long is given.
+
+Example: 62 Boths, one inside the other
+
+  dive cost samples/hostile.txt        # 18446744073709551613
+  dive read samples/hostile.txt        # refused at once
+",
+    },
+    Command {
         name: "read",
-        usage: "read FILE [-o OUT]",
+        usage: "read FILE [-o OUT] [--long]",
         about: "\
 Reads the list as a formula, a sum of terms, and prints it, with the coefficient
 of each term. With -o the sum is written to OUT as entries, 32 bytes each, and
@@ -71,7 +95,7 @@ nothing is printed.
     },
     Command {
         name: "derivative",
-        usage: "derivative FILE [-o OUT]",
+        usage: "derivative FILE [-o OUT] [--long]",
         about: "\
 Prints the derivative of the list's formula, and the list of steps that computes
 it: for a list of depth that is the list of speed. With -o the list is written
@@ -80,7 +104,7 @@ to OUT as records, and nothing is printed.
     },
     Command {
         name: "integral",
-        usage: "integral FILE [-o OUT]",
+        usage: "integral FILE [-o OUT] [--long]",
         about: "\
 Prints the integral of the list's formula, and the list of steps that computes
 it. With -o the list is written to OUT as records, and nothing is printed.
@@ -88,7 +112,7 @@ it. With -o the list is written to OUT as records, and nothing is printed.
     },
     Command {
         name: "inverse",
-        usage: "inverse FILE [-o OUT]",
+        usage: "inverse FILE [-o OUT] [--long]",
         about: "\
 Prints the list of steps that undoes the list: from a depth to the minute. With
 -o it is written to OUT as records, and nothing is printed.
@@ -96,7 +120,7 @@ Prints the list of steps that undoes the list: from a depth to the minute. With
     },
     Command {
         name: "write",
-        usage: "write FILE [-o OUT]",
+        usage: "write FILE [-o OUT] [--long]",
         about: "\
 Prints the list's formula, and a list of steps that is written from it: terms in
 rising order, and On the only modifier, so that the page can run it where all
@@ -122,7 +146,7 @@ same step makes the constant 0, and the derivative goes by that.
     },
     Command {
         name: "table",
-        usage: "table FILE FROM TO STEP [--csv]",
+        usage: "table FILE FROM TO STEP [--csv] [--long]",
         about: "\
 Prints depth (the list's value, in metres) and speed (its derivative's value, in
 metres per minute, above 0 on the way down) at the minutes FROM, FROM + STEP and
@@ -133,7 +157,7 @@ table it is said why.
     },
     Command {
         name: "plot",
-        usage: "plot FILE FROM TO STEP -o OUT",
+        usage: "plot FILE FROM TO STEP -o OUT [--long]",
         about: "\
 Writes the table of `dive table` to OUT as a picture (SVG): depth above, growing
 downward, and speed below, over the same minutes.

@@ -5,6 +5,7 @@
 mod axis;
 mod cli;
 mod commands;
+mod cost;
 mod explain;
 mod failure;
 mod formula;

@@ -1,4 +1,4 @@
-/* Calls every function of uplink.h on answers that document 01 prints, and on wrong input. */
+/* Calls every function of uplink.h on answers that document 01 prints, on lists whose cost is known, and on wrong input. */
 #include "uplink.h"
 #include <stdio.h>
 #include <string.h>
@@ -26,6 +26,31 @@ static struct uplink_record primitive(uint8_t code)
     struct uplink_record r = {0};
     r.kind = UPLINK_PRIMITIVE;
     r.code = code;
+    return r;
+}
+
+static struct uplink_record modifier(uint8_t code, uint32_t inside)
+{
+    struct uplink_record r = {0};
+    r.kind = UPLINK_MODIFIER;
+    r.code = code;
+    r.inside = inside;
+    return r;
+}
+
+static struct uplink_record body(uint32_t inside)
+{
+    struct uplink_record r = {0};
+    r.kind = UPLINK_BODY;
+    r.inside = inside;
+    return r;
+}
+
+static struct uplink_record run_of(uint32_t inside)
+{
+    struct uplink_record r = {0};
+    r.kind = UPLINK_RUN;
+    r.inside = inside;
     return r;
 }
 
@@ -137,6 +162,111 @@ static void refusals(void)
     expect(value == 0 && ran.place == 2 && ran.steps == 0 && ran.peak == 0, "with value, steps and peak 0");
 }
 
+static void costs(const struct uplink_record *list, size_t count, uint64_t steps, const char *what)
+{
+    struct uplink_cost_answer answer = {7, 7};
+
+    expect(uplink_cost((const uint8_t *)list, count * sizeof *list, &answer) == UPLINK_DONE, "a cost is told");
+    expect(answer.place == 0 && answer.steps == steps, what);
+}
+
+/* So many Boths, each in the body of the one before, around Neg. */
+static size_t nested(struct uplink_record *list, size_t boths)
+{
+    size_t count = 2 * boths + 1, at;
+
+    for (at = 0; at < boths; at++) {
+        list[2 * at] = modifier(UPLINK_BOTH, count - 2 * at - 1);
+        list[2 * at + 1] = body(count - 2 * at - 2);
+    }
+    list[2 * boths] = primitive(UPLINK_NEG);
+    return count;
+}
+
+/* Steps, up to the number that stands for everything above it too. */
+static void steps(void)
+{
+    struct uplink_record squared[] = {primitive(UPLINK_DUP), primitive(UPLINK_MUL)};
+    struct uplink_record on_two[] = {modifier(UPLINK_ON, 4), body(1), primitive(UPLINK_NEG), body(1), primitive(UPLINK_NEG)};
+    struct uplink_record list[129];
+
+    costs(squared, 0, 0, "an empty list costs nothing");
+    costs(squared, 2, 2, "Dup, Mul costs 2");
+    costs(on_two, 5, 1, "On with two bodies runs none of them");
+    costs(list, nested(list, 1), 5, "Both of Neg costs 5");
+    costs(list, nested(list, 9), 2045, "nine Boths cost 2,045");
+    costs(list, nested(list, 61), UINT64_MAX / 2 - 2, "61 Boths cost 2^63 - 3");
+    costs(list, nested(list, 62), UINT64_MAX - 2, "62 Boths cost 2^64 - 3");
+    costs(list, nested(list, 63), UINT64_MAX, "63 Boths cost more than is told");
+    costs(list, nested(list, 64), UINT64_MAX, "64 Boths too");
+}
+
+/* The three lines of uplink.h, on a list that may be read and on one that may not. */
+static int is_turned_away(const struct uplink_record *list, size_t count)
+{
+    struct uplink_cost_answer cost;
+
+    if (uplink_cost((const uint8_t *)list, count * sizeof *list, &cost) != UPLINK_DONE) return 1;
+    return cost.steps > UPLINK_STEPS_RECOMMENDED;
+}
+
+static void limits(void)
+{
+    struct uplink_record list[125];
+
+    expect(!is_turned_away(list, nested(list, 17)), "17 Boths are let in");
+    expect(is_turned_away(list, nested(list, 18)), "18 Boths are turned away");
+    expect(is_turned_away(list, nested(list, 62)), "62 Boths are turned away");
+}
+
+static void costs_nothing(const void *list, size_t bytes, uint64_t number, const char *what)
+{
+    struct uplink_cost_answer answer = {7, 7};
+
+    expect(uplink_cost(list, bytes, &answer) == number, what);
+    expect(answer.place == 0 && answer.steps == 0, "at place 0, with 0 steps");
+}
+
+/* A list that is none has no cost. */
+static void no_costs(void)
+{
+    static struct uplink_record many[UPLINK_MOST_RECORDS + 1];
+    struct uplink_record deep[130], squared[] = {primitive(UPLINK_DUP), primitive(UPLINK_MUL)};
+    struct uplink_record loose[] = {body(0)}, wrong[] = {primitive(UPLINK_DUP), push(1)};
+    size_t at;
+
+    wrong[1].im = 1;
+    for (at = 0; at <= UPLINK_MOST_RECORDS; at++) many[at] = primitive(UPLINK_NEG);
+    for (at = 0; at < 130; at++) deep[at] = run_of(129 - at);
+    costs_nothing(squared, sizeof squared - 1, UPLINK_BAD_RECORD, "a length that isn't whole records");
+    costs_nothing(wrong, sizeof wrong, UPLINK_BAD_RECORD, "an unused byte that isn't 0");
+    costs_nothing(loose, sizeof loose, UPLINK_BAD_RECORD, "a body without a modifier");
+    costs_nothing(many, sizeof many, UPLINK_BAD_RECORD, "2,049 records");
+    costs(many, UPLINK_MOST_RECORDS, UPLINK_MOST_RECORDS, "2,048 records cost a step each");
+    costs_nothing(deep, sizeof deep, UPLINK_TOO_DEEP, "129 levels");
+    costs(deep + 1, 129, 129, "128 levels cost a step for each record");
+}
+
+/* Nothing but the answer is written, on success and on a refusal. */
+static void only_the_answer(void)
+{
+    struct uplink_record list[125], before[125];
+    struct uplink_cost_answer answers[3];
+    uint8_t around[sizeof *answers];
+    size_t count = nested(list, 62), cut;
+
+    memset(around, 0xa5, sizeof around);
+    memcpy(before, list, sizeof list);
+    for (cut = 0; cut < 2; cut++) {
+        memset(answers, 0xa5, sizeof answers);
+        uplink_cost((const uint8_t *)list, count * sizeof *list - cut, &answers[1]);
+        expect(same(list, before, count), "the list is as it was");
+        expect(memcmp(&answers[0], around, sizeof around) == 0, "nothing is written before the answer");
+        expect(memcmp(&answers[2], around, sizeof around) == 0, "nothing is written after the answer");
+        expect(answers[1].place == 0 && answers[1].steps == (cut ? 0 : UINT64_MAX - 2), "the answer is written");
+    }
+}
+
 int main(void)
 {
     expect(sizeof(struct uplink_record) == UPLINK_RECORD_BYTES, "a record's size");
@@ -146,6 +276,10 @@ int main(void)
     nought();
     overflows();
     refusals();
+    steps();
+    limits();
+    no_costs();
+    only_the_answer();
     printf(failures ? "%d failed\n" : "the C functions answer as printed\n", failures);
     return failures != 0;
 }

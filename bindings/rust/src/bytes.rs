@@ -1,4 +1,4 @@
-//! The eight entries over bytes, with the caller's buffers: nothing is allocated.
+//! The nine entries over bytes, with the caller's buffers: nothing is allocated.
 //!
 //! A buffer of [`SUM_BYTES`](crate::SUM_BYTES) has room for any sum and one of [`LIST_BYTES`](crate::LIST_BYTES) for any list. A refusal changes no byte
 //! of it; a result is written to its front, and the bytes behind that stay as they were.
@@ -19,6 +19,12 @@
 //! ```
 
 use crate::{ffi, Refusal, Refused, ENTRY_BYTES, RECORD_BYTES};
+
+/// The largest cost that is told: it stands for itself and for everything above it.
+pub const MOST_STEPS: u64 = u64::MAX;
+/// A limit for the cost of a list, for programs without a reason for another. A list without Both never comes near it; so many steps take less than a
+/// second where the sums are small, and hours at worst. The repository's README tells more (Lists from strangers).
+pub const STEPS_RECOMMENDED: u64 = 1_000_000;
 
 /// A sum that was read.
 #[derive(Debug, Clone, Copy, PartialEq, Eq)]
@@ -67,7 +73,7 @@ fn written(
 
 /// From a list to the sum that it stands for.
 ///
-/// Both inside Both, many times over, doubles the steps at each level, and no limit is set on them.
+/// Both inside Both, many times over, doubles the steps at each level, and no limit is set on them; [`cost`] tells them beforehand.
 ///
 /// # Errors
 /// Any refusal but NotHandled.
@@ -143,4 +149,19 @@ pub fn run(list: &[u8], x: f64) -> Result<Ran, Refused> {
     let (number, value, [place, steps, peak]) = ffi::run(list, x);
     checked(number, place)?;
     Ok(Ran { value, steps, peak })
+}
+
+/// How many steps a reading of the list takes, known before it is read, in time linear in its records.
+///
+/// A step is a record that is run, counted as often as it runs, and a body is a step of its own. Where [`read`], [`derivative`], [`integral`] or [`inverse`]
+/// meet no refusal in reading, they run exactly so many records; where they meet one, at most so many. A number above [`MOST_STEPS`] is told as that one.
+///
+/// A program that takes lists from strangers asks first, and turns away what is above a limit of its own, or above [`STEPS_RECOMMENDED`].
+///
+/// # Errors
+/// BadRecord, TooDeep.
+pub fn cost(list: &[u8]) -> Result<u64, Refused> {
+    let (number, [place, steps]) = ffi::cost(list);
+    checked(number, place)?;
+    Ok(steps)
 }

@@ -62,6 +62,7 @@ mod raw {
             value: *mut f64,
             answer: *mut u64,
         ) -> u64;
+        pub fn uplink_cost(list: *const u8, list_len: usize, answer: *mut u64) -> u64;
     }
 }
 
@@ -135,4 +136,12 @@ pub fn run(list: &[u8], x: f64) -> (u64, f64, [u64; 3]) {
         )
     };
     (number, value, answer)
+}
+
+/// Place and steps.
+pub fn cost(list: &[u8]) -> (u64, [u64; 2]) {
+    let mut answer = [0; 2];
+    // SAFETY: as in `read`.
+    let number = unsafe { raw::uplink_cost(list.as_ptr(), list.len(), answer.as_mut_ptr()) };
+    (number, answer)
 }

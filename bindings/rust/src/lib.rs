@@ -10,7 +10,7 @@ mod record;
 mod refusal;
 mod typed;
 
-pub use bytes::Ran;
+pub use bytes::{Ran, MOST_STEPS, STEPS_RECOMMENDED};
 pub use entry::{
     decode_sum, encode_sum, Entry, Term, ENTRY_BYTES, MOST_ENTRIES, MOST_NESTING, SUM_BYTES,
 };
@@ -20,4 +20,4 @@ pub use record::{
     MOST_RECORDS, RECORD_BYTES,
 };
 pub use refusal::{Refusal, Refused};
-pub use typed::{derivative, derive, integral, integrate, inverse, read, run, write, Sum};
+pub use typed::{cost, derivative, derive, integral, integrate, inverse, read, run, write, Sum};

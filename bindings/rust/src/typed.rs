@@ -1,4 +1,4 @@
-//! The eight entries over typed lists and sums.
+//! The nine entries over typed lists and sums.
 
 use crate::{
     bytes, decode_list, decode_sum, encode_list, encode_sum, Entry, Ran, Record, Refused,
@@ -153,4 +153,22 @@ pub fn inverse(list: &[Record]) -> Result<Vec<Record>, Refused> {
 /// As [`bytes::run`].
 pub fn run(list: &[Record], x: f64) -> Result<Ran, Refused> {
     bytes::run(&encode_list(list), x)
+}
+
+/// How many steps a reading of the list takes, known before it is read. What a step is, is told at [`bytes::cost`].
+///
+/// ```
+/// use uplink::{cost, modified, Modifier, Primitive, MOST_STEPS, STEPS_RECOMMENDED};
+/// assert_eq!(cost(&[Primitive::Dup.into(), Primitive::Mul.into()])?, 2);
+/// // Both runs its body twice: a stranger's list of 127 records takes longer than anyone can wait
+/// let nested = (0..63).fold(vec![Primitive::Neg.into()], |list, _| modified(Modifier::Both, &[(0, &list)]));
+/// assert_eq!(cost(&nested)?, MOST_STEPS);
+/// assert!(cost(&nested)? > STEPS_RECOMMENDED); // so it is turned away
+/// # Ok::<(), uplink::Refused>(())
+/// ```
+///
+/// # Errors
+/// As [`bytes::cost`].
+pub fn cost(list: &[Record]) -> Result<u64, Refused> {
+    bytes::cost(&encode_list(list))
 }

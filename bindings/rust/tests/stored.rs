@@ -1,34 +1,14 @@
 //! Every stored answer (vectors/) holds of this crate's functions: number, place, flag and every byte.
 
-use std::{fs, path::Path};
+mod common;
 
+use common::{file, lines, Line};
 use uplink::{
     bytes, decode_list, decode_sum, encode_list, encode_sum, list_fault, Refusal, Refused,
     ENTRY_BYTES, LIST_BYTES, RECORD_BYTES, SUM_BYTES,
 };
 
-/// A line of stored answers: a keyword, then words.
-struct Line<'a> {
-    keyword: &'a str,
-    words: Vec<&'a str>,
-}
-
 impl Line<'_> {
-    fn number(&self, at: usize) -> u64 {
-        self.words[at].parse().expect("a number")
-    }
-
-    /// Records or entries in hex, zero bytes at their ends left off.
-    fn bytes(&self, from: usize, each: usize) -> Vec<u8> {
-        let mut bytes = Vec::new();
-        for word in &self.words[from..] {
-            let digits = (0..word.len() / 2).map(|at| &word[2 * at..2 * at + 2]);
-            bytes.extend(digits.map(|digits| u8::from_str_radix(digits, 16).expect("hex")));
-            bytes.resize(bytes.len().next_multiple_of(each), 0);
-        }
-        bytes
-    }
-
     /// The answer that starts at a word: a refusal with its place, or bytes behind so many more words.
     fn answer(&self, at: usize, skipped: usize, each: usize) -> Result<Vec<u8>, Refused> {
         let place = self.number(at + 1) as usize;
@@ -37,21 +17,6 @@ impl Line<'_> {
             None => Ok(self.bytes(at + 2 + skipped, each)),
         }
     }
-}
-
-fn file(name: &str) -> String {
-    let folder = Path::new(env!("CARGO_MANIFEST_DIR")).join("../../vectors");
-    fs::read_to_string(folder.join(name)).expect("stored answers")
-}
-
-fn lines(text: &str) -> impl Iterator<Item = Line<'_>> {
-    text.lines().map(|line| {
-        let mut words = line.split(' ');
-        Line {
-            keyword: words.next().unwrap_or(""),
-            words: words.collect(),
-        }
-    })
 }
 
 /// What the library answers to a line about a list or a sum, and what is stored.
@@ -145,7 +110,7 @@ fn runs(line: &Line<'_>, list: &[u8]) -> [Result<[u64; 3], Refused>; 2] {
         }),
         None => Ok([bits(3), line.number(4), line.number(5)]),
     };
-    let found = found.map(|ran| [ran.value.to_bits(), ran.steps as u64, ran.peak as u64]);
+    let found = found.map(|ran| [ran.value.to_bits(), ran.steps, ran.peak]);
     [found, stored]
 }
 

@@ -1,0 +1,108 @@
+//! What it takes to read a list, asked before it is read.
+
+use uplink::{bytes, MOST_STEPS};
+
+use crate::{failure::Failure, source::Source};
+
+/// A list of up to so many steps is read without `--long`.
+const MOST_WITHOUT_LONG: u64 = 10_000_000;
+
+/// A file whose list is to be read as a formula.
+#[derive(Debug, Clone, PartialEq, Eq)]
+pub struct ToRead {
+    pub file: String,
+    /// However long that takes.
+    pub long: bool,
+}
+
+impl ToRead {
+    /// The list in the file.
+    ///
+    /// # Errors
+    /// There is none, or reading it would take too long.
+    pub fn load(&self) -> Result<Source, Failure> {
+        let source = Source::load(&self.file)?;
+        match bytes::cost(&source.bytes) {
+            Ok(steps) if is_too_long(steps, self.long) => {
+                Err(Failure::Refused(too_long(&source.name, steps)))
+            }
+            // Bytes that are no list are refused by reading too, which says why.
+            _ => Ok(source),
+        }
+    }
+}
+
+const fn is_too_long(steps: u64, long: bool) -> bool {
+    steps > MOST_WITHOUT_LONG && !long
+}
+
+fn too_long(name: &str, steps: u64) -> String {
+    format!(
+        "{name}: reading it would take {} steps, and it isn't read.\n\
+         Both runs its body twice, so a Both inside a Both doubles the steps. A list of more than {} steps is read only with --long.",
+        counted(steps, grouped),
+        grouped(MOST_WITHOUT_LONG)
+    )
+}
+
+/// A number of steps, in digits as given; the largest is told for everything above it too.
+fn counted(steps: u64, digits: fn(u64) -> String) -> String {
+    match steps {
+        MOST_STEPS => "more than 18 quintillion".into(),
+        steps => digits(steps),
+    }
+}
+
+/// A number of steps as `dive cost` prints it.
+pub fn text(steps: u64) -> String {
+    format!("steps  {}\n", counted(steps, |steps| steps.to_string()))
+}
+
+/// A number with a comma before every three digits.
+fn grouped(number: u64) -> String {
+    let digits = number.to_string();
+    let mut text = String::new();
+    for (at, digit) in digits.chars().enumerate() {
+        if at > 0 && (digits.len() - at) % 3 == 0 {
+            text.push(',');
+        }
+        text.push(digit);
+    }
+    text
+}
+
+#[cfg(test)]
+mod tests {
+    use super::*;
+
+    #[test]
+    fn the_limit_is_ten_million() {
+        assert!(!is_too_long(10_000_000, false));
+        assert!(is_too_long(10_000_001, false));
+        assert!(is_too_long(MOST_STEPS, false));
+        assert!(!is_too_long(MOST_STEPS, true));
+    }
+
+    #[test]
+    fn numbers_are_grouped() {
+        let cases = [
+            (0, "0"),
+            (999, "999"),
+            (1000, "1,000"),
+            (10_000_000, "10,000,000"),
+            (u64::MAX, "18,446,744,073,709,551,615"),
+        ];
+        for (number, text) in cases {
+            assert_eq!(grouped(number), text);
+        }
+    }
+
+    #[test]
+    fn a_number_that_is_capped_says_so() {
+        assert_eq!(text(5), "steps  5\n");
+        assert_eq!(text(MOST_STEPS - 1), "steps  18446744073709551614\n");
+        assert_eq!(text(MOST_STEPS), "steps  more than 18 quintillion\n");
+        assert!(too_long("a", MOST_STEPS)
+            .starts_with("a: reading it would take more than 18 quintillion steps, and"));
+    }
+}
