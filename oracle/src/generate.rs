@@ -811,7 +811,7 @@ fn limits_of_entries(add: &mut impl FnMut(&str)) {
 }
 
 /// A record `count` times, by nested Both: each level doubles.
-fn repeated(record: &str, count: usize) -> String {
+pub(crate) fn repeated(record: &str, count: usize) -> String {
     (0..count.ilog2() as usize + 1)
         .filter(|bit| count >> bit & 1 == 1)
         .map(|bit| "Both(0: ".repeat(bit) + record + &")".repeat(bit) + " ")

@@ -10,6 +10,7 @@ pub mod answer;
 pub mod back;
 pub mod cost;
 pub mod costly;
+pub mod crowded;
 pub mod evaluate;
 pub mod features;
 pub mod generate;

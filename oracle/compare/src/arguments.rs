@@ -9,11 +9,12 @@ use std::{
 pub const USAGE: &str = "\
 compare: the proved library against the judge, in one process
 
-    compare [--exhaustive LENGTH] [--modifiers] [--lists N] [--seconds S] [--roots N]
-            [--seed SEED] [--block B] [--threads T] [--record FILE]
+    compare [--exhaustive LENGTH] [--modifiers] [--crowded] [--lists N] [--seconds S]
+            [--roots N] [--seed SEED] [--block B] [--threads T] [--record FILE]
 
 --exhaustive LENGTH  all lists of up to LENGTH records of an alphabet of 31
 --modifiers          all short lists of one modifier with bodies of up to one record
+--crowded            lists over a stack of 1,024 entries, a few less and one more; powers after powers
 --lists N            N random lists, no two the same, after those near every limit
 --seconds S          random lists until S seconds have passed in all
 --roots N            a list of one Sqrt at N numbers, against the processor's root
@@ -30,6 +31,7 @@ can't start.";
 pub struct Settings {
     pub exhaustive: Option<usize>,
     pub modifiers: bool,
+    pub crowded: bool,
     pub lists: Option<u64>,
     pub seconds: Option<u64>,
     pub roots: u64,
@@ -44,6 +46,10 @@ impl Settings {
     pub fn is_random(&self) -> bool {
         self.block.is_none() && (self.lists.is_some() || self.seconds.is_some())
     }
+    /// Whether lists are asked for that are gone through in order.
+    pub fn is_directed(&self) -> bool {
+        self.exhaustive.is_some() || self.modifiers || self.crowded
+    }
     pub fn time(&self) -> Option<Duration> {
         self.seconds.map(Duration::from_secs)
     }
@@ -54,6 +60,7 @@ pub fn parse(words: impl IntoIterator<Item = String>) -> Result<Settings, String
     let mut settings = Settings {
         exhaustive: None,
         modifiers: false,
+        crowded: false,
         lists: None,
         seconds: None,
         roots: 0,
@@ -68,6 +75,7 @@ pub fn parse(words: impl IntoIterator<Item = String>) -> Result<Settings, String
         match word.as_str() {
             "--exhaustive" => settings.exhaustive = Some(number(&word, value()?)? as usize),
             "--modifiers" => settings.modifiers = true,
+            "--crowded" => settings.crowded = true,
             "--lists" => settings.lists = Some(number(&word, value()?)?),
             "--seconds" => settings.seconds = Some(number(&word, value()?)?),
             "--roots" => settings.roots = number(&word, value()?)?,
@@ -78,7 +86,7 @@ pub fn parse(words: impl IntoIterator<Item = String>) -> Result<Settings, String
             _ => return Err(format!("no such argument: {word}")),
         }
     }
-    let is_asked = settings.exhaustive.is_some() || settings.modifiers || settings.block.is_some();
+    let is_asked = settings.is_directed() || settings.block.is_some();
     if !is_asked && !settings.is_random() && settings.roots == 0 {
         return Err("nothing to compare".into());
     }
@@ -114,6 +122,8 @@ mod tests {
         );
         assert_eq!((all.seed, all.threads), (7, 2));
         assert!(all.is_random() && !settings("--exhaustive 3").unwrap().is_random());
+        let crowded = settings("--crowded").unwrap();
+        assert!(crowded.crowded && crowded.is_directed() && !crowded.is_random());
         for wrong in [
             "",
             "--seed 3",

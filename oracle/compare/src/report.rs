@@ -12,6 +12,7 @@ fn origin_name(origin: Origin) -> &'static str {
     match origin {
         Origin::Short => "all short ones",
         Origin::Modifiers => "all short ones with one modifier",
+        Origin::Crowded => "over a crowded stack",
         Origin::Limits => "near each limit",
         Origin::Random => "random and damaged",
     }

@@ -47,13 +47,15 @@ impl Entry {
 pub enum Origin {
     Short,
     Modifiers,
+    Crowded,
     Limits,
     Random,
 }
 
-pub const ORIGINS: [Origin; 4] = [
+pub const ORIGINS: [Origin; 5] = [
     Origin::Short,
     Origin::Modifiers,
+    Origin::Crowded,
     Origin::Limits,
     Origin::Random,
 ];

@@ -9,7 +9,7 @@ use std::{
     time::{Duration, Instant},
 };
 
-use oracle::{costly, generate};
+use oracle::{costly, crowded, generate};
 use proved::Library;
 
 use crate::{
@@ -22,6 +22,8 @@ use crate::{
 
 /// The judge calls itself for every level of a list.
 const STACK: usize = 64 << 20;
+/// How many are taken at a time of lists that take long.
+const FEW: usize = 8;
 /// How often a long comparison says how far it is.
 const EVERY: Duration = Duration::from_secs(60);
 
@@ -69,6 +71,10 @@ impl<'a> Source<'a> {
                 Box::new(generate::exhaustive_modifiers()),
             ));
         }
+        if settings.crowded {
+            let lists = crowded::near_limits().into_iter();
+            stretches.push((Origin::Crowded, Box::new(lists)));
+        }
         stretches.reverse();
         let near_limits =
             (settings.is_random()).then(|| -> Lists { Box::new(near_limits.iter().cloned()) });
@@ -90,14 +96,19 @@ impl<'a> Source<'a> {
         self.taken += 1;
         let seed = seed_of(!seed, self.taken);
         while let Some((origin, lists)) = self.stretches.last_mut() {
-            if let Some(work) = some_lists(*origin, lists, BLOCK, seed) {
+            let most = if *origin == Origin::Crowded {
+                FEW
+            } else {
+                BLOCK
+            };
+            if let Some(work) = some_lists(*origin, lists, most, seed) {
                 return Some(work);
             }
             self.stretches.pop();
         }
         let is_their_turn = self.taken.is_multiple_of(2) || !wants_random;
         if let Some(lists) = self.near_limits.as_mut().filter(|_| is_their_turn) {
-            if let Some(work) = some_lists(Origin::Limits, lists, 8, seed) {
+            if let Some(work) = some_lists(Origin::Limits, lists, FEW, seed) {
                 return Some(work);
             }
             self.near_limits = None;
@@ -241,8 +252,7 @@ pub fn compare(settings: &Settings, library: Library) -> Compared {
         start: Instant::now(),
     };
     let tally = with_threads(&shared);
-    let is_asked_by_number =
-        settings.lists.is_some() || settings.exhaustive.is_some() || settings.modifiers;
+    let is_asked_by_number = settings.lists.is_some() || settings.is_directed();
     Compared {
         tally,
         cut_short: shared.out_of_time.into_inner() && is_asked_by_number,

@@ -306,6 +306,41 @@ fn wrong_costs_are_found() {
     }
 }
 
+/// 12 told of the record before the one that is refused.
+fn refused_too_early(list: &[u8], sum: &mut [u8]) -> Told<3> {
+    let mut told = proved::read(list, sum);
+    told.answer[0] -= u64::from(told.number == 12);
+    told
+}
+
+/// The lowest coefficient wrong by a bit where another sum was formed before.
+fn old_cells_left(list: &[u8], sum: &mut [u8]) -> Told<3> {
+    let told = proved::read(list, sum);
+    if told.number == 0 && told.answer[1] > 20 {
+        sum[16] ^= 1;
+    }
+    told
+}
+
+fn last_product_told_as_12(list: &[u8], sum: &mut [u8]) -> Told<3> {
+    let mut told = proved::read(list, sum);
+    if told.number == 15 {
+        told.number = 12;
+    }
+    told
+}
+
+#[test]
+fn wrong_crowds_are_found() {
+    let words = ["--crowded".to_owned(), "--seed".into(), "1".into()];
+    let settings = arguments::parse(words).expect("good words");
+    for read in [refused_too_early, old_cells_left, last_product_told_as_12] {
+        let differences = work::compare(&settings, Library { read, ..LIBRARY }).differences;
+        let first = differences.first().expect("a difference");
+        assert!(first.contains("Crowded lists: read"), "{first}");
+    }
+}
+
 /// What wasn't met is said.
 #[test]
 fn answers_that_are_missing() {
