@@ -1,0 +1,3 @@
+-- The root of book_cells' laws.
+pub mod Laws
+pub mod Writes

@@ -1,0 +1,3 @@
+-- The root of book_cells' definitions.
+pub mod Book
+pub mod Contract

@@ -1,0 +1,2 @@
+-- The root of book_sums' definitions.
+pub mod Contract
