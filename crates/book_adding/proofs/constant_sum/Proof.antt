@@ -1,0 +1,31 @@
+-- `book_adding::constant_sum` meets its contract: x to the 0 is put into the empty sum. Assumes nothing.
+use Prim.Native.Nat.{_+_}
+use native.Mathlib.Omega.{arith}
+use borrow.Author.Needs.{needs}
+use Rattle.book_cells.specs.Book.{Book, book}
+use Rattle.book_cells.proofs.Laws.{room-less}
+use Rattle.trees.specs.Sums.{none, size}
+use Rattle.book_sums.specs.Contract.Lies.{Lies}
+use Rattle.book_sums.proofs.order.Walk.{lies-empty}
+use Rattle.book_adding.proofs.constant_sum.Statement.{statement}
+use Rattle.book_adding.proofs.constant_sum.Tie as tie
+
+abbrev B : tie.Start → Book
+B c = book (c .args .kinds .now) (c .args .insides .now) (c .args .numbers .now)
+
+nothing : (c : tie.Start) → Lies (B c) (c .args .p) (c .args .p + 0) 4 none
+nothing c = lies-empty (B c) (c .args .p) 4 (room-less {n = c .args .p + 64} (omega arith) (c .pre))
+
+pub constant-sum-spec : {M : Type 1} → statement M
+unfolding size
+constant-sum-spec =
+    tie.close
+    (tie.spec
+    (λ c κs. let st = c .before .before .before .before .before in (omega arith, st .pre, (none, nothing st)))
+    (λ c. search needs)
+    (λ c. search needs)
+    (λ c. search needs)
+    (λ c.
+    let put = c .before .before .before .before .before in
+    let st = put .before .before .before .before .before .before in
+    (put .put-power .ensures .0, put .put-power .ensures .1 none (nothing st))))

@@ -1,0 +1,2 @@
+-- The root of book_adding's definitions.
+pub mod Contract
