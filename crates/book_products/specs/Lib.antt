@@ -1,0 +1,2 @@
+-- The root of book_products' definitions.
+pub mod Contract
