@@ -1,0 +1,2 @@
+-- The root of book_quotients' definitions.
+pub mod Contract
