@@ -1,0 +1,2 @@
+-- The root of book_powers' definitions.
+pub mod Contract
