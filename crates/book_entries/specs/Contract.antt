@@ -1,0 +1,4 @@
+-- What contracts between own functions, or laws, cite, and no promise to a user.
+pub mod Fine
+pub mod Laid
+pub mod Steps

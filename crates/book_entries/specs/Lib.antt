@@ -1,0 +1,2 @@
+-- The root of book_entries' definitions.
+pub mod Contract
