@@ -1,0 +1,2 @@
+-- The root of book_inverse's laws.
+pub mod Searching

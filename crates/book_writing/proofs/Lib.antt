@@ -1,0 +1,2 @@
+-- The root of book_writing's laws.
+pub mod Turning
