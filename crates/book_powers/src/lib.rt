@@ -298,7 +298,7 @@ fn is_euler(c: Constant) -> bool
 }
 
 // One term, of this kind and number, whose inside is the sum of n cells from i on, with the coefficient 1.
-fn over(
+pub fn over(
     kinds: &mut [u8],
     insides: &mut [u8],
     numbers: &mut [[u64; 3]],
@@ -343,6 +343,89 @@ pub fn pow(
     }
     match real_of(book_adding::as_constant(kinds, insides, numbers, j, m)) {
         Real::Is(e) => power_by(kinds, insides, numbers, e, i, n, w),
+        Real::Other => Formed::Refused(Refusal::TooComplex),
+    }
+}
+
+// A book for the power of a number: the number at 0, its power behind it with working places.
+const THREE_SUMS: usize = 3 * SUM_ENTRIES;
+
+// The constant `base` to the power e, formed in a book of this call's own and copied out.
+fn number_power(
+    kinds: &mut [u8],
+    insides: &mut [u8],
+    numbers: &mut [[u64; 3]],
+    base: f64,
+    e: f64,
+    p: usize,
+) -> Formed
+    requires { ⌜ (finite base ≡ true) × (finite e ≡ true) × Room (lent kinds insides numbers) (p + sumEntries) ⌝ }
+    ensures { λ r. ⌜ Kept (entering kinds insides numbers) (leaving kinds insides numbers) p (p + sumEntries) ⌝ }
+    ensures { λ r. ⌜ Agrees r (leaving kinds insides numbers) p (power (constant (real base)) e) ⌝ }
+{
+    let mut other_kinds = [0u8; THREE_SUMS];
+    let mut other_insides = [0u8; THREE_SUMS];
+    let mut other_numbers = [[0u64; 3]; THREE_SUMS];
+    let x = Entry {
+        kind: trees::X,
+        inside: 0,
+        num: 0.0,
+        coef: Complex { re: base, im: 0.0 },
+    };
+    book_cells::store(
+        &mut other_kinds,
+        &mut other_insides,
+        &mut other_numbers,
+        0,
+        x,
+    );
+    match power_by(
+        &mut other_kinds,
+        &mut other_insides,
+        &mut other_numbers,
+        e,
+        0,
+        1,
+        SUM_ENTRIES,
+    ) {
+        Formed::Done(m) => {
+            book_cells::copy_in(
+                &other_kinds,
+                &other_insides,
+                &other_numbers,
+                SUM_ENTRIES,
+                m,
+                kinds,
+                insides,
+                numbers,
+                p,
+            );
+            Formed::Done(m)
+        }
+        Formed::Refused(r) => Formed::Refused(r),
+    }
+}
+
+// The constant `base` to the power of the sum of n cells from i on.
+pub fn pow_of(
+    kinds: &mut [u8],
+    insides: &mut [u8],
+    numbers: &mut [[u64; 3]],
+    base: f64,
+    i: usize,
+    n: usize,
+    p: usize,
+) -> Formed
+    requires { ⌜ (finite base ≡ true) × Operand (lent kinds insides numbers) i n p × Room (lent kinds insides numbers) (p + sumEntries) ⌝ }
+    ensures { λ r. ⌜ Kept (entering kinds insides numbers) (leaving kinds insides numbers) p (p + sumEntries) ⌝ }
+    ensures { λ r. ⌜ OfOne (entering kinds insides numbers) i (i + n) sumLevels (λ s. Agrees r (leaving kinds insides numbers) p (pow (constant (real base)) s)) ⌝ }
+{
+    let c = Complex { re: base, im: 0.0 };
+    if is_euler(Constant::Is(c)) & book_adding::is_x(kinds, insides, numbers, i, n) {
+        return over(kinds, insides, numbers, trees::EXP, 0.0, i, n, p);
+    }
+    match real_of(book_adding::as_constant(kinds, insides, numbers, i, n)) {
+        Real::Is(e) => number_power(kinds, insides, numbers, base, e, p),
         Real::Other => Formed::Refused(Refusal::TooComplex),
     }
 }

@@ -1,0 +1,2 @@
+-- The root of book_primitives' laws.
+pub mod Constants

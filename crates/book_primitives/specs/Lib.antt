@@ -1,0 +1,1 @@
+-- The root of book_primitives' definitions.
