@@ -1,0 +1,3 @@
+-- The laws of the derivative.
+pub mod Primes
+pub mod Steps

@@ -1,0 +1,69 @@
+-- `book_calculus::derivative::derive_wave` meets its contract: the argument's derivative is no constant, or is one. Assumes nothing.
+use native.Mathlib.Omega.{arith}
+use borrow.Author.Needs.{needs}
+use mathlib.Core.Path.{_≡_, sym, subst, _∙_}
+use Rattle.complex.specs.declared.Complex.{Complex}
+use Rattle.complex.specs.Arith as complex
+use Rattle.book_cells.specs.Book.{Book, book}
+use Rattle.trees.specs.Sums.{Sum, size}
+use Rattle.trees.specs.Map.{Outcome}
+use Rattle.calculus.specs.Derivative.{turnedTo}
+use Rattle.calculus.specs.Contract.Into.{turnedKind, turnedHow}
+use Rattle.book_sums.specs.Contract.Lies.{Agrees}
+use Rattle.book_adding.proofs.Places.{apart-result, room-result}
+use Rattle.book_calculus.proofs.Into.{wave-head, into-refused}
+use Rattle.book_calculus.proofs.derivative.Steps.{turned-as, prime-not, prime-is}
+use Rattle.book_calculus.proofs.derivative.derive_wave.Statement.{statement}
+use Rattle.book_calculus.proofs.derivative.derive_wave.Tie as tie
+
+abbrev start : tie.After-prime-of → tie.Start
+start c = c .before .before .before .before .before .before .before
+
+abbrev B′ : tie.After-put-block → Book
+B′ c = let last = c .put-block .last in book (last .0) (last .1 .0) (last .1 .1 .0)
+
+-- what becomes of the argument and the sum, with the argument's derivative
+abbrev with-prime : tie.Start → Sum → Sum → Complex → Outcome
+with-prime c t s d = let x = c .args .x in turnedTo (turnedKind (x .kind)) (complex.times (x .coef) d) t (turnedHow (x .kind)) s
+
+pub derive-wave-spec : {M : Type 1} → statement M
+derive-wave-spec =
+    tie.close
+    (tie.spec
+    (λ c. search needs)
+    (λ c κs. search needs)
+    (λ c. search needs)
+    (λ c. search needs)
+    -- no constant
+    (λ c. search needs)
+    (λ c. search needs)
+    (λ c. search needs)
+    (λ c. let asked = c .before .before in into-refused (λ t lt s. prime-not t (with-prime (start asked) t s) (asked .prime-of .ensures t lt) (c .enum-told .given .1)))
+    -- a constant
+    (λ c κs. search needs)
+    (λ c κs. search needs)
+    (λ c κs. search needs)
+    (λ c κs.
+    let st = start (c .before .before .before .before .before .before .before .before .before) in
+    let y = st .pre .0 in
+    let x = st .args .x in (
+      (wave-head (x .kind) (x .inside) (c .before .before .before .mul .result) (st .pre .1) (c .before .before .before .before .before .turned-kind .ensures), y .argument .held, apart-result (y .argument .apart)),
+      (y .few, room-result (st .args .w) (y .room), y .held),
+    ))
+    (λ c. search needs)
+    (λ c. search needs)
+    (λ c. search needs)
+    (λ c.
+    let put = c .before .before .before .before .before in
+    let asked = put .before .before .before .before .before .before .before .before .before .before in
+    let st = start asked in
+    record {
+      kept = put .put-block .ensures .0;
+      agrees =
+          λ s t ls lt.
+          let sized : st .args .x .inside ≡ size t = omega (arith, lt .ends) in
+          subst (Agrees (put .put-block .result) (B′ put) (st .args .w))
+          (turned-as t s (put .before .before .before .before .before .before .turned-kind .ensures) (put .before .before .before .before .before .turned-how .ensures) (put .before .before .before .before .mul .ensures) sized
+          ∙ sym (prime-is t (with-prime st t s) (asked .prime-of .ensures t lt) (put .before .before .before .before .before .before .before .before .d .given .1)))
+          (put .put-block .ensures .1 s t ls lt);
+    }))

@@ -1,0 +1,2 @@
+-- The laws of the integral.
+pub mod Storing

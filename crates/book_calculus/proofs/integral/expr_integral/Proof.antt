@@ -1,0 +1,46 @@
+-- `book_calculus::integral::expr_integral` meets its contract: x is laid behind the result, and each entry is integrated. Assumes nothing.
+use Prim.Native.Nat.{_+_}
+use native.Mathlib.Omega.{arith}
+use borrow.Author.Needs.{needs}
+use Rattle.book_cells.specs.Book.{Book, book}
+use Rattle.book_cells.specs.Contract.Moves.{Kept}
+use Rattle.book_cells.proofs.Laws.{room-less, room-same, kept-wider, kept-trans, put-kept}
+use Rattle.book_adding.proofs.Lying.{clear, lies-clear}
+use Rattle.book_adding.proofs.Places.{kept-result}
+use Rattle.book_powers.proofs.Turns.{source-kept}
+use Rattle.book_calculus.proofs.integral.Storing.{x-plain, x-laid}
+use Rattle.book_calculus.proofs.integral.expr_integral.Statement.{statement}
+use Rattle.book_calculus.proofs.integral.expr_integral.Tie as tie
+
+abbrev start : tie.After-store → tie.Start
+start c = c .before .before .before .before .before .before
+
+abbrev B : tie.Start → Book
+B c = book (c .args .kinds .now) (c .args .insides .now) (c .args .numbers .now)
+
+-- the book with x
+abbrev B′ : tie.After-store → Book
+B′ c = let last = c .store .last in book (last .0) (last .1 .0) (last .1 .1 .0)
+
+kept : (c : tie.After-store) → (let w = start c .args .w in Kept (B (start c)) (B′ c) w (w + (64 + 64)))
+kept c = kept-wider (omega arith) (omega arith) (put-kept (c .store .ensures))
+
+pub expr-integral-spec : {M : Type 1} → statement M
+expr-integral-spec =
+    tie.close
+    (tie.spec
+    (λ c. search needs)
+    (λ c κs. let st = c .before .before .before .before .before in (room-less {n = st .args .w + (64 + 64)} (omega arith) (st .pre .1), x-plain))
+    (λ c κs.
+    let put = c .before .before .before .before .before .before .before .before in
+    let st = start put in
+    (source-kept (kept put) (st .pre .0), room-same (kept put .long) (st .pre .1), x-laid (st .args .w) (st .pre .1) (put .store .ensures)))
+    (λ c. search needs)
+    (λ c. search needs)
+    (λ c. search needs)
+    (λ c.
+    let each = c .before .before .before .before .before in
+    let put = each .before .before .before .before .before .before .before .before .before in (
+      kept-trans (kept put) (kept-result (each .integrate-each .ensures .0)),
+      λ t lt. each .integrate-each .ensures .1 t (lies-clear (kept put) (clear (start put .pre .0 .apart)) lt),
+    )))

@@ -1,0 +1,2 @@
+-- The root of book_calculus' definitions.
+pub mod Contract
