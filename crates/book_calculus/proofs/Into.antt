@@ -1,5 +1,5 @@
 -- Laws of an entry's derivative or integral that goes into a sum. Assumes nothing.
-use Prim.Native.Nat.{ℕ, zero, suc, _+_, _≤_}
+use Prim.Native.Nat.{ℕ, _+_, _≤_}
 use native.Mathlib.Omega.{arith}
 use mathlib.Core.Path.{_≡_, sym, subst, _∙_}
 use mathlib.Core.Bool.{Bool, true, false, cond}
@@ -30,7 +30,7 @@ use Rattle.book_calculus.specs.Contract.Into.{Ready, Into}
 -- ---- heads
 
 -- of a kind that has an inside and no number
-pub over-head : (k n : ℕ) (c : Complex) → 1 ≤ n → 2 ≤ k → k ≤ 8 → GoodHead (entry k n zero64 c)
+pub over-head : (k n : ℕ) (c : Complex) → 1 ≤ n → kinds.Div ≤ k → k ≤ kinds.CosH → GoodHead (entry k n zero64 c)
 over-head k n c some least most =
     record {
       least = omega arith;
@@ -64,7 +64,8 @@ module _ {b : Book} {e : Entry} {i w len : ℕ} where
   ready-growing y = record { few = y .few; room = room-result w (y .room); held = y .held }
 
   -- nothing is written where it is refused
-  pub into-refused : {places : ℕ} {q : Refusal} {f : Entry → Sum → Sum → Outcome} → ((t : Sum) → Lies b i (i + e .inside) 4 t → (s : Sum) → f e t s ≡ refused q) → Into b b e i w len places (Refused q) f
+  pub into-refused : {places : ℕ} {q : Refusal} {f : Entry → Sum → Sum → Outcome} → ((t : Sum) → Lies b i (i + e .inside) 4 t → (s : Sum) → f e t s ≡ refused q)
+      → Into b b e i w len places (Refused q) f
   into-refused {places} {q} {f} h = record { kept = kept-refl b w (w + places); agrees = λ s t ls lt. agree-refused b w q (f e t s) (h t lt s) }
 
   module _ {b′ : Book} {r : Formed} {f : Entry → Sum → Sum → Outcome} where
@@ -77,7 +78,8 @@ module _ {b : Book} {e : Entry} {i w len : ℕ} where
     into-more y = record { kept = kept-result (y .kept); agrees = y .agrees }
 
     -- a power of x, which has no argument
-    pub into-power : (h : Sum → Outcome) → GoodHead e → e .kind ≡ kinds.X → ((s : Sum) → h s ≡ f e none s) → Kept b b′ w (w + 64) → OfOne b w (w + len) 4 (λ s. Agrees r b′ w (h s)) → Into b b′ e i w len 64 r f
+    pub into-power : (h : Sum → Outcome) → GoodHead e → e .kind ≡ kinds.X → ((s : Sum) → h s ≡ f e none s) → Kept b b′ w (w + 64) → OfOne b w (w + len) 4 (λ s. Agrees r b′ w (h s))
+        → Into b b′ e i w len 64 r f
     into-power h good k same kept a =
         record {
           kept = kept;

@@ -28,7 +28,6 @@ use Rattle.terms.proofs.Goodness.{good-product}
 use Rattle.calculus.specs.declared.Ln.{Ln}
 use Rattle.calculus.specs.declared.Ln.the-variants as ln
 use Rattle.calculus.specs.Derivative.{slope, vanishes, prime, byPrime, byLn, lnOf, firstCoef, turnedTo, deriveX, deriveDiv, deriveLog, deriveExp, deriveBy, deriveInto, orZero, derive}
-use Rattle.calculus.specs.Contract.Into.{turnedKind, turnedHow}
 use Rattle.book_sums.specs.declared.order.Formed.{Formed}
 use Rattle.book_sums.specs.declared.order.Formed.the-variants.{Done, Refused}
 use Rattle.book_sums.specs.Contract.Lies.{Lies, Agrees}

@@ -1,7 +1,7 @@
 -- The integral of one entry, as the code's branches have it, and the x that is stored over. Assumes nothing.
 use Prim.Native.Nat.{ℕ, _+_, _≤_, _<_}
 use native.Mathlib.Omega.{arith}
-use mathlib.Core.Path.{_≡_, refl, sym, ap, subst, _∙_}
+use mathlib.Core.Path.{_≡_, refl, sym, ap, _∙_}
 use mathlib.Core.Bool.{Bool, true, false, _&&_, cond}
 use lib.Dec.{eqb}
 use lib.Ieee.{Float, binary64, eq}
@@ -30,7 +30,7 @@ use Rattle.calculus.specs.Integral.{x, stored, integrateX, integrateBy, integra
 use Rattle.calculus.specs.Contract.Into.{turnedKind}
 use Rattle.calculus.proofs.Good.{x-is-good}
 use Rattle.book_sums.specs.Contract.Heads.{GoodHead}
-use Rattle.book_sums.specs.Contract.Lies.{At, Lies}
+use Rattle.book_sums.specs.Contract.Lies.{At}
 use Rattle.book_sums.proofs.order.Walk.{empty, plain-of, lies-above}
 use Rattle.book_calculus.specs.Contract.Into.{XBehind, turnedCoef}
 
@@ -102,7 +102,8 @@ module _ (e : Entry) (t s : Sum) where
   pub integrate-not : (e .kind ≡ kinds.X → ⊥) → e .kind < kinds.Sin → integrateInto e t s ≡ refused TooComplex
   unfolding integrateInto
   integrate-not h l =
-      rw (ne-eqb (e .kind) kinds.X h, ne-eqb (e .kind) kinds.Sin (λ z. omega arith), ne-eqb (e .kind) kinds.Cos (λ z. omega arith), ne-eqb (e .kind) kinds.SinH (λ z. omega arith), ne-eqb (e .kind) kinds.CosH (λ z. omega arith))
+      let other : (k : ℕ) → kinds.Sin ≤ k → eqb (e .kind) k ≡ false = λ k h. ne-eqb (e .kind) k (λ z. omega arith) in
+      rw (ne-eqb (e .kind) kinds.X h, other kinds.Sin (omega arith), other kinds.Cos (omega arith), other kinds.SinH (omega arith), other kinds.CosH (omega arith))
 
   -- sin, cos, sinh and cosh
   wave-is : kinds.Sin ≤ e .kind → e .kind ≤ kinds.CosH → integrateInto e t s ≡ integrateBy (turnedKind (e .kind)) (turnedCoef (e .kind) (e .coef)) t s

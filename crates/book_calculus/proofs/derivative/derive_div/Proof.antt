@@ -8,7 +8,7 @@ use Rattle.book_cells.specs.Contract.Moves.{over}
 use Rattle.book_cells.proofs.Laws.{room-same, kept-trans}
 use Rattle.trees.specs.declared.Merge.the-variants.{Add}
 use Rattle.trees.specs.Kinds as kinds
-use Rattle.trees.specs.Sums.{Sum, size}
+use Rattle.trees.specs.Sums.{Sum}
 use Rattle.trees.specs.Map.{Outcome, andThenSum}
 use Rattle.terms.specs.Product.{product}
 use Rattle.calculus.specs.Derivative.{turnedTo, deriveDiv}
@@ -36,11 +36,12 @@ abbrev B″ : tie.After-put-block → Book
 B″ c = let last = c .put-block .last in book (last .0) (last .1 .0) (last .1 .1 .0)
 
 -- the square, where it was formed
-squared : (c : tie.After-mul) {k : ℕ} → c .mul .result ≡ Done k → (t : Sum) → (let a = start c .args in Lies (B (start c)) (a .i) (a .i + a .x .inside) 4 t → Agreed (B′ c) (a .w + 64) k (product t t))
+squared : (c : tie.After-mul) {k : ℕ} → c .mul .result ≡ Done k → (t : Sum) → (let a = start c .args in
+    Lies (B (start c)) (a .i) (a .i + a .x .inside) 4 t → Agreed (B′ c) (a .w + 64) k (product t t))
 squared c {k} e t lt = agreed-done (B′ c) (start c .args .w + 64) k (c .mul .result) (product t t) (c .mul .ensures .1 t t lt lt) e
 
 -- that of the argument that the contract asks for
-square : (c : tie.After-mul) {k : ℕ} → c .mul .result ≡ Done k → (let st = start c in Agreed (B′ c) (st .args .w + 64) k (product (st .pre .0 .argument .held .0) (st .pre .0 .argument .held .0)))
+square : (c : tie.After-mul) {k : ℕ} → c .mul .result ≡ Done k → (let st = start c in let t = st .pre .0 .argument .held .0 in Agreed (B′ c) (st .args .w + 64) k (product t t))
 square c e = let held = start c .pre .0 .argument .held in squared c e (held .0) (held .1)
 
 -- the sum still lies
@@ -60,7 +61,10 @@ derive-div-spec =
     (tie.spec
     (λ c. search needs)
     (λ c. search needs)
-    (λ c κs. let st = c .before .before .before .before .before .before .before in let y = st .pre .0 in (working-operand (y .argument), working-operand (y .argument), room-working (st .args .w) (y .room)))
+    (λ c κs.
+    let st = c .before .before .before .before .before .before .before in
+    let y = st .pre .0 in
+    (working-operand (y .argument), working-operand (y .argument), room-working (st .args .w) (y .room)))
     -- it was formed
     (λ c. search needs)
     (λ c. let few = square (c .before .before .before .before .before .before .before .before) (c .before .k .given .1) .few in omega arith)

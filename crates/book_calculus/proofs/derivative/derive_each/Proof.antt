@@ -30,7 +30,8 @@ given c = record { source = c .pre .0; room = c .pre .1 }
 abbrev loop-of : tie.After-load Inv μ → tie.At-loop Inv μ
 loop-of c = c .before .before .before .before .before
 
-turn : (c : tie.After-load Inv μ) → (let l = loop-of c in let a = from-loop l .args in Turn deriveInto (64 + 64) (B (from-loop l)) (N l) (a .j) (a .m) (a .w) (l .loop .q) (l .loop .len) (c .load .result))
+turn : (c : tie.After-load Inv μ) → (let l = loop-of c in let a = from-loop l .args in
+    Turn deriveInto (64 + 64) (B (from-loop l)) (N l) (a .j) (a .m) (a .w) (l .loop .q) (l .loop .len) (c .load .result))
 turn c = let l = loop-of c in record { given = given (from-loop l); fits = omega arith; each = l .loop .inv; read = c .load .ensures; more = c .before .before .before .before .loop-test .taken }
 
 -- the next place fits

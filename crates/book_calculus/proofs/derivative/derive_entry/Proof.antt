@@ -1,7 +1,7 @@
 -- `book_calculus::derivative::derive_entry` meets its contract, kind by kind. Assumes nothing.
 use native.Mathlib.Omega.{arith}
 use borrow.Author.Needs.{needs}
-use Rattle.trees.specs.Sums.{Sum, none}
+use Rattle.trees.specs.Sums.{none}
 use Rattle.calculus.specs.Derivative.{deriveX}
 use Rattle.book_calculus.proofs.Into.{some-inside, ready-growing, into-as, into-more, into-power}
 use Rattle.book_calculus.proofs.derivative.Steps.{derive-x-is, derive-div-is}
@@ -26,8 +26,14 @@ derive-entry-spec =
     (λ c. search needs)
     (λ c. search needs)
     (λ c. search needs)
-    (λ c. let call = c .before .before .before .before .before in let test = call .before .before .before .before in into-as (λ t s. derive-div-is (test .before .before .before .before .before .before .args .x) t s (test .if2 .taken)) (call .derive-div .ensures))
-    (λ c κs. let pre = c .before .before .before .before .before .before .before .before .before .pre in (pre, omega (arith, pre .head .least, c .before .before .before .before .before .if1 .left, c .before .before .before .if2 .left)))
+    (λ c.
+    let call = c .before .before .before .before .before in
+    let test = call .before .before .before .before in
+    into-as (λ t s. derive-div-is (test .before .before .before .before .before .before .args .x) t s (test .if2 .taken)) (call .derive-div .ensures))
+    (λ c κs.
+    let test = c .before .before .before in
+    let pre = test .before .before .before .before .before .before .pre in
+    (pre, omega (arith, pre .head .least, test .before .before .if1 .left, test .if2 .left)))
     (λ c. search needs)
     (λ c. search needs)
     (λ c. search needs)

@@ -56,6 +56,7 @@ derive-exp-spec =
           λ s t ls lt.
           let sized : x .inside ≡ size t = omega (arith, lt .ends) in
           let coef = put .before .before .before .before .mul .ensures ∙ ap (complex.times (x .coef)) (first-coef (read .load .result) (read .load .ensures) (st .pre .1) lt) in
-          subst (Agrees (put .put-block .result) (B′ put) (st .args .w)) (turned-as t s refl refl coef sized ∙ sym (exp-is x t s (test .is-x .ensures t lt) (not-false _ (put .before .before .before .before .before .before .before .before .before .if1 .left))))
+          subst (Agrees (put .put-block .result) (B′ put) (st .args .w))
+          (turned-as t s refl refl coef sized ∙ sym (exp-is x t s (test .is-x .ensures t lt) (not-false _ (read .before .before .before .before .if1 .left))))
           (put .put-block .ensures .1 s t ls lt);
     }))

@@ -14,12 +14,18 @@ derive-function-spec =
     (λ c. search needs)
     (λ c. search needs)
     (λ c. search needs)
-    (λ c. let call = c .before .before .before .before .before in let test = call .before .before .before .before in into-as (λ t s. derive-log-is (test .before .before .before .before .args .x) t s (test .if1 .taken)) (call .derive-log .ensures))
+    (λ c.
+    let call = c .before .before .before .before .before in
+    let test = call .before .before .before .before in
+    into-as (λ t s. derive-log-is (test .before .before .before .before .args .x) t s (test .if1 .taken)) (call .derive-log .ensures))
     (λ c κs. let pre = c .before .before .before .before .before .before .before .before .before .pre in (pre .0, some-inside (pre .0 .head) (λ e. omega (arith, pre .1))))
     (λ c. search needs)
     (λ c. search needs)
     (λ c. search needs)
-    (λ c. let call = c .before .before .before .before .before in let test = call .before .before .before .before in into-as (λ t s. derive-exp-is (test .before .before .before .before .before .before .args .x) t s (test .if2 .taken)) (call .derive-exp .ensures))
+    (λ c.
+    let call = c .before .before .before .before .before in
+    let test = call .before .before .before .before in
+    into-as (λ t s. derive-exp-is (test .before .before .before .before .before .before .args .x) t s (test .if2 .taken)) (call .derive-exp .ensures))
     (λ c κs. let pre = c .before .before .before .before .before .before .before .before .before .pre in (pre .0, some-inside (pre .0 .head) (λ e. omega (arith, pre .1))))
     (λ c. search needs)
     (λ c. search needs)

@@ -73,7 +73,8 @@ derive-log-spec =
     (λ c. search needs)
     (λ c.
     let put = c .before .before .before .before .before in
-    let known = put .before .before .before .before .before .before .before in
+    let over = put .before .before .before .before in
+    let known = over .before .before .before in
     let found = known .before .before .before .before in
     let asked = found .before .before in
     let st = start asked in
@@ -82,7 +83,7 @@ derive-log-spec =
       agrees =
           λ s t ls lt.
           let sized : st .args .x .inside ≡ size t = omega (arith, lt .ends) in
-          let coef = put .before .before .before .before .div-real .ensures ∙ ap (λ (z : Complex). complex.overReal z (known .l .given .0 .0)) (put .before .before .before .before .before .mul .ensures) in
+          let coef = over .div-real .ensures ∙ ap (λ (z : Complex). complex.overReal z (known .l .given .0 .0)) (over .before .mul .ensures) in
           subst (Agrees (put .put-block .result) (B′ put) (st .args .w))
           (turned-as t s refl refl coef sized
           ∙ sym (prime-is t (with-prime st t s) (asked .prime-of .ensures t lt) (found .d .given .1)

@@ -44,10 +44,11 @@ derive-wave-spec =
     (λ c κs. search needs)
     (λ c κs. search needs)
     (λ c κs.
-    let st = start (c .before .before .before .before .before .before .before .before .before) in
+    let mul = c .before .before .before in
+    let st = start (mul .before .before .before .before .before .before) in
     let y = st .pre .0 in
     let x = st .args .x in (
-      (wave-head (x .kind) (x .inside) (c .before .before .before .mul .result) (st .pre .1) (c .before .before .before .before .before .turned-kind .ensures), y .argument .held, apart-result (y .argument .apart)),
+      (wave-head (x .kind) (x .inside) (mul .mul .result) (st .pre .1) (mul .before .before .turned-kind .ensures), y .argument .held, apart-result (y .argument .apart)),
       (y .few, room-result (st .args .w) (y .room), y .held),
     ))
     (λ c. search needs)
@@ -55,7 +56,8 @@ derive-wave-spec =
     (λ c. search needs)
     (λ c.
     let put = c .before .before .before .before .before in
-    let asked = put .before .before .before .before .before .before .before .before .before .before in
+    let mul = put .before .before .before .before in
+    let asked = mul .before .before .before .before .before .before in
     let st = start asked in
     record {
       kept = put .put-block .ensures .0;
@@ -63,7 +65,7 @@ derive-wave-spec =
           λ s t ls lt.
           let sized : st .args .x .inside ≡ size t = omega (arith, lt .ends) in
           subst (Agrees (put .put-block .result) (B′ put) (st .args .w))
-          (turned-as t s (put .before .before .before .before .before .before .turned-kind .ensures) (put .before .before .before .before .before .turned-how .ensures) (put .before .before .before .before .mul .ensures) sized
-          ∙ sym (prime-is t (with-prime st t s) (asked .prime-of .ensures t lt) (put .before .before .before .before .before .before .before .before .d .given .1)))
+          (turned-as t s (mul .before .before .turned-kind .ensures) (mul .before .turned-how .ensures) (mul .mul .ensures) sized
+          ∙ sym (prime-is t (with-prime st t s) (asked .prime-of .ensures t lt) (mul .before .before .before .before .d .given .1)))
           (put .put-block .ensures .1 s t ls lt);
     }))

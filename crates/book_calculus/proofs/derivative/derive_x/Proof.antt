@@ -34,7 +34,11 @@ derive-x-spec =
     (λ c. search needs)
     (λ c.
     let put = c .before .before .before .before .before in
-    let a = put .before .before .before .before .before .before .before .before .before .before .args in (
+    let slope = put .before .before .before .before .before in
+    let test = slope .before in
+    let a = test .before .before .before .before .args in (
       put .put-power .ensures .0,
-      λ s ls. subst (Agrees (put .put-power .result) (B′ put) (a .w)) (x-put (a .x) s (put .before .before .before .before .before .before .before .vanishes .ensures) (put .before .before .before .before .before .before .if1 .left) (put .before .before .before .before .before .slope .ensures)) (put .put-power .ensures .1 s ls),
+      λ s ls.
+          subst (Agrees (put .put-power .result) (B′ put) (a .w)) (x-put (a .x) s (test .before .vanishes .ensures) (test .if1 .left) (slope .slope .ensures))
+          (put .put-power .ensures .1 s ls),
     )))

@@ -26,7 +26,10 @@ expr-deriv-spec =
     (λ c κs. search needs)
     (λ c. search needs)
     -- nothing
-    (λ c κs. let each = c .before .before .before .before .before .before .before .before .before .before .before .before in let st = start each in room-same (each .derive-each .ensures .0 .long) (room-result (st .args .w) (st .pre .1)))
+    (λ c κs.
+    let each = c .before .before .before .before .before .before .before .before .before .before .before .before in
+    let st = start each in
+    room-same (each .derive-each .ensures .0 .long) (room-result (st .args .w) (st .pre .1)))
     (λ c. search needs)
     (λ c. search needs)
     (λ c. search needs)
@@ -37,7 +40,8 @@ expr-deriv-spec =
     let w = start each .args .w in (
       kept-trans (each .derive-each .ensures .0) (kept-result (zero .constant-sum .ensures .0)),
       λ t lt.
-          subst (Agrees (zero .constant-sum .result) (B″ zero) w) (derive-nothing (B′ each) w (each .derive-each .result) t (each .derive-each .ensures .1 t lt) (test .before .before .n .given .1) (test .if1 .taken))
+          subst (Agrees (zero .constant-sum .result) (B″ zero) w)
+          (derive-nothing (B′ each) w (each .derive-each .result) t (each .derive-each .ensures .1 t lt) (test .before .before .n .given .1) (test .if1 .taken))
           (zero .constant-sum .ensures .1),
     ))
     (λ c. search needs)
@@ -47,11 +51,13 @@ expr-deriv-spec =
     (λ c. search needs)
     (λ c.
     let each = c .before .before .before .before .before .before .before .before .before in
-    (each .derive-each .ensures .0, λ t lt. derive-done (B′ each) (start each .args .w) (each .derive-each .result) t (each .derive-each .ensures .1 t lt) (c .before .before .n .given .1) (c .if1 .left)))
+    let w = start each .args .w in
+    (each .derive-each .ensures .0, λ t lt. derive-done (B′ each) w (each .derive-each .result) t (each .derive-each .ensures .1 t lt) (c .before .before .n .given .1) (c .if1 .left)))
     -- a refusal
     (λ c. search needs)
     (λ c. search needs)
     (λ c. search needs)
     (λ c.
     let each = c .before .before .before .before .before .before .before .before in
-    (each .derive-each .ensures .0, λ t lt. derive-refused (B′ each) (start each .args .w) (each .derive-each .result) t (each .derive-each .ensures .1 t lt) (c .before .r .given .1))))
+    let w = start each .args .w in
+    (each .derive-each .ensures .0, λ t lt. derive-refused (B′ each) w (each .derive-each .result) t (each .derive-each .ensures .1 t lt) (c .before .r .given .1))))

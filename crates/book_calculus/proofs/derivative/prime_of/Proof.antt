@@ -20,6 +20,9 @@ abbrev μ : tie.MeasureT-loop
 abbrev loop-of : tie.After-load Inv μ → tie.At-loop Inv μ
 loop-of c = c .before .before
 
+abbrev read : tie.After-prime-step Inv μ → tie.After-load Inv μ
+read c = c .before .before .before
+
 pub prime-of-spec : {M : Type 1} → statement M
 prime-of-spec =
     tie.close
@@ -30,22 +33,26 @@ prime-of-spec =
     (λ c. (omega arith, omega arith, λ s ls. prime-start ls))
     (λ c κs. let l = c .before in readable (l .loop .q) (l .before .before .before .pre .1) (l .loop .inv .0) (c .loop-test .taken))
     -- no power of x
-    (λ c s ls. let read = c .before .before in prime-other (loop-of read .loop .inv .2 s ls) (read .load .result) (read .load .ensures) (read .before .loop-test .taken) (c .if1 .taken))
+    (λ c s ls. let x = c .before .before in prime-other (loop-of x .loop .inv .2 s ls) (x .load .result) (x .load .ensures) (x .before .loop-test .taken) (c .if1 .taken))
     (λ c κs. search needs)
     (λ c. search needs)
     (λ c. search needs)
     -- one whose derivative is no constant
     (λ c s ls.
-    let read = c .before .before .before .before .before in
-    prime-none (loop-of read .loop .inv .2 s ls) (read .load .result) (read .load .ensures) (read .before .loop-test .taken) (c .before .before .before .if1 .left) (c .before .before .prime-step .ensures) (c .enum-told .given .1))
+    let step = c .before .before in
+    let x = read step in
+    prime-none (loop-of x .loop .inv .2 s ls) (x .load .result) (x .load .ensures) (x .before .loop-test .taken) (step .before .if1 .left) (step .prime-step .ensures) (c .enum-told .given .1))
     -- one whose derivative is a constant
     (λ c. omega arith)
     (λ c. omega arith)
     (λ c.
-    let read = c .before .before .before .before .before .before in (
+    let step = c .before .before .before in
+    let x = read step in (
       omega arith,
       omega arith,
-      λ s ls. prime-next (loop-of read .loop .inv .2 s ls) (read .load .result) (read .load .ensures) (read .before .loop-test .taken) (c .before .before .before .before .if1 .left) (c .before .before .before .prime-step .ensures) (c .before .next .given .1),
+      λ s ls.
+          prime-next (loop-of x .loop .inv .2 s ls) (x .load .result) (x .load .ensures) (x .before .loop-test .taken) (step .before .if1 .left) (step .prime-step .ensures)
+          (c .before .next .given .1),
     ))
     -- nothing is left
     (λ c s ls. prime-end (c .before .loop .inv .2 s ls) (c .loop-test .left)))

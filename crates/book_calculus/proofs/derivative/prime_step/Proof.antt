@@ -12,5 +12,9 @@ prime-step-spec =
     (λ c. let a = c .before .before .args in step-skips (a .acc) (a .p) (a .c) (c .before .vanishes .ensures) (c .if1 .taken))
     (λ c κs. search needs)
     (λ c κs. search needs)
-    (λ c. let a = c .before .before .before .before .before .args in step-adds (a .acc) (a .p) (a .c) (c .before .before .before .before .vanishes .ensures) (c .before .before .before .if1 .left) (c .before .before .if2 .taken) (c .before .slope .ensures) (c .add .ensures))
+    (λ c.
+    let second = c .before .before in
+    let first = second .before in
+    let a = first .before .before .args in
+    step-adds (a .acc) (a .p) (a .c) (first .before .vanishes .ensures) (first .if1 .left) (second .if2 .taken) (c .before .slope .ensures) (c .add .ensures))
     (λ c. let a = c .before .before .before .args in step-none (a .acc) (a .p) (a .c) (c .before .before .vanishes .ensures) (c .before .if1 .left) (c .if2 .left)))

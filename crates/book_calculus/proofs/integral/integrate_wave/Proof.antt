@@ -48,13 +48,16 @@ integrate-wave-spec =
     (λ c. search needs)
     (λ c.
     let put = c .before .before .before .before .before in
-    let test = put .before .before .before .before .before .before .before in
+    let coef = put .before .before .before .before in
+    let test = coef .before .before .before in
     let st = start test in
+    let x-is = test .is-x .ensures in
     record {
       kept = put .put-block .ensures .0;
       agrees =
           λ s t ls lt.
           subst (Agrees (put .put-block .result) (B′ put) (st .args .w))
-          (wave-stored (st .args .x) t s (st .pre .2) (st .pre .0 .head .most) (test .is-x .ensures t lt) (lt .good) (not-false _ (put .before .before .before .before .before .before .if1 .left)) (put .before .before .before .before .before .turned-kind .ensures) (put .before .before .before .before .turned-coef .ensures))
+          (wave-stored (st .args .x) t s (st .pre .2) (st .pre .0 .head .most) (x-is t lt) (lt .good) (not-false _ (coef .before .before .if1 .left)) (coef .before .turned-kind .ensures)
+          (coef .turned-coef .ensures))
           (put .put-block .ensures .1 s x ls (st .pre .1));
     }))

@@ -23,15 +23,21 @@ integrate-x-spec =
     -- it is: the natural logarithm of x
     (λ c κs. search needs)
     (λ c. search needs)
-    (λ c κs. let st = c .before .before .before .before .before .before .before .before .before in let sum = st .pre .0 in ((log-head (st .args .x .coef), (x, st .pre .1), over (omega arith)), (sum .few, sum .room, sum .held)))
+    (λ c κs.
+    let st = c .before .before .before .before .before .before .before .before .before in
+    let sum = st .pre .0 in
+    ((log-head (st .args .x .coef), (x, st .pre .1), over (omega arith)), (sum .few, sum .room, sum .held)))
     (λ c. search needs)
     (λ c. search needs)
     (λ c. search needs)
     (λ c.
     let put = c .before .before .before .before .before in
-    let st = put .before .before .before .before .before .before .before .before .before .before in (
+    let base = put .before .before .before .before in
+    let st = base .before .before .before .before .before .before in (
       put .put-block .ensures .0,
-      λ s ls. subst (Agrees (put .put-block .result) (B-log put) (st .args .w)) (log-stored (st .args .x) s (put .before .before .before .before .before .if1 .taken) (put .before .before .before .before .e .ensures)) (put .put-block .ensures .1 s x ls (st .pre .1)),
+      λ s ls.
+          subst (Agrees (put .put-block .result) (B-log put) (st .args .w)) (log-stored (st .args .x) s (base .before .if1 .taken) (base .e .ensures))
+          (put .put-block .ensures .1 s x ls (st .pre .1)),
     ))
     -- it isn't
     (λ c κs. search needs)
@@ -41,7 +47,10 @@ integrate-x-spec =
     (λ c. search needs)
     (λ c.
     let put = c .before .before .before .before .before in
-    let a = put .before .before .before .before .before .before .before .before .before .before .args in (
+    let divided = put .before .before .before .before in
+    let a = divided .before .before .before .before .before .before .args in (
       put .put-power .ensures .0,
-      λ s ls. subst (Agrees (put .put-power .result) (B-power put) (a .w)) (power-stored (a .x) s (put .before .before .before .before .before .if1 .left) (put .before .before .before .before .div-real .ensures)) (put .put-power .ensures .1 s ls),
+      λ s ls.
+          subst (Agrees (put .put-power .result) (B-power put) (a .w)) (power-stored (a .x) s (divided .before .if1 .left) (divided .div-real .ensures))
+          (put .put-power .ensures .1 s ls),
     )))
