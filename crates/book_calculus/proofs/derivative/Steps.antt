@@ -100,10 +100,6 @@ square-some {t} {u} l some few h =
 -- ---- an entry by its kind
 
 module _ (e : Entry) (t s : Sum) where
-  pub derive-x-is : e .kind ≡ kinds.X → deriveX e s ≡ deriveInto e t s
-  unfolding deriveInto
-  derive-x-is h = rw h
-
   pub derive-div-is : e .kind ≡ kinds.Div → deriveDiv e t s ≡ deriveInto e t s
   unfolding deriveInto
   derive-div-is h = rw h

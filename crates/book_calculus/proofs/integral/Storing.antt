@@ -13,7 +13,7 @@ use Rattle.numbers.specs.Signs.{zero64, one64}
 use Rattle.complex.specs.declared.Complex.{Complex}
 use Rattle.complex.specs.Arith as complex
 use Rattle.cells.specs.declared.Entry.{Entry}
-use Rattle.book_cells.specs.Book.{Book, Room, Plain}
+use Rattle.book_cells.specs.Book.{Book, Room}
 use Rattle.book_cells.specs.Contract.Moves.{Put, Kept}
 use Rattle.book_cells.proofs.Laws.{room-less, room-same, put-at}
 use Rattle.limits.specs.declared.Refusal.the-variants.{TooComplex}
@@ -31,7 +31,7 @@ use Rattle.calculus.specs.Contract.Into.{turnedKind}
 use Rattle.calculus.proofs.Good.{x-is-good}
 use Rattle.book_sums.specs.Contract.Heads.{GoodHead}
 use Rattle.book_sums.specs.Contract.Lies.{At}
-use Rattle.book_sums.proofs.order.Walk.{empty, plain-of, lies-above}
+use Rattle.book_sums.proofs.order.Walk.{empty, lies-above}
 use Rattle.book_calculus.specs.Contract.Into.{XBehind, turnedCoef}
 
 -- ---- x
@@ -39,10 +39,6 @@ use Rattle.book_calculus.specs.Contract.Into.{XBehind, turnedCoef}
 -- the entry that is laid
 abbrev pub x-entry : Entry
 x-entry = entry kinds.X 0 one64 complex.one
-
-pub x-plain : Plain x-entry
-unfolding Good
-x-plain = plain-of 0 (x-is-good .good .0)
 
 pub x-laid : {b b′ : Book} (w : ℕ) → Room b (w + (64 + 64)) → Put b b′ (w + 64) x-entry → XBehind b′ w
 unfolding At size
@@ -94,10 +90,6 @@ module _ (e : Entry) (s : Sum) where
 -- ---- an entry by its kind
 
 module _ (e : Entry) (t s : Sum) where
-  pub integrate-x-is : e .kind ≡ kinds.X → integrateX e s ≡ integrateInto e t s
-  unfolding integrateInto
-  integrate-x-is h = rw h
-
   -- 1 over a sum, a logarithm and E to a power
   pub integrate-not : (e .kind ≡ kinds.X → ⊥) → e .kind < kinds.Sin → integrateInto e t s ≡ refused TooComplex
   unfolding integrateInto

@@ -1,10 +1,14 @@
 -- `book_calculus::derivative::derive_entry` meets its contract, kind by kind. Assumes nothing.
 use native.Mathlib.Omega.{arith}
 use borrow.Author.Needs.{needs}
+use borrow.Author.Tests.{eq-eqb}
+use mathlib.Core.Path.{sym}
+use Rattle.trees.specs.Kinds as kinds
 use Rattle.trees.specs.Sums.{none}
 use Rattle.calculus.specs.Derivative.{deriveX}
+use Rattle.calculus.proofs.Good.{derive-is-x}
 use Rattle.book_calculus.proofs.Into.{some-inside, ready-growing, into-as, into-more, into-power}
-use Rattle.book_calculus.proofs.derivative.Steps.{derive-x-is, derive-div-is}
+use Rattle.book_calculus.proofs.derivative.Steps.{derive-div-is}
 use Rattle.book_calculus.proofs.derivative.derive_entry.Statement.{statement}
 use Rattle.book_calculus.proofs.derivative.derive_entry.Tie as tie
 
@@ -21,7 +25,10 @@ derive-entry-spec =
     let test = call .before .before .before .before in
     let st = test .before .before .before .before in
     let x = st .args .x in
-    into-more (into-power (deriveX x) (st .pre .head) (test .if1 .taken) (λ s. derive-x-is x none s (test .if1 .taken)) (call .derive-x .ensures .0) (call .derive-x .ensures .1)))
+    let is-x = eq-eqb (x .kind) kinds.X (test .if1 .taken) in
+    into-more
+    (into-power (deriveX x) (st .pre .head) (test .if1 .taken) (λ s. sym (derive-is-x (x .kind) (x .inside) (x .num) (x .coef) none s is-x)) (call .derive-x .ensures .0)
+    (call .derive-x .ensures .1)))
     (λ c κs. let pre = c .before .before .before .before .before .before .before .before .before .pre in (pre, some-inside (pre .head) (c .before .before .before .before .before .if1 .left)))
     (λ c. search needs)
     (λ c. search needs)

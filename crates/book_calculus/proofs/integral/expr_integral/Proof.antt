@@ -2,13 +2,14 @@
 use Prim.Native.Nat.{_+_}
 use native.Mathlib.Omega.{arith}
 use borrow.Author.Needs.{needs}
+use lib.Ieee.{ofBits}
 use Rattle.book_cells.specs.Book.{Book, book}
 use Rattle.book_cells.specs.Contract.Moves.{Kept}
 use Rattle.book_cells.proofs.Laws.{room-less, room-same, kept-wider, kept-trans, put-kept}
 use Rattle.book_adding.proofs.Lying.{clear, lies-clear}
 use Rattle.book_adding.proofs.Places.{kept-result}
 use Rattle.book_powers.proofs.Turns.{source-kept}
-use Rattle.book_calculus.proofs.integral.Storing.{x-plain, x-laid}
+use Rattle.book_calculus.proofs.integral.Storing.{x-laid}
 use Rattle.book_calculus.proofs.integral.expr_integral.Statement.{statement}
 use Rattle.book_calculus.proofs.integral.expr_integral.Tie as tie
 
@@ -25,12 +26,17 @@ B′ c = let last = c .store .last in book (last .0) (last .1 .0) (last .1 .1 .0
 kept : (c : tie.After-store) → (let w = start c .args .w in Kept (B (start c)) (B′ c) w (w + (64 + 64)))
 kept c = kept-wider (omega arith) (omega arith) (put-kept (c .store .ensures))
 
+-- there is a place for x, whose numbers are finite
+store-requires : tie.Need-store-requires
+unfolding ofBits
+store-requires c κs = let st = c .before .before .before .before .before in (room-less {n = st .args .w + (64 + 64)} (omega arith) (st .pre .1), record { num = tt; re = tt; im = tt })
+
 pub expr-integral-spec : {M : Type 1} → statement M
 expr-integral-spec =
     tie.close
     (tie.spec
     (λ c. search needs)
-    (λ c κs. let st = c .before .before .before .before .before in (room-less {n = st .args .w + (64 + 64)} (omega arith) (st .pre .1), x-plain))
+    store-requires
     (λ c κs.
     let put = c .before .before .before .before .before .before .before .before in
     let st = start put in

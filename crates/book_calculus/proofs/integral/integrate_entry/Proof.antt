@@ -1,9 +1,13 @@
 -- `book_calculus::integral::integrate_entry` meets its contract, kind by kind. Assumes nothing.
 use borrow.Author.Needs.{needs}
+use borrow.Author.Tests.{eq-eqb}
+use mathlib.Core.Path.{sym}
+use Rattle.trees.specs.Kinds as kinds
 use Rattle.trees.specs.Sums.{none}
 use Rattle.calculus.specs.Integral.{integrateX}
+use Rattle.calculus.proofs.Good.{integrate-is-x}
 use Rattle.book_calculus.proofs.Into.{ready-growing, into-refused, into-power}
-use Rattle.book_calculus.proofs.integral.Storing.{integrate-x-is, integrate-not}
+use Rattle.book_calculus.proofs.integral.Storing.{integrate-not}
 use Rattle.book_calculus.proofs.integral.integrate_entry.Statement.{statement}
 use Rattle.book_calculus.proofs.integral.integrate_entry.Tie as tie
 
@@ -20,7 +24,9 @@ integrate-entry-spec =
     let test = call .before .before .before .before in
     let st = test .before .before .before .before in
     let x = st .args .x in
-    into-power (integrateX x) (st .pre .0 .head) (test .if1 .taken) (λ s. integrate-x-is x none s (test .if1 .taken)) (call .integrate-x .ensures .0) (call .integrate-x .ensures .1))
+    let is-x = eq-eqb (x .kind) kinds.X (test .if1 .taken) in
+    into-power (integrateX x) (st .pre .0 .head) (test .if1 .taken) (λ s. sym (integrate-is-x (x .kind) (x .inside) (x .num) (x .coef) none s is-x)) (call .integrate-x .ensures .0)
+    (call .integrate-x .ensures .1))
     (λ c. into-refused (λ t lt s. integrate-not (c .before .before .before .before .before .before .args .x) t s (c .before .before .if1 .left) (c .if2 .taken)))
     (λ c κs. search needs)
     (λ c. search needs)
