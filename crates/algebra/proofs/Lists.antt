@@ -5,16 +5,16 @@ use mathlib.Core.Bool.{Bool, true, false, cond}
 use mathlib.Core.List.{List}
 use lib.Dec.{leb}
 use borrow.Author.Tests.{le-leb, lt-leb}
-use Rattle.cells.specs.Book.{Book}
+use Rattle.book_cells.specs.Book.{Book}
 use Rattle.limits.specs.declared.Refusal.{Refusal}
 use Rattle.limits.specs.declared.Refusal.the-variants.{NotHandled}
 use Rattle.limits.specs.Refusals.{refusalNo}
 use Rattle.trees.specs.Sums.{Sum}
-use Rattle.sums.specs.Contract.Lies.{Lies}
+use Rattle.book_sums.specs.Contract.Lies.{Lies}
 use Rattle.formats.specs.Tree.{recordsIn}
-use Rattle.env.specs.declared.AlgebraData.{AlgebraData}
-use Rattle.env.specs.declared.AlgebraData.the-variants as gave
-use Rattle.env.specs.Contract.Data.{DataAs}
+use Rattle.book_reading.specs.declared.env.AlgebraData.{AlgebraData}
+use Rattle.book_reading.specs.declared.env.AlgebraData.the-variants as gave
+use Rattle.book_reading.specs.Contract.Data.{DataAs}
 use Rattle.bodies.specs.Reading.{Read, done}
 use Rattle.bodies.specs.Reading as reading
 use Rattle.answers.specs.declared.Answer.{Answer}
@@ -28,7 +28,7 @@ module _ (room : List ℕ → ℕ) (x : Read) (f : Bool → Sum → Made) (d : A
   pub after-refused : {q : Refusal} {at : ℕ} {h : Bool} (out : List ℕ) → d ≡ gave.Refused q at h → DataAs d b x → Gives room (afterRead x f) out out (answer.Refused q at)
   after-refused {q} {at} out e g = rw (gave-refused x d b e g) (gives-refusal room q at out)
 
-  pub after-made : {n : ℕ} {c h : Bool} {out out′ : List ℕ} {r : Answer} → d ≡ gave.Sum n c h → DataAs d b x → ((s : Sum) → Lies b 0 (0 + n) 4 s → Gives room (f c s) out out′ r) → Gives room (afterRead x f) out out′ r
+  pub after-made : {n : ℕ} {c h : Bool} {out out′ : List ℕ} {r : Answer} → d ≡ gave.Sum n c h → DataAs d b x → ((s : Sum) → Lies b 128 (128 + n) 4 s → Gives room (f c s) out out′ r) → Gives room (afterRead x f) out out′ r
   after-made e g k = let w = gave-sum x d b e g in rw (w .is) (k (w .s) (w .lies))
 
 -- ---- the inverse
@@ -44,7 +44,7 @@ inverse-refused {q} {at} {h} x d b out e g k = rw (gave-refused x d b e g) (rw k
     quiet true = gives-refusal recordsIn q at out
     quiet false = by-number (leb (refusalNo q) 9)
 
-pub inverse-made : {n : ℕ} {c h : Bool} {out out′ : List ℕ} {r : Answer} (x : Read) (d : AlgebraData) (b : Book) → d ≡ gave.Sum n c h → DataAs d b x → ((s : Sum) → Lies b 0 (0 + n) 4 s → Gives recordsIn (inverseOf (done s c h)) out out′ r) → Gives recordsIn (inverseOf x) out out′ r
+pub inverse-made : {n : ℕ} {c h : Bool} {out out′ : List ℕ} {r : Answer} (x : Read) (d : AlgebraData) (b : Book) → d ≡ gave.Sum n c h → DataAs d b x → ((s : Sum) → Lies b 128 (128 + n) 4 s → Gives recordsIn (inverseOf (done s c h)) out out′ r) → Gives recordsIn (inverseOf x) out out′ r
 inverse-made x d b e g k = let w = gave-sum x d b e g in rw (w .is) (k (w .s) (w .lies))
 
 module _ (q : Refusal) (at : ℕ) {h : Bool} where

@@ -4,19 +4,21 @@ use native.Mathlib.Omega.{arith}
 use mathlib.Core.Path.{_≡_, refl, ap, subst}
 use mathlib.Core.Bool.{Bool, false}
 use mathlib.Core.List.{List}
-use Rattle.cells.specs.Book.{Book}
+use Rattle.book_cells.specs.Book.{Book, Room}
 use Rattle.limits.specs.declared.Refusal.{Refusal}
 use Rattle.trees.specs.Sums.{Sum}
-use Rattle.sums.specs.Contract.Lies.{Lies, Held}
-use Rattle.adds.proofs.Lying.{lies-to}
+use Rattle.book_sums.specs.Contract.Lies.{Lies, Held}
+use Rattle.book_cells.specs.Contract.Moves.{over}
+use Rattle.book_cells.proofs.Laws.{room-less}
+use Rattle.book_adding.specs.Contract.Operands.{Source}
 use Rattle.formats.specs.declared.record.Verdict.the-variants as verdict
 use Rattle.formats.specs.Rules as rules
 use Rattle.formats.specs.Tree.{parse}
 use Rattle.entries.specs.Encoding.{entriesIn}
 use Rattle.bodies.specs.Reading.{Read, done, refusedAt, readNodes}
-use Rattle.env.specs.declared.AlgebraData.{AlgebraData}
-use Rattle.env.specs.declared.AlgebraData.the-variants as gave
-use Rattle.env.specs.Contract.Data.{DataAs}
+use Rattle.book_reading.specs.declared.env.AlgebraData.{AlgebraData}
+use Rattle.book_reading.specs.declared.env.AlgebraData.the-variants as gave
+use Rattle.book_reading.specs.Contract.Data.{DataAs}
 use Rattle.answers.specs.declared.Answer.{Answer}
 use Rattle.answers.specs.Promises.{Promise}
 use Rattle.answers.specs.Making.{Gives}
@@ -51,11 +53,11 @@ gave-refused {q} {at} {h} x d b e g = go x (subst (λ y. DataAs y b x) e g)
     go (done s c k) g = absurd g
     go (refusedAt p i k) g = rw (g .refusal, g .place, g .handled) refl
 
--- a sum, which lies in the first n cells
+-- a sum, which lies in n cells behind the working places
 pub record SumRead (x : Read) (b : Book) (n : ℕ) (c h : Bool) : Type 0 where
   pub s : Sum
   pub is : x ≡ done s c h
-  pub lies : Lies b 0 (0 + n) 4 s
+  pub lies : Lies b 128 (128 + n) 4 s
   pub few : n ≤ 64
 
 pub gave-sum : {n : ℕ} {c h : Bool} (x : Read) (d : AlgebraData) (b : Book) → d ≡ gave.Sum n c h → DataAs d b x → SumRead x b n c h
@@ -63,14 +65,19 @@ gave-sum {n} {c} {h} x d b e g = go x (subst (λ y. DataAs y b x) e g)
   where
     go : (x : Read) → DataAs (gave.Sum n c h) b x → SumRead x b n c h
     go (done s i k) g =
-        record { s = s; is = rw (g .1, g .2) refl; lies = lies-to (0 + n) (omega arith) (g .0 .lies); few = omega (arith, g .0 .lies .ends, g .0 .good .room) }
+        record { s = s; is = rw (g .1, g .2) refl; lies = g .0 .lies; few = omega (arith, g .0 .lies .ends, g .0 .good .room) }
     go (refusedAt q at k) g = absurd g
 
 module _ {n : ℕ} {c h : Bool} (x : Read) (d : AlgebraData) (b : Book) (e : d ≡ gave.Sum n c h) (g : DataAs d b x) where
-  pub gave-held : (n ≤ 64) × Held b 0 (0 + n) 4
+  pub gave-held : (n ≤ 64) × Held b 128 (128 + n) 4
   gave-held = let w = gave-sum x d b e g in (w .few, (w .s, w .lies))
 
-  pub read-sum : {out out′ : List ℕ} {r : ReadAnswer} → ((s : Sum) (h : Bool) → Lies b 0 (0 + n) 4 s → Promise (answerOf (done s c h)) (bytesOf (done s c h)) out out′ r) → Promise (answerOf x) (bytesOf x) out out′ r
+  pub gave-source : Source b 128 n 0 × Room b (0 + (64 + 64))
+  gave-source =
+      let w = gave-sum x d b e g in
+      (record { few = w .few; held = (w .s, w .lies); apart = over (omega arith) }, room-less (omega arith) (w .lies .room))
+
+  pub read-sum : {out out′ : List ℕ} {r : ReadAnswer} → ((s : Sum) (h : Bool) → Lies b 128 (128 + n) 4 s → Promise (answerOf (done s c h)) (bytesOf (done s c h)) out out′ r) → Promise (answerOf x) (bytesOf x) out out′ r
   read-sum f = let w = gave-sum x d b e g in rw (w .is) (f (w .s) h (w .lies))
 
 pub read-refused : {q : Refusal} {at : ℕ} {h : Bool} (x : Read) (d : AlgebraData) (b : Book) (out : List ℕ) → d ≡ gave.Refused q at h → DataAs d b x → Promise (answerOf x) (bytesOf x) out out (answer.Refused q at)

@@ -1,9 +1,11 @@
 // The entries. None asks anything of its caller: every byte list gets a result or one refusal, and a refusal changes no output byte.
 use answers::Answer;
 use answers::Numbers;
+use book_reading::env::AlgebraData;
+use book_stack::slots::ARENA;
+use book_stack::slots::WORKING;
 use costs::CostAnswer;
 use entries::Taken;
-use env::AlgebraData;
 use formats::record::Verdict;
 use limits::LAST_REPLACED;
 use limits::Refusal;
@@ -14,13 +16,14 @@ ghost use Prim.Native.Nat.{_+_, _≤_};
 ghost use mathlib.Core.Bool.{Bool};
 ghost use mathlib.Core.List.{[]};
 ghost use Rattle.limits.specs.Limits.{sumEntries, sumLevels};
-ghost use Rattle.cells.specs.Book.{lent, Room};
 ghost use Rattle.trees.specs.Sums.{Sum};
-ghost use Rattle.sums.specs.Contract.Lies.{Lies, Held};
+ghost use Rattle.book_cells.specs.Book.{lent, entering, leaving};
+ghost use Rattle.book_sums.specs.Contract.Lies.{Lies, Held, OfOne};
+ghost use Rattle.book_stack.specs.Contract.Arena.{arena, Space, working, places};
 ghost use Rattle.formats.specs.Tree.{recordsIn};
 ghost use Rattle.entries.specs.Encoding.{entriesIn};
 ghost use Rattle.bodies.specs.Reading.{done, refusedAt};
-ghost use Rattle.env.specs.Contract.Data.{DataAs};
+ghost use Rattle.book_reading.specs.Contract.Data.{DataAs};
 ghost use Rattle.running.specs.Running.{runList};
 ghost use Rattle.answers.specs.Promises.{Promise};
 ghost use Rattle.answers.specs.Making as making;
@@ -61,18 +64,17 @@ pub fn read_numbers(r: ReadAnswer) -> Numbers
 // The sum that a list stands for: 11 and 13 come first, over the whole list.
 fn read_sum(
     list: &[u8],
-    wk: &mut [u8],
-    wi: &mut [u8],
-    wn: &mut [u64],
-    wr: &mut [u64],
-    wm: &mut [u64],
+    kinds: &mut [u8],
+    insides: &mut [u8],
+    numbers: &mut [[u64; 3]],
+    sizes: &mut [u8],
 ) -> AlgebraData
-    requires { ⌜ Room (lent wk wi wn wr wm) sumEntries ⌝ }
-    ensures { λ r. ⌜ DataAs r (lent (wk .exit) (wi .exit) (wn .exit) (wr .exit) (wm .exit)) (readList (now (list .entry))) ⌝ }
+    requires { ⌜ Space (arena kinds insides numbers sizes) places ⌝ }
+    ensures { λ r. ⌜ DataAs r (leaving kinds insides numbers) (readList (now (list .entry))) ⌝ }
 {
     match formats::rules::check(list) {
         Verdict::Refused(q) => AlgebraData::Refused(q, 0, false),
-        Verdict::Good => env::nodes_expr(list, wk, wi, wn, wr, wm),
+        Verdict::Good => book_reading::env::nodes_expr(list, kinds, insides, numbers, sizes),
     }
 }
 
@@ -88,19 +90,17 @@ fn flagged(complex: bool, a: Answer) -> ReadAnswer
 
 // The sum of the first n cells, where there is room for it, and its complex flag.
 fn put_read(
-    wk: &[u8],
-    wi: &[u8],
-    wn: &[u64],
-    wr: &[u64],
-    wm: &[u64],
+    kinds: &[u8],
+    insides: &[u8],
+    numbers: &[[u64; 3]],
     n: usize,
     complex: bool,
     out: &mut [u8],
 ) -> ReadAnswer
-    requires { ⌜ (n ≤ sumEntries) × Held (lent wk wi wn wr wm) 0 (0 + n) sumLevels ⌝ }
-    ensures { λ r. ⌜ ((s : Sum) (h : Bool) → Lies (lent (wk .entry) (wi .entry) (wn .entry) (wr .entry) (wm .entry)) 0 (0 + n) sumLevels s → Promise (answerOf (done s complex h)) (bytesOf (done s complex h)) (now (out .entry)) (now (out .exit)) r) ⌝ }
+    requires { ⌜ (n ≤ sumEntries) × Held (lent kinds insides numbers) working (working + n) sumLevels ⌝ }
+    ensures { λ r. ⌜ ((s : Sum) (h : Bool) → Lies (entering kinds insides numbers) working (working + n) sumLevels s → Promise (answerOf (done s complex h)) (bytesOf (done s complex h)) (now (out .entry)) (now (out .exit)) r) ⌝ }
 {
-    let answer = answers::put_out(wk, wi, wn, wr, wm, n, out);
+    let answer = answers::put_out(kinds, insides, numbers, WORKING, n, out);
     flagged(complex, answer)
 }
 
@@ -108,15 +108,14 @@ fn put_read(
 pub fn read(list: &[u8], out: &mut [u8]) -> ReadAnswer
     ensures { λ r. ⌜ Promised entry.read (now (list .entry)) (now (out .entry)) (now (out .exit)) (ofRead r) ⌝ }
 {
-    let mut wk = [0u8; SUM_ENTRIES];
-    let mut wi = [0u8; SUM_ENTRIES];
-    let mut wn = [0u64; SUM_ENTRIES];
-    let mut wr = [0u64; SUM_ENTRIES];
-    let mut wm = [0u64; SUM_ENTRIES];
-    let data = read_sum(list, &mut wk, &mut wi, &mut wn, &mut wr, &mut wm);
+    let mut kinds = [0u8; ARENA];
+    let mut insides = [0u8; ARENA];
+    let mut numbers = [[0u64; 3]; ARENA];
+    let mut sizes = [0u8; ARENA];
+    let data = read_sum(list, &mut kinds, &mut insides, &mut numbers, &mut sizes);
     match data {
         AlgebraData::Refused(q, at, _) => ReadAnswer::Refused(q, at),
-        AlgebraData::Sum(n, complex, _) => put_read(&wk, &wi, &wn, &wr, &wm, n, complex, out),
+        AlgebraData::Sum(n, complex, _) => put_read(&kinds, &insides, &numbers, n, complex, out),
     }
 }
 
@@ -124,21 +123,20 @@ pub fn read(list: &[u8], out: &mut [u8]) -> ReadAnswer
 pub fn derivative(list: &[u8], out: &mut [u8]) -> Answer
     ensures { λ r. ⌜ Promised entry.derivative (now (list .entry)) (now (out .entry)) (now (out .exit)) (ofAnswer r) ⌝ }
 {
-    let mut wk = [0u8; SUM_ENTRIES];
-    let mut wi = [0u8; SUM_ENTRIES];
-    let mut wn = [0u64; SUM_ENTRIES];
-    let mut wr = [0u64; SUM_ENTRIES];
-    let mut wm = [0u64; SUM_ENTRIES];
-    let data = read_sum(list, &mut wk, &mut wi, &mut wn, &mut wr, &mut wm);
+    let mut kinds = [0u8; ARENA];
+    let mut insides = [0u8; ARENA];
+    let mut numbers = [[0u64; 3]; ARENA];
+    let mut sizes = [0u8; ARENA];
+    let data = read_sum(list, &mut kinds, &mut insides, &mut numbers, &mut sizes);
     match data {
         AlgebraData::Refused(q, at, _) => Answer::Refused(q, at),
         AlgebraData::Sum(n, complex, _) => answers::derive_and_write(
-            &wk,
-            &wi,
-            &wn,
-            &wr,
-            &wm,
+            &mut kinds,
+            &mut insides,
+            &mut numbers,
+            WORKING,
             n,
+            0,
             complex,
             out,
         ),
@@ -149,21 +147,20 @@ pub fn derivative(list: &[u8], out: &mut [u8]) -> Answer
 pub fn integral(list: &[u8], out: &mut [u8]) -> Answer
     ensures { λ r. ⌜ Promised entry.integral (now (list .entry)) (now (out .entry)) (now (out .exit)) (ofAnswer r) ⌝ }
 {
-    let mut wk = [0u8; SUM_ENTRIES];
-    let mut wi = [0u8; SUM_ENTRIES];
-    let mut wn = [0u64; SUM_ENTRIES];
-    let mut wr = [0u64; SUM_ENTRIES];
-    let mut wm = [0u64; SUM_ENTRIES];
-    let data = read_sum(list, &mut wk, &mut wi, &mut wn, &mut wr, &mut wm);
+    let mut kinds = [0u8; ARENA];
+    let mut insides = [0u8; ARENA];
+    let mut numbers = [[0u64; 3]; ARENA];
+    let mut sizes = [0u8; ARENA];
+    let data = read_sum(list, &mut kinds, &mut insides, &mut numbers, &mut sizes);
     match data {
         AlgebraData::Refused(q, at, _) => Answer::Refused(q, at),
         AlgebraData::Sum(n, complex, _) => answers::integrate_and_write(
-            &wk,
-            &wi,
-            &wn,
-            &wr,
-            &wm,
+            &mut kinds,
+            &mut insides,
+            &mut numbers,
+            WORKING,
             n,
+            0,
             complex,
             out,
         ),
@@ -185,58 +182,64 @@ fn refuse_inverse(q: Refusal, at: usize, handled: bool) -> Answer
 
 // The list that undoes the sum of the first n cells, where what was read counts as handled.
 fn invert_read(
-    wk: &[u8],
-    wi: &[u8],
-    wn: &[u64],
-    wr: &[u64],
-    wm: &[u64],
+    kinds: &[u8],
+    insides: &[u8],
+    numbers: &[[u64; 3]],
     n: usize,
     complex: bool,
     handled: bool,
     out: &mut [u8],
 ) -> Answer
-    requires { ⌜ (n ≤ sumEntries) × Held (lent wk wi wn wr wm) 0 (0 + n) sumLevels ⌝ }
-    ensures { λ r. ⌜ ((s : Sum) → Lies (lent (wk .entry) (wi .entry) (wn .entry) (wr .entry) (wm .entry)) 0 (0 + n) sumLevels s → Gives recordsIn (lists.inverseOf (done s complex handled)) (now (out .entry)) (now (out .exit)) r) ⌝ }
+    requires { ⌜ (n ≤ sumEntries) × Held (lent kinds insides numbers) working (working + n) sumLevels ⌝ }
+    ensures { λ r. ⌜ OfOne (entering kinds insides numbers) working (working + n) sumLevels (λ s. Gives recordsIn (lists.inverseOf (done s complex handled)) (now (out .entry)) (now (out .exit)) r) ⌝ }
 {
     if !handled {
         return Answer::Refused(Refusal::NotHandled, 0);
     }
-    answers::invert(wk, wi, wn, wr, wm, n, complex, out)
+    answers::invert(kinds, insides, numbers, WORKING, n, complex, out)
 }
 
 // From a list to the list that undoes it.
 pub fn inverse(list: &[u8], out: &mut [u8]) -> Answer
     ensures { λ r. ⌜ Promised entry.inverse (now (list .entry)) (now (out .entry)) (now (out .exit)) (ofAnswer r) ⌝ }
 {
-    let mut wk = [0u8; SUM_ENTRIES];
-    let mut wi = [0u8; SUM_ENTRIES];
-    let mut wn = [0u64; SUM_ENTRIES];
-    let mut wr = [0u64; SUM_ENTRIES];
-    let mut wm = [0u64; SUM_ENTRIES];
-    let data = read_sum(list, &mut wk, &mut wi, &mut wn, &mut wr, &mut wm);
+    let mut kinds = [0u8; ARENA];
+    let mut insides = [0u8; ARENA];
+    let mut numbers = [[0u64; 3]; ARENA];
+    let mut sizes = [0u8; ARENA];
+    let data = read_sum(list, &mut kinds, &mut insides, &mut numbers, &mut sizes);
     match data {
         AlgebraData::Refused(q, at, handled) => refuse_inverse(q, at, handled),
         AlgebraData::Sum(n, complex, handled) => {
-            invert_read(&wk, &wi, &wn, &wr, &wm, n, complex, handled, out)
+            invert_read(&kinds, &insides, &numbers, n, complex, handled, out)
         }
     }
 }
 
 // ---- of a sum
 
+// A sum that is handed over, and behind it the places in which its derivative or its integral is formed.
+const SUM_PLACES: usize = SUM_ENTRIES + WORKING;
+
 // The derivative of a sum that is handed over.
 pub fn derive(sum: &[u8], out: &mut [u8]) -> Answer
     ensures { λ r. ⌜ Promised entry.derive (now (sum .entry)) (now (out .entry)) (now (out .exit)) (ofAnswer r) ⌝ }
 {
-    let mut ak = [0u8; SUM_ENTRIES];
-    let mut ai = [0u8; SUM_ENTRIES];
-    let mut an = [0u64; SUM_ENTRIES];
-    let mut ar = [0u64; SUM_ENTRIES];
-    let mut am = [0u64; SUM_ENTRIES];
-    let taken = entries::take_in(sum, &mut ak, &mut ai, &mut an, &mut ar, &mut am);
+    let mut kinds = [0u8; SUM_PLACES];
+    let mut insides = [0u8; SUM_PLACES];
+    let mut numbers = [[0u64; 3]; SUM_PLACES];
+    let taken = book_entries::bytes::take_in(&mut kinds, &mut insides, &mut numbers, sum);
     match taken {
         Taken::Refused(q) => Answer::Refused(q, 0),
-        Taken::Sum(n) => answers::derive(&ak, &ai, &an, &ar, &am, n, out),
+        Taken::Sum(n) => answers::derive(
+            &mut kinds,
+            &mut insides,
+            &mut numbers,
+            0,
+            n,
+            SUM_ENTRIES,
+            out,
+        ),
     }
 }
 
@@ -244,15 +247,21 @@ pub fn derive(sum: &[u8], out: &mut [u8]) -> Answer
 pub fn integrate(sum: &[u8], out: &mut [u8]) -> Answer
     ensures { λ r. ⌜ Promised entry.integrate (now (sum .entry)) (now (out .entry)) (now (out .exit)) (ofAnswer r) ⌝ }
 {
-    let mut ak = [0u8; SUM_ENTRIES];
-    let mut ai = [0u8; SUM_ENTRIES];
-    let mut an = [0u64; SUM_ENTRIES];
-    let mut ar = [0u64; SUM_ENTRIES];
-    let mut am = [0u64; SUM_ENTRIES];
-    let taken = entries::take_in(sum, &mut ak, &mut ai, &mut an, &mut ar, &mut am);
+    let mut kinds = [0u8; SUM_PLACES];
+    let mut insides = [0u8; SUM_PLACES];
+    let mut numbers = [[0u64; 3]; SUM_PLACES];
+    let taken = book_entries::bytes::take_in(&mut kinds, &mut insides, &mut numbers, sum);
     match taken {
         Taken::Refused(q) => Answer::Refused(q, 0),
-        Taken::Sum(n) => answers::integrate(&ak, &ai, &an, &ar, &am, n, out),
+        Taken::Sum(n) => answers::integrate(
+            &mut kinds,
+            &mut insides,
+            &mut numbers,
+            0,
+            n,
+            SUM_ENTRIES,
+            out,
+        ),
     }
 }
 
@@ -260,15 +269,13 @@ pub fn integrate(sum: &[u8], out: &mut [u8]) -> Answer
 pub fn write(sum: &[u8], complex: bool, out: &mut [u8]) -> Answer
     ensures { λ r. ⌜ Promised (entry.write complex) (now (sum .entry)) (now (out .entry)) (now (out .exit)) (ofAnswer r) ⌝ }
 {
-    let mut ak = [0u8; SUM_ENTRIES];
-    let mut ai = [0u8; SUM_ENTRIES];
-    let mut an = [0u64; SUM_ENTRIES];
-    let mut ar = [0u64; SUM_ENTRIES];
-    let mut am = [0u64; SUM_ENTRIES];
-    let taken = entries::take_in(sum, &mut ak, &mut ai, &mut an, &mut ar, &mut am);
+    let mut kinds = [0u8; SUM_PLACES];
+    let mut insides = [0u8; SUM_PLACES];
+    let mut numbers = [[0u64; 3]; SUM_PLACES];
+    let taken = book_entries::bytes::take_in(&mut kinds, &mut insides, &mut numbers, sum);
     match taken {
         Taken::Refused(q) => Answer::Refused(q, 0),
-        Taken::Sum(n) => answers::write_sum(&ak, &ai, &an, &ar, &am, n, complex, out),
+        Taken::Sum(n) => answers::write_sum(&kinds, &insides, &numbers, 0, n, complex, out),
     }
 }
 

@@ -7,15 +7,15 @@ use mathlib.Core.List.{List}
 use lib.Dec.{leb}
 use lib.Seq.{sets}
 use borrow.Author.Tests.{le-leb, lt-leb}
-use Rattle.cells.specs.Book.{Book}
+use Rattle.book_cells.specs.Book.{Book}
 use Rattle.limits.specs.declared.Refusal.{Refusal}
 use Rattle.limits.specs.declared.Refusal.the-variants.{OutputRoom}
 use Rattle.trees.specs.Sums.{Sum, size}
 use Rattle.trees.specs.Map.{Outcome}
-use Rattle.sums.specs.declared.Formed.{Formed}
-use Rattle.sums.specs.declared.Formed.the-variants as formed
-use Rattle.sums.specs.Contract.Lies.{Lies, Held, Agrees}
-use Rattle.factors.proofs.Lying.{agreed-done, agreed-refused}
+use Rattle.book_sums.specs.declared.order.Formed.{Formed}
+use Rattle.book_sums.specs.declared.order.Formed.the-variants as formed
+use Rattle.book_sums.specs.Contract.Lies.{Lies, Held, Agrees}
+use Rattle.book_adding.proofs.Lying.{agreed-done, agreed-refused}
 use Rattle.formats.specs.Tree as tree
 use Rattle.formats.specs.Tree.{recordsIn}
 use Rattle.entries.specs.Encoding.{entriesIn, encodeSum}
@@ -48,19 +48,19 @@ module _ (room : List ℕ → ℕ) where
 
   -- ---- after a sum was formed, or refused
 
-  pub then-refused : {q : Refusal} {r : Formed} (w : Book) (o : Outcome) (f : Sum → Made) (out : List ℕ) → r ≡ formed.Refused q → Agrees r w 0 o → Gives room (ofOutcome o f) out out (answer.Refused q 0)
-  then-refused {q} {r} w o f out e a = rw (agreed-refused w 0 q r o a e) (gives-refusal q 0 out)
+  pub then-refused : {q : Refusal} {r : Formed} (b : Book) (p : ℕ) (o : Outcome) (f : Sum → Made) (out : List ℕ) → r ≡ formed.Refused q → Agrees r b p o → Gives room (ofOutcome o f) out out (answer.Refused q 0)
+  then-refused {q} {r} b p o f out e a = rw (agreed-refused b p q r o a e) (gives-refusal q 0 out)
 
-  pub then-made : {m : ℕ} {r : Formed} (w : Book) (o : Outcome) {out out′ : List ℕ} {a : Answer} (f : Sum → Made) → r ≡ formed.Done m → Agrees r w 0 o → ((s : Sum) → Lies w 0 (0 + m) 4 s → Gives room (f s) out out′ a) → Gives room (ofOutcome o f) out out′ a
-  then-made {m} {r} w o f e g h = let d = agreed-done w 0 m r o g e in rw (d .is) (h (d .s) (d .lies))
+  pub then-made : {m : ℕ} {r : Formed} (b : Book) (p : ℕ) (o : Outcome) {out out′ : List ℕ} {a : Answer} (f : Sum → Made) → r ≡ formed.Done m → Agrees r b p o → ((s : Sum) → Lies b p (p + m) 4 s → Gives room (f s) out out′ a) → Gives room (ofOutcome o f) out out′ a
+  then-made {m} {r} b p o f e g h = let d = agreed-done b p m r o g e in rw (d .is) (h (d .s) (d .lies))
 
 -- what was formed lies there
-pub then-held : {m : ℕ} {r : Formed} (w : Book) (o : Outcome) → r ≡ formed.Done m → Agrees r w 0 o → (m ≤ 64) × Held w 0 (0 + m) 4
-then-held {m} {r} w o e g = let d = agreed-done w 0 m r o g e in (d .few, (d .s, d .lies))
+pub then-held : {m : ℕ} {r : Formed} (b : Book) (p : ℕ) (o : Outcome) → r ≡ formed.Done m → Agrees r b p o → (m ≤ 64) × Held b p (p + m) 4
+then-held {m} {r} b p o e g = let d = agreed-done b p m r o g e in (d .few, (d .s, d .lies))
 
--- ---- a sum that lies in the first n cells
+-- ---- a sum that lies in n cells
 
-module _ {b : Book} {n : ℕ} {s : Sum} (out : List ℕ) (l : Lies b 0 (0 + n) 4 s) where
+module _ {b : Book} {i n : ℕ} {s : Sum} (out : List ℕ) (l : Lies b i (i + n) 4 s) where
   many : n ≡ size s
   many = omega (arith, l .ends)
 

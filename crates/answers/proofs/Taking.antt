@@ -3,17 +3,19 @@ use Prim.Native.Nat.{ℕ, _+_, _≤_}
 use native.Mathlib.Omega.{arith}
 use mathlib.Core.Path.{_≡_, refl, sym, subst, _∙_}
 use mathlib.Core.List.{List}
-use Rattle.cells.specs.Book.{Book}
+use Rattle.book_cells.specs.Book.{Book}
 use Rattle.limits.specs.declared.Refusal.{Refusal}
 use Rattle.trees.specs.Sums.{Sum, size}
 use Rattle.trees.specs.Good.{Good}
-use Rattle.sums.specs.Contract.Lies.{Lies, Held}
+use Rattle.book_sums.specs.Contract.Lies.{Lies, Held}
 use Rattle.entries.specs.declared.Taken.{Taken}
 use Rattle.entries.specs.declared.Taken.the-variants as taken
 use Rattle.entries.specs.Encoding.{encodeSum}
 use Rattle.entries.specs.Taking.{Weighed}
-use Rattle.entries.specs.Contract.Laid.{Laid}
-use Rattle.entries.proofs.Theorem.{good-taken, settled}
+use Rattle.book_entries.specs.Contract.Laid.{Laid}
+use Rattle.book_cells.specs.Contract.Moves.{under}
+use Rattle.book_adding.specs.Contract.Operands.{Source}
+use Rattle.book_entries.proofs.bytes.Theorem.{good-taken, settled}
 use Rattle.answers.specs.declared.Answer.{Answer}
 use Rattle.answers.specs.declared.Answer.the-variants as answer
 use Rattle.answers.specs.Making.{Made, refusedAt, Gives, OfBytes}
@@ -47,6 +49,10 @@ module _ {room : List ℕ → ℕ} {f : Sum → Made} {l : List ℕ} {t : Taken}
 
 pub bytes-held : {l : List ℕ} {b : Book} {n : ℕ} → Laid l b n → (n ≤ 64) × Held b 0 (0 + n) 4
 bytes-held {l} {b} {n} d = (d .few, (d .some .0, subst (λ z. Lies b 0 z 4 (d .some .0)) (omega arith) (d .some .2)))
+
+-- the places from 64 on are apart from it
+pub bytes-source : {l : List ℕ} {b : Book} {n : ℕ} → Laid l b n → Source b 0 n 64
+bytes-source d = record { few = d .few; held = bytes-held d .1; apart = under (let few = d .few in omega arith) }
 
 -- ---- what a promise over a sum's bytes tells
 

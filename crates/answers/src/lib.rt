@@ -1,14 +1,14 @@
-// What is made of a sum that lies in slices: a sum or a list, written where there is room for the whole of it, or a refusal. A refusal changes no byte.
+// What is made of a sum that lies in a book of three arrays: a sum or a list, written where there is room for the whole of it, or a refusal. A refusal changes no byte.
+// Where a derivative or an integral is taken it is formed in the SUM_ENTRIES places from w on, and as many behind them are working places.
+use book_sums::order::Formed;
 use drafts::Wrote;
 use limits::Refusal;
-use limits::SUM_ENTRIES;
-use sums::Formed;
 ghost use mathlib.Core.Path.{_≡_};
 ghost use Prim.Native.Nat.{_+_, _≤_};
 ghost use Rattle.limits.specs.Limits.{sumEntries, sumLevels};
-ghost use Rattle.cells.specs.Book.{lent};
-ghost use Rattle.trees.specs.Sums.{Sum};
-ghost use Rattle.sums.specs.Contract.Lies.{Lies, Held};
+ghost use Rattle.book_cells.specs.Book.{lent, entering, Room};
+ghost use Rattle.book_sums.specs.Contract.Lies.{Held, OfOne};
+ghost use Rattle.book_adding.specs.Contract.Operands.{Source};
 ghost use Rattle.formats.specs.Tree.{recordsIn};
 ghost use Rattle.entries.specs.Encoding.{entriesIn};
 ghost use Rattle.answers.specs.Making.{ofSum, answerOf, Gives, answerNumbers, derive, integrate, write, invert, deriveAndWrite, integrateAndWrite};
@@ -59,211 +59,132 @@ fn answer_of(w: Wrote) -> Answer
 
 // The sum itself, where there is room for it.
 pub fn put_out(
-    ak: &[u8],
-    ai: &[u8],
-    an: &[u64],
-    ar: &[u64],
-    am: &[u64],
+    kinds: &[u8],
+    insides: &[u8],
+    numbers: &[[u64; 3]],
+    i: usize,
     n: usize,
     out: &mut [u8],
 ) -> Answer
-    requires { ⌜ (n ≤ sumEntries) × Held (lent ak ai an ar am) 0 (0 + n) sumLevels ⌝ }
-    ensures { λ r. ⌜ ((s : Sum) → Lies (lent (ak .entry) (ai .entry) (an .entry) (ar .entry) (am .entry)) 0 (0 + n) sumLevels s → Gives entriesIn (ofSum s) (now (out .entry)) (now (out .exit)) r) ⌝ }
+    requires { ⌜ (n ≤ sumEntries) × Held (lent kinds insides numbers) i (i + n) sumLevels ⌝ }
+    ensures { λ r. ⌜ OfOne (entering kinds insides numbers) i (i + n) sumLevels (λ s. Gives entriesIn (ofSum s) (now (out .entry)) (now (out .exit)) r) ⌝ }
 {
-    let room = entries::count_entries(out);
+    let room = book_entries::bytes::count_entries(out);
     if room < n {
         return Answer::Refused(Refusal::OutputRoom, 0);
     }
-    entries::put_sum(ak, ai, an, ar, am, 0, n, out);
+    book_entries::bytes::put_sum(kinds, insides, numbers, i, n, out);
     Answer::Done(n)
 }
 
 // Its derivative.
 pub fn derive(
-    ak: &[u8],
-    ai: &[u8],
-    an: &[u64],
-    ar: &[u64],
-    am: &[u64],
+    kinds: &mut [u8],
+    insides: &mut [u8],
+    numbers: &mut [[u64; 3]],
+    i: usize,
     n: usize,
+    w: usize,
     out: &mut [u8],
 ) -> Answer
-    requires { ⌜ (n ≤ sumEntries) × Held (lent ak ai an ar am) 0 (0 + n) sumLevels ⌝ }
-    ensures { λ r. ⌜ ((s : Sum) → Lies (lent (ak .entry) (ai .entry) (an .entry) (ar .entry) (am .entry)) 0 (0 + n) sumLevels s → Gives entriesIn (derive s) (now (out .entry)) (now (out .exit)) r) ⌝ }
+    requires { ⌜ Source (lent kinds insides numbers) i n w × Room (lent kinds insides numbers) (w + (sumEntries + sumEntries)) ⌝ }
+    ensures { λ r. ⌜ OfOne (entering kinds insides numbers) i (i + n) sumLevels (λ s. Gives entriesIn (derive s) (now (out .entry)) (now (out .exit)) r) ⌝ }
 {
-    let mut wk = [0u8; SUM_ENTRIES];
-    let mut wi = [0u8; SUM_ENTRIES];
-    let mut wn = [0u64; SUM_ENTRIES];
-    let mut wr = [0u64; SUM_ENTRIES];
-    let mut wm = [0u64; SUM_ENTRIES];
-    let formed = derivatives::expr_deriv(
-        ak,
-        ai,
-        an,
-        ar,
-        am,
-        0,
-        n,
-        &mut wk,
-        &mut wi,
-        &mut wn,
-        &mut wr,
-        &mut wm,
-    );
-    match formed {
+    match book_calculus::derivative::expr_deriv(kinds, insides, numbers, i, n, w) {
         Formed::Refused(q) => Answer::Refused(q, 0),
-        Formed::Done(m) => put_out(&wk, &wi, &wn, &wr, &wm, m, out),
+        Formed::Done(m) => put_out(kinds, insides, numbers, w, m, out),
     }
 }
 
 // Its integral.
 pub fn integrate(
-    ak: &[u8],
-    ai: &[u8],
-    an: &[u64],
-    ar: &[u64],
-    am: &[u64],
+    kinds: &mut [u8],
+    insides: &mut [u8],
+    numbers: &mut [[u64; 3]],
+    i: usize,
     n: usize,
+    w: usize,
     out: &mut [u8],
 ) -> Answer
-    requires { ⌜ (n ≤ sumEntries) × Held (lent ak ai an ar am) 0 (0 + n) sumLevels ⌝ }
-    ensures { λ r. ⌜ ((s : Sum) → Lies (lent (ak .entry) (ai .entry) (an .entry) (ar .entry) (am .entry)) 0 (0 + n) sumLevels s → Gives entriesIn (integrate s) (now (out .entry)) (now (out .exit)) r) ⌝ }
+    requires { ⌜ Source (lent kinds insides numbers) i n w × Room (lent kinds insides numbers) (w + (sumEntries + sumEntries)) ⌝ }
+    ensures { λ r. ⌜ OfOne (entering kinds insides numbers) i (i + n) sumLevels (λ s. Gives entriesIn (integrate s) (now (out .entry)) (now (out .exit)) r) ⌝ }
 {
-    let mut wk = [0u8; SUM_ENTRIES];
-    let mut wi = [0u8; SUM_ENTRIES];
-    let mut wn = [0u64; SUM_ENTRIES];
-    let mut wr = [0u64; SUM_ENTRIES];
-    let mut wm = [0u64; SUM_ENTRIES];
-    let formed = integrals::expr_integral(
-        ak,
-        ai,
-        an,
-        ar,
-        am,
-        0,
-        n,
-        &mut wk,
-        &mut wi,
-        &mut wn,
-        &mut wr,
-        &mut wm,
-    );
-    match formed {
+    match book_calculus::integral::expr_integral(kinds, insides, numbers, i, n, w) {
         Formed::Refused(q) => Answer::Refused(q, 0),
-        Formed::Done(m) => put_out(&wk, &wi, &wn, &wr, &wm, m, out),
+        Formed::Done(m) => put_out(kinds, insides, numbers, w, m, out),
     }
 }
 
 // The sum as a list.
 pub fn write_sum(
-    ak: &[u8],
-    ai: &[u8],
-    an: &[u64],
-    ar: &[u64],
-    am: &[u64],
+    kinds: &[u8],
+    insides: &[u8],
+    numbers: &[[u64; 3]],
+    i: usize,
     n: usize,
     complex: bool,
     out: &mut [u8],
 ) -> Answer
-    requires { ⌜ (n ≤ sumEntries) × Held (lent ak ai an ar am) 0 (0 + n) sumLevels ⌝ }
-    ensures { λ r. ⌜ ((s : Sum) → Lies (lent (ak .entry) (ai .entry) (an .entry) (ar .entry) (am .entry)) 0 (0 + n) sumLevels s → Gives recordsIn (write complex s) (now (out .entry)) (now (out .exit)) r) ⌝ }
+    requires { ⌜ (n ≤ sumEntries) × Held (lent kinds insides numbers) i (i + n) sumLevels ⌝ }
+    ensures { λ r. ⌜ OfOne (entering kinds insides numbers) i (i + n) sumLevels (λ s. Gives recordsIn (write complex s) (now (out .entry)) (now (out .exit)) r) ⌝ }
 {
-    let wrote = writer::expr_to_node(ak, ai, an, ar, am, 0, n, complex, out);
+    let wrote = book_writing::expr_to_node(kinds, insides, numbers, i, n, complex, out);
     answer_of(wrote)
 }
 
 // Its derivative as a list.
 pub fn derive_and_write(
-    ak: &[u8],
-    ai: &[u8],
-    an: &[u64],
-    ar: &[u64],
-    am: &[u64],
+    kinds: &mut [u8],
+    insides: &mut [u8],
+    numbers: &mut [[u64; 3]],
+    i: usize,
     n: usize,
+    w: usize,
     complex: bool,
     out: &mut [u8],
 ) -> Answer
-    requires { ⌜ (n ≤ sumEntries) × Held (lent ak ai an ar am) 0 (0 + n) sumLevels ⌝ }
-    ensures { λ r. ⌜ ((s : Sum) → Lies (lent (ak .entry) (ai .entry) (an .entry) (ar .entry) (am .entry)) 0 (0 + n) sumLevels s → Gives recordsIn (deriveAndWrite complex s) (now (out .entry)) (now (out .exit)) r) ⌝ }
+    requires { ⌜ Source (lent kinds insides numbers) i n w × Room (lent kinds insides numbers) (w + (sumEntries + sumEntries)) ⌝ }
+    ensures { λ r. ⌜ OfOne (entering kinds insides numbers) i (i + n) sumLevels (λ s. Gives recordsIn (deriveAndWrite complex s) (now (out .entry)) (now (out .exit)) r) ⌝ }
 {
-    let mut wk = [0u8; SUM_ENTRIES];
-    let mut wi = [0u8; SUM_ENTRIES];
-    let mut wn = [0u64; SUM_ENTRIES];
-    let mut wr = [0u64; SUM_ENTRIES];
-    let mut wm = [0u64; SUM_ENTRIES];
-    let formed = derivatives::expr_deriv(
-        ak,
-        ai,
-        an,
-        ar,
-        am,
-        0,
-        n,
-        &mut wk,
-        &mut wi,
-        &mut wn,
-        &mut wr,
-        &mut wm,
-    );
-    match formed {
+    match book_calculus::derivative::expr_deriv(kinds, insides, numbers, i, n, w) {
         Formed::Refused(q) => Answer::Refused(q, 0),
-        Formed::Done(m) => write_sum(&wk, &wi, &wn, &wr, &wm, m, complex, out),
+        Formed::Done(m) => write_sum(kinds, insides, numbers, w, m, complex, out),
     }
 }
 
 // Its integral as a list.
 pub fn integrate_and_write(
-    ak: &[u8],
-    ai: &[u8],
-    an: &[u64],
-    ar: &[u64],
-    am: &[u64],
+    kinds: &mut [u8],
+    insides: &mut [u8],
+    numbers: &mut [[u64; 3]],
+    i: usize,
     n: usize,
+    w: usize,
     complex: bool,
     out: &mut [u8],
 ) -> Answer
-    requires { ⌜ (n ≤ sumEntries) × Held (lent ak ai an ar am) 0 (0 + n) sumLevels ⌝ }
-    ensures { λ r. ⌜ ((s : Sum) → Lies (lent (ak .entry) (ai .entry) (an .entry) (ar .entry) (am .entry)) 0 (0 + n) sumLevels s → Gives recordsIn (integrateAndWrite complex s) (now (out .entry)) (now (out .exit)) r) ⌝ }
+    requires { ⌜ Source (lent kinds insides numbers) i n w × Room (lent kinds insides numbers) (w + (sumEntries + sumEntries)) ⌝ }
+    ensures { λ r. ⌜ OfOne (entering kinds insides numbers) i (i + n) sumLevels (λ s. Gives recordsIn (integrateAndWrite complex s) (now (out .entry)) (now (out .exit)) r) ⌝ }
 {
-    let mut wk = [0u8; SUM_ENTRIES];
-    let mut wi = [0u8; SUM_ENTRIES];
-    let mut wn = [0u64; SUM_ENTRIES];
-    let mut wr = [0u64; SUM_ENTRIES];
-    let mut wm = [0u64; SUM_ENTRIES];
-    let formed = integrals::expr_integral(
-        ak,
-        ai,
-        an,
-        ar,
-        am,
-        0,
-        n,
-        &mut wk,
-        &mut wi,
-        &mut wn,
-        &mut wr,
-        &mut wm,
-    );
-    match formed {
+    match book_calculus::integral::expr_integral(kinds, insides, numbers, i, n, w) {
         Formed::Refused(q) => Answer::Refused(q, 0),
-        Formed::Done(m) => write_sum(&wk, &wi, &wn, &wr, &wm, m, complex, out),
+        Formed::Done(m) => write_sum(kinds, insides, numbers, w, m, complex, out),
     }
 }
 
 // The list that undoes it.
 pub fn invert(
-    ak: &[u8],
-    ai: &[u8],
-    an: &[u64],
-    ar: &[u64],
-    am: &[u64],
+    kinds: &[u8],
+    insides: &[u8],
+    numbers: &[[u64; 3]],
+    i: usize,
     n: usize,
     complex: bool,
     out: &mut [u8],
 ) -> Answer
-    requires { ⌜ (n ≤ sumEntries) × Held (lent ak ai an ar am) 0 (0 + n) sumLevels ⌝ }
-    ensures { λ r. ⌜ ((s : Sum) → Lies (lent (ak .entry) (ai .entry) (an .entry) (ar .entry) (am .entry)) 0 (0 + n) sumLevels s → Gives recordsIn (invert complex s) (now (out .entry)) (now (out .exit)) r) ⌝ }
+    requires { ⌜ (n ≤ sumEntries) × Held (lent kinds insides numbers) i (i + n) sumLevels ⌝ }
+    ensures { λ r. ⌜ OfOne (entering kinds insides numbers) i (i + n) sumLevels (λ s. Gives recordsIn (invert complex s) (now (out .entry)) (now (out .exit)) r) ⌝ }
 {
-    let wrote = inverse::algebraic_inverse(ak, ai, an, ar, am, 0, n, complex, out);
+    let wrote = book_inverse::algebraic_inverse(kinds, insides, numbers, i, n, complex, out);
     answer_of(wrote)
 }

@@ -1,4 +1,2 @@
--- What the proofs of several functions share.
+-- The root of arena's laws.
 pub mod Laws
-pub mod Moving
-pub mod Counting

@@ -1,3 +1,2 @@
 -- The root of arena's definitions.
 pub mod Stack
-pub mod Contract

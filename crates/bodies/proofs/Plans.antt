@@ -22,16 +22,10 @@ use Rattle.formats.proofs.record.Walk.{stretch-next, stretch-count, stretch-aft
 use Rattle.arena.specs.Stack.{total}
 use Rattle.steps.specs.State.{State, Walked, went, stopped, andThen, stop, lend, taking, takingIf}
 use Rattle.holds.specs.Holding.{deepest, backTo, holding, dropping, copying}
-use Rattle.holds.specs.Contract.Begins.{Begins}
-use Rattle.holds.specs.declared.Begun.{Begun}
-use Rattle.steps.specs.declared.AlgebraEnv.{AlgebraEnv}
-use Rattle.arena.specs.Contract.Arena.{Arena}
 use Rattle.bodies.specs.Modifiers.{Runner, oneBody, twoBodies, modifier}
 use Rattle.bodies.specs.Reading.{runners}
 use Rattle.bodies.specs.Contract.Walks.{walkOf}
-use Rattle.bodies.specs.Contract.Plans.{wayOf, mannerOf, heldBy, lentBy, begin, planBy, twice, planned, modified, Follows, UsedAs}
-use Rattle.bodies.specs.declared.Manner.{Manner}
-use Rattle.bodies.specs.declared.Manner.the-variants as manner
+use Rattle.bodies.specs.Contract.Plans.{wayOf, heldBy, lentBy, begin, planBy, twice, planned, modified, Follows, UsedAs}
 use Rattle.bodies.specs.declared.Plan.{Plan}
 use Rattle.bodies.specs.declared.Use.{Use}
 use Rattle.bodies.specs.declared.Use.the-variants.{Refused, Bodies}
@@ -355,53 +349,3 @@ bodies-some s at r (inr (w, c)) = some s (at + 1) (at + 1 + r .inside) (omega (a
 pub plan-made : (s : List ℕ) (at : ℕ) (r f : Record) (m : Modifier) (n left : ℕ) (p : Plan) → p ≡ planBy m n (at + 1) (at + 1 + 1 + f .inside) (at + 1 + r .inside)
     → m ≡ modifierOf (r .code) → n ≡ f .args → f ≡ recAt s (at + 1) → UsedAs Bodies s at r → Stretch s (at + 1) (at + 1 + r .inside) true left → Follows s at r left p
 plan-made s at r f m n left p e q k g u t = rw e (rw q (rw k (rw g (plan-follows s at r left t u .1))))
-
--- ---- how a modifier begins
-
-pub begins-held : {a b : Arena} {v k c : ℕ} {env : AlgebraEnv} {r : Begun} (at n : ℕ) (m : Modifier) → k ≡ heldBy m n → c ≡ lentBy m → Begins a b v env r (λ st f. holding at k c (1024 - v) st f) → Begins a b v env r (λ st f. holding at (heldBy m n) (lentBy m) (1024 - v) st f)
-begins-held at n m p q g = rw (← p) (rw (← q) g)
-
-module _ {a b : Arena} {v : ℕ} {env : AlgebraEnv} {r : Begun} (at n : ℕ) where
-  drops : (m : Modifier) → mannerOf m ≡ manner.Drops → Begins a b v env r (λ st f. dropping at st f) → Begins a b v env r (λ st f. begin m n at (1024 - v) st f)
-  unfolding begin
-  drops Dip e g = let z : _≡_ {A = ℕ} 0 1 = cc in absurd (omega arith)
-  drops Gap e g = g
-  drops On e g = let z : _≡_ {A = ℕ} 0 1 = cc in absurd (omega arith)
-  drops By e g = let z : _≡_ {A = ℕ} 0 1 = cc in absurd (omega arith)
-  drops Both e g = let z : _≡_ {A = ℕ} 0 1 = cc in absurd (omega arith)
-  drops Bracket e g = let z : _≡_ {A = ℕ} 0 1 = cc in absurd (omega arith)
-  drops Fork e g = let z : _≡_ {A = ℕ} 0 1 = cc in absurd (omega arith)
-  drops Unlisted e g = let z : _≡_ {A = ℕ} 0 1 = cc in absurd (omega arith)
-
-  copies : (m : Modifier) → mannerOf m ≡ manner.Copies → Begins a b v env r (λ st f. copying at n (1024 - v) st f) → Begins a b v env r (λ st f. begin m n at (1024 - v) st f)
-  unfolding begin
-  copies Dip e g = let z : _≡_ {A = ℕ} 0 1 = cc in absurd (omega arith)
-  copies Gap e g = let z : _≡_ {A = ℕ} 0 1 = cc in absurd (omega arith)
-  copies On e g = let z : _≡_ {A = ℕ} 0 1 = cc in absurd (omega arith)
-  copies By e g = g
-  copies Both e g = let z : _≡_ {A = ℕ} 0 1 = cc in absurd (omega arith)
-  copies Bracket e g = let z : _≡_ {A = ℕ} 0 1 = cc in absurd (omega arith)
-  copies Fork e g = let z : _≡_ {A = ℕ} 0 1 = cc in absurd (omega arith)
-  copies Unlisted e g = let z : _≡_ {A = ℕ} 0 1 = cc in absurd (omega arith)
-
-  holds : (m : Modifier) → mannerOf m ≡ manner.Holds → Begins a b v env r (λ st f. holding at (heldBy m n) (lentBy m) (1024 - v) st f) → Begins a b v env r (λ st f. begin m n at (1024 - v) st f)
-  unfolding begin
-  holds Dip e g = g
-  holds Gap e g = let z : _≡_ {A = ℕ} 0 1 = cc in absurd (omega arith)
-  holds On e g = g
-  holds By e g = let z : _≡_ {A = ℕ} 0 1 = cc in absurd (omega arith)
-  holds Both e g = g
-  holds Bracket e g = g
-  holds Fork e g = g
-  holds Unlisted e g = g
-
-  -- the same, where the manner is what a call answered and a match told
-  module _ {m d : Modifier} {w : Manner} (p : w ≡ mannerOf m) (q : m ≡ d) where
-    pub begin-drops : w ≡ manner.Drops → Begins a b v env r (λ st f. dropping at st f) → Begins a b v env r (λ st f. begin d n at (1024 - v) st f)
-    begin-drops e g = rw (← q) (drops m (sym p ∙ e) g)
-
-    pub begin-copies : w ≡ manner.Copies → Begins a b v env r (λ st f. copying at n (1024 - v) st f) → Begins a b v env r (λ st f. begin d n at (1024 - v) st f)
-    begin-copies e g = rw (← q) (copies m (sym p ∙ e) g)
-
-    pub begin-holds : w ≡ manner.Holds → Begins a b v env r (λ st f. holding at (heldBy m n) (lentBy m) (1024 - v) st f) → Begins a b v env r (λ st f. begin d n at (1024 - v) st f)
-    begin-holds e g = rw (← q) (holds m (sym p ∙ e) g)

@@ -3,13 +3,10 @@ use formats::record::Kind;
 use formats::record::KindFound;
 use formats::record::Modifier;
 use formats::record::Record;
-use holds::Begun;
 use limits::Refusal;
-use steps::AlgebraEnv;
 ghost use mathlib.Core.Path.{_≡_};
 ghost use mathlib.Core.Bool.{true, cond};
-ghost use Prim.Native.Nat.{ℕ, _+_, _-_, _≤_, _<_, max};
-ghost use Rattle.limits.specs.Limits.{stackEntries};
+ghost use Prim.Native.Nat.{ℕ, _+_, _≤_, max};
 ghost use Rattle.formats.specs.Names.{kindOf};
 ghost use Rattle.formats.specs.declared.record.KindFound.the-variants.{Known};
 ghost use Rattle.formats.specs.Tree.{forest, count};
@@ -17,15 +14,10 @@ ghost use Rattle.formats.specs.Contract.Walk.{Stretch, Walkable};
 ghost use Rattle.bodies.specs.Modifiers.{most};
 ghost use Rattle.bodies.specs.Reading.{runners, insideOf};
 ghost use Rattle.bodies.specs.Contract.Walks.{placeOf};
-ghost use Rattle.bodies.specs.Contract.Plans.{wayOf, mannerOf, heldBy, lentBy, begin, once, planBy, Follows, UsedAs};
+ghost use Rattle.bodies.specs.Contract.Plans.{wayOf, once, planBy, Follows, UsedAs};
 ghost use Rattle.bodies.specs.declared.Use.the-variants.{Refused, Bodies};
 ghost use Rattle.limits.specs.declared.Refusal.the-variants.{InterpreterBug};
 ghost use lib.Dec.{eqb};
-ghost use Rattle.formats.specs.Names.{modifierOf};
-ghost use Rattle.arena.specs.Contract.Arena.{arena};
-ghost use Rattle.steps.specs.Contract.Agree.{Ready};
-ghost use Rattle.holds.specs.Holding.{holding};
-ghost use Rattle.holds.specs.Contract.Begins.{Begins};
 
 // What a record has inside that is run: nothing, nodes that are run in turn, or a modifier's bodies.
 pub enum Inside {
@@ -227,105 +219,4 @@ pub fn plan_of(list: &[u8], at: usize, r: Record) -> Plan
         mid,
         to,
     )
-}
-
-// What a modifier does with what it takes off the stack.
-enum Manner {
-    Drops,
-    Copies,
-    Holds,
-}
-
-fn begins_by(m: Modifier) -> Manner
-    ensures { λ r. ⌜ r ≡ mannerOf m ⌝ }
-{
-    match m {
-        Modifier::Gap => Manner::Drops,
-        Modifier::By => Manner::Copies,
-        Modifier::Dip => Manner::Holds,
-        Modifier::On => Manner::Holds,
-        Modifier::Both => Manner::Holds,
-        Modifier::Bracket => Manner::Holds,
-        Modifier::Fork => Manner::Holds,
-        Modifier::Unlisted => Manner::Holds,
-    }
-}
-
-// How many sums a modifier takes off the stack and holds, where its first body takes n arguments.
-fn held_by(m: Modifier, n: usize) -> usize
-    ensures { λ r. ⌜ r ≡ heldBy m n ⌝ }
-{
-    match m {
-        Modifier::Dip => 1,
-        Modifier::On => 1,
-        Modifier::Gap => n,
-        Modifier::By => n,
-        Modifier::Both => n,
-        Modifier::Bracket => n,
-        Modifier::Fork => n,
-        Modifier::Unlisted => n,
-    }
-}
-
-// How many copies of these it puts on the stack.
-fn lent_by(m: Modifier) -> usize
-    ensures { λ r. ⌜ r ≡ lentBy m ⌝ }
-{
-    match m {
-        Modifier::On => 1,
-        Modifier::Dip => 0,
-        Modifier::Gap => 0,
-        Modifier::By => 0,
-        Modifier::Both => 0,
-        Modifier::Bracket => 0,
-        Modifier::Fork => 0,
-        Modifier::Unlisted => 0,
-    }
-}
-
-// Holds what a modifier other than Gap and By holds.
-fn hold_for(
-    m: Modifier,
-    n: usize,
-    at: usize,
-    ak: &mut [u8],
-    ai: &mut [u8],
-    an: &mut [u64],
-    ar: &mut [u64],
-    am: &mut [u64],
-    az: &mut [u8],
-    v: usize,
-    env: AlgebraEnv,
-) -> Begun
-    requires { ⌜ Ready (arena ak ai an ar am az) v env ⌝ }
-    ensures { λ r. ⌜ Begins (arena (ak .entry) (ai .entry) (an .entry) (ar .entry) (am .entry) (az .entry)) (arena (ak .exit) (ai .exit) (an .exit) (ar .exit) (am .exit) (az .exit)) v env r (λ st f. holding at (heldBy m n) (lentBy m) (stackEntries - v) st f) ⌝ }
-{
-    let k = held_by(m, n);
-    let c = lent_by(m);
-    lends::hold_and_lend(k, c, at, ak, ai, an, ar, am, az, v, env)
-}
-
-// What a modifier does before its first body runs, where the first in the list takes n arguments.
-pub fn begin(
-    code: u8,
-    n: usize,
-    at: usize,
-    ak: &mut [u8],
-    ai: &mut [u8],
-    an: &mut [u64],
-    ar: &mut [u64],
-    am: &mut [u64],
-    az: &mut [u8],
-    v: usize,
-    env: AlgebraEnv,
-) -> Begun
-    requires { ⌜ Ready (arena ak ai an ar am az) v env ⌝ }
-    ensures { λ r. ⌜ Begins (arena (ak .entry) (ai .entry) (an .entry) (ar .entry) (am .entry) (az .entry)) (arena (ak .exit) (ai .exit) (an .exit) (ar .exit) (am .exit) (az .exit)) v env r (λ st f. begin (modifierOf code) n at (stackEntries - v) st f) ⌝ }
-{
-    let m = formats::record::modifier_of(code);
-    match begins_by(m) {
-        Manner::Drops => holds::drop_top(at, ak, ai, an, ar, am, az, v, env),
-        Manner::Copies => holds::copy_under(n, at, ak, ai, an, ar, am, az, v, env),
-        Manner::Holds => hold_for(m, n, at, ak, ai, an, ar, am, az, v, env),
-    }
 }

@@ -22,6 +22,7 @@ use Rattle.book_sums.specs.Contract.Lies.{Lies, Held}
 use Rattle.book_sums.proofs.order.Walk.{Next, next, lies-none}
 use Rattle.drafts.specs.Writing.{refused}
 use Rattle.inverse.specs.Inverse.{orZero, coefOf, low, others, ofPower, ofOthers, inverse}
+use Rattle.inverse.proofs.Searching.{coef-first}
 use Rattle.inverse.specs.Contract.Steps.{oneMore, nextOther, othersOf, byOthers}
 use Rattle.inverse.specs.declared.Others.{Others}
 use Rattle.inverse.specs.declared.Others.the-variants.{Nothing, Power, TooMuch}
@@ -40,14 +41,6 @@ module _ (b : Book) (j m i : ℕ) (h : i < j + m) {x : Entry} (r : x ≡ book.at
     turn-rest = subst (λ (k : ℕ). Lies b (i + 1 + k) (j + m) 4 (opened .rest)) (sym z) (opened .lies-rest)
 
 -- ---- the coefficient of x to the q
-
-pub coef-first : (q : Float) (k : ℕ) (p : Float) (i : Sum) (c : Complex) (r : Sum) → coefOf q (and k p i c r) ≡ cond (eqb k kinds.X && eq p q) c (coefOf q r)
-unfolding coefOf coefAt
-coef-first q k p i c r = by (eqb k kinds.X && eq p q)
-  where
-    by : (b : Bool) → orZero (cond b (at c) (coefAt q r)) ≡ cond b c (orZero (coefAt q r))
-    by true = refl
-    by false = refl
 
 abbrev pub Seeking : Book → ℕ → ℕ → Float → ℕ → Type 0
 Seeking b j m q i = (s : Sum) → Lies b j (j + m) 4 s → (s′ : Sum) × Lies b i (j + m) 4 s′ × (coefOf q s ≡ coefOf q s′)

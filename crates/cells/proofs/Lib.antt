@@ -1,3 +1,2 @@
--- What the proofs of several functions share.
+-- The root of cells' laws.
 pub mod Laws
-pub mod Lists

@@ -1,6 +1,2 @@
--- The laws of entries.
+-- The root of entries' laws.
 pub mod Codes
-pub mod Laws
-pub mod Theorem
-pub mod Reading
-pub mod Examples

@@ -1,3 +1,2 @@
 -- What contracts between own functions, or laws, cite, and no promise to a user.
-pub mod Laid
 pub mod Steps

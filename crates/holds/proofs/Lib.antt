@@ -1,3 +1,2 @@
 -- The root of holds' laws.
 pub mod Laws
-pub mod Moves

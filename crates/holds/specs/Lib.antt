@@ -1,3 +1,2 @@
 -- The root of holds' definitions.
 pub mod Holding
-pub mod Contract

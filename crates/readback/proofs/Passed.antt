@@ -13,7 +13,7 @@ use Rattle.formats.specs.Tree as tree
 use Rattle.formats.specs.Tree.{Nodes, encode, recordsIn}
 use Rattle.formats.proofs.record.Codes.{length-encode}
 use Rattle.entries.specs.Encoding.{entriesIn, encodeSum}
-use Rattle.entries.proofs.Laws.{length-sum}
+use Rattle.book_entries.proofs.bytes.Laws.{length-sum}
 use Rattle.drafts.specs.Writing.{Written, wrote}
 use Rattle.writer.specs.ToNodes.{toNodes}
 use Rattle.bodies.specs.Reading.{Read, done}

@@ -1,16 +1,18 @@
-// One primitive on sums that are laid out: n cells from 0 on, and m cells from SUM_ENTRIES on where it takes two. The result is formed from 0 on
-// in another book.
+// One primitive on sums that are laid out: n cells from FIRST on, and m cells from SECOND on where it takes two. The result is formed from 0 on
+// in the same book.
 use crate::cases;
+use crate::cases::Case;
+use crate::cases::FIRST;
+use crate::cases::SECOND;
 use limits::SUM_ENTRIES;
 use limits::SUM_LEVELS;
 ghost use mathlib.Core.Path.{_≡_};
 ghost use mathlib.Core.Bool.{true};
 ghost use Prim.Native.Nat.{_+_, _*_, _≤_};
 ghost use lib.ListN.{length};
-ghost use Rattle.cells.specs.Book.{lent, Room};
-ghost use Rattle.sums.specs.Contract.Lies.{Held};
+ghost use Rattle.book_cells.specs.Book.{lent, entering, Room};
 ghost use Rattle.replay_arithmetic.specs.Contract.Ready.{Ready};
-ghost use Rattle.limits.specs.Limits.{entryBytes, sumEntries, sumLevels};
+ghost use Rattle.limits.specs.Limits.{entryBytes, sumEntries};
 
 // Whether the primitive takes one sum, or two where the second has entries, and leaves one.
 fn takes(code: u8, m: usize) -> bool {
@@ -20,9 +22,9 @@ fn takes(code: u8, m: usize) -> bool {
 }
 
 // Whether two good sums lie there, the first with an entry or more.
-fn ready(ak: &[u8], ai: &[u8], an: &[u64], ar: &[u64], am: &[u64], n: usize, m: usize) -> bool
-    requires { ⌜ Room (lent ak ai an ar am) (2 * sumEntries) ⌝ }
-    ensures { λ r. ⌜ (r ≡ true → Ready (lent (ak .entry) (ai .entry) (an .entry) (ar .entry) (am .entry)) n m) ⌝ }
+fn ready(kinds: &[u8], insides: &[u8], numbers: &[[u64; 3]], n: usize, m: usize) -> bool
+    requires { ⌜ Room (lent kinds insides numbers) (4 * sumEntries) ⌝ }
+    ensures { λ r. ⌜ (r ≡ true → Ready (entering kinds insides numbers) n m) ⌝ }
 {
     if n == 0 {
         return false;
@@ -33,118 +35,65 @@ fn ready(ak: &[u8], ai: &[u8], an: &[u64], ar: &[u64], am: &[u64], n: usize, m: 
     if SUM_ENTRIES < m {
         return false;
     }
-    if !checks::good_sum(ak, ai, an, ar, am, 0, n, SUM_LEVELS) {
+    if !book_entries::good::good_sum(kinds, insides, numbers, FIRST, n, SUM_LEVELS) {
         return false;
     }
-    checks::good_sum(ak, ai, an, ar, am, SUM_ENTRIES, m, SUM_LEVELS)
+    book_entries::good::good_sum(kinds, insides, numbers, SECOND, m, SUM_LEVELS)
 }
 
-// Whether what the primitive forms of the first sum, in arrays of this call's own, is what is stored.
+// Whether what the primitive forms of the first sum is what is stored from q on.
 fn one_stored(
-    code: u8,
-    number: u8,
+    kinds: &mut [u8],
+    insides: &mut [u8],
+    numbers: &mut [[u64; 3]],
     b: &[u8],
     q: usize,
-    r: usize,
-    ak: &[u8],
-    ai: &[u8],
-    an: &[u64],
-    ar: &[u64],
-    am: &[u64],
-    n: usize,
+    c: Case,
 ) -> bool
-    requires { ⌜ (1 ≤ n) × (n ≤ sumEntries) × Held (lent ak ai an ar am) 0 (0 + n) sumLevels × (r ≤ sumEntries) × (q + entryBytes * r ≤ length (now b)) ⌝ }
+    requires { ⌜ Ready (lent kinds insides numbers) (c .n) (c .m) × Room (lent kinds insides numbers) (4 * sumEntries) ⌝ }
+    requires { ⌜ (c .r ≤ sumEntries) × (q + entryBytes * c .r ≤ length (now b)) ⌝ }
 {
-    let mut wk = [0u8; SUM_ENTRIES];
-    let mut wi = [0u8; SUM_ENTRIES];
-    let mut wn = [0u64; SUM_ENTRIES];
-    let mut wr = [0u64; SUM_ENTRIES];
-    let mut wm = [0u64; SUM_ENTRIES];
-    let f = singles::form_one(
-        formats::record::primitive_of(code),
-        ak,
-        ai,
-        an,
-        ar,
-        am,
-        0,
-        n,
-        &mut wk,
-        &mut wi,
-        &mut wn,
-        &mut wr,
-        &mut wm,
-    );
-    cases::is_stored(f, number, b, q, r, &wk, &wi, &wn, &wr, &wm)
+    let p = formats::record::primitive_of(c.code);
+    let f = book_primitives::form_one(kinds, insides, numbers, p, FIRST, c.n, 0);
+    cases::is_stored(kinds, insides, numbers, f, c.number, b, q, c.r)
 }
 
 // Whether what it forms of both is.
 fn two_stored(
-    code: u8,
-    number: u8,
+    kinds: &mut [u8],
+    insides: &mut [u8],
+    numbers: &mut [[u64; 3]],
     b: &[u8],
     q: usize,
-    r: usize,
-    ak: &[u8],
-    ai: &[u8],
-    an: &[u64],
-    ar: &[u64],
-    am: &[u64],
-    n: usize,
-    m: usize,
+    c: Case,
 ) -> bool
-    requires { ⌜ (1 ≤ m) × Ready (lent ak ai an ar am) n m × (r ≤ sumEntries) × (q + entryBytes * r ≤ length (now b)) ⌝ }
+    requires { ⌜ (1 ≤ c .m) × Ready (lent kinds insides numbers) (c .n) (c .m) × Room (lent kinds insides numbers) (4 * sumEntries) ⌝ }
+    requires { ⌜ (c .r ≤ sumEntries) × (q + entryBytes * c .r ≤ length (now b)) ⌝ }
 {
-    let mut wk = [0u8; SUM_ENTRIES];
-    let mut wi = [0u8; SUM_ENTRIES];
-    let mut wn = [0u64; SUM_ENTRIES];
-    let mut wr = [0u64; SUM_ENTRIES];
-    let mut wm = [0u64; SUM_ENTRIES];
-    let f = pairs::form_two(
-        formats::record::primitive_of(code),
-        ak,
-        ai,
-        an,
-        ar,
-        am,
-        0,
-        n,
-        SUM_ENTRIES,
-        m,
-        &mut wk,
-        &mut wi,
-        &mut wn,
-        &mut wr,
-        &mut wm,
-    );
-    cases::is_stored(f, number, b, q, r, &wk, &wi, &wn, &wr, &wm)
+    let p = formats::record::primitive_of(c.code);
+    let f = book_primitives::form_two(kinds, insides, numbers, p, FIRST, c.n, SECOND, c.m, 0);
+    cases::is_stored(kinds, insides, numbers, f, c.number, b, q, c.r)
 }
 
-// Whether the operands are good, and the primitive gives of them what is stored.
+// Whether the operands are good, and the primitive gives of them what is stored from q on.
 pub fn gives_stored(
-    code: u8,
-    number: u8,
+    kinds: &mut [u8],
+    insides: &mut [u8],
+    numbers: &mut [[u64; 3]],
     b: &[u8],
     q: usize,
-    r: usize,
-    ak: &[u8],
-    ai: &[u8],
-    an: &[u64],
-    ar: &[u64],
-    am: &[u64],
-    n: usize,
-    m: usize,
+    c: Case,
 ) -> bool
-    requires { ⌜ Room (lent ak ai an ar am) (2 * sumEntries) × (r ≤ sumEntries) × (q + entryBytes * r ≤ length (now b)) ⌝ }
+    requires { ⌜ Room (lent kinds insides numbers) (4 * sumEntries) × (c .r ≤ sumEntries) × (q + entryBytes * c .r ≤ length (now b)) ⌝ }
 {
-    if !takes(code, m) {
+    if !takes(c.code, c.m) {
         return false;
     }
-    if !ready(ak, ai, an, ar, am, n, m) {
+    if !ready(kinds, insides, numbers, c.n, c.m) {
         return false;
     }
-    if m == 0 {
-        return one_stored(code, number, b, q, r, ak, ai, an, ar, am, n);
+    if c.m == 0 {
+        return one_stored(kinds, insides, numbers, b, q, c);
     }
-    two_stored(code, number, b, q, r, ak, ai, an, ar, am, n, m)
+    two_stored(kinds, insides, numbers, b, q, c)
 }

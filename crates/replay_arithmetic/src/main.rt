@@ -6,64 +6,24 @@ mod arith;
 mod cases;
 mod text;
 
+use cases::Case;
+use cases::FOUR_SUMS;
 use libc::STDIN_FILENO;
 use libc::STDOUT_FILENO;
 ghost use Prim.Native.Nat.{_+_, _*_, _≤_};
 ghost use lib.ListN.{length};
 ghost use Rattle.limits.specs.Limits.{entryBytes, sumEntries};
 
-// The head of a case.
-struct Case {
-    code: u8,
-    n: usize,
-    m: usize,
-    number: u8,
-    r: usize,
-}
-
-fn count(b: u8) -> usize
-    ensures { λ r. ⌜ r ≤ 255 ⌝ }
-{
-    b as usize
-}
-
-fn head(b: &[u8], p: usize) -> Case
-    requires { ⌜ p + 5 ≤ length (now b) ⌝ }
-    ensures { λ c. ⌜ (c .n ≤ 255) × (c .m ≤ 255) × (c .r ≤ 255) ⌝ }
-{
-    Case {
-        code: b[p],
-        n: count(b[p + 1]),
-        m: count(b[p + 2]),
-        number: b[p + 3],
-        r: count(b[p + 4]),
-    }
-}
-
 // Whether the case whose entries are stored from p on gives what is stored.
 fn laid_agrees(b: &[u8], p: usize, c: Case) -> bool
     requires { ⌜ (p + entryBytes * (c .n + c .m + c .r) ≤ length (now b)) × (c .n ≤ sumEntries) × (c .m ≤ sumEntries) × (c .r ≤ sumEntries) ⌝ }
 {
-    let mut ak = [0u8; 2 * SUM_ENTRIES];
-    let mut ai = [0u8; 2 * SUM_ENTRIES];
-    let mut an = [0u64; 2 * SUM_ENTRIES];
-    let mut ar = [0u64; 2 * SUM_ENTRIES];
-    let mut am = [0u64; 2 * SUM_ENTRIES];
-    cases::lay(b, p, c.n, c.m, &mut ak, &mut ai, &mut an, &mut ar, &mut am);
-    arith::gives_stored(
-        c.code,
-        c.number,
-        b,
-        p + ENTRY_BYTES * (c.n + c.m),
-        c.r,
-        &ak,
-        &ai,
-        &an,
-        &ar,
-        &am,
-        c.n,
-        c.m,
-    )
+    let mut kinds = [0u8; FOUR_SUMS];
+    let mut insides = [0u8; FOUR_SUMS];
+    let mut numbers = [[0u64; 3]; FOUR_SUMS];
+    cases::lay(&mut kinds, &mut insides, &mut numbers, b, p, c.n, c.m);
+    let q = p + ENTRY_BYTES * (c.n + c.m);
+    arith::gives_stored(&mut kinds, &mut insides, &mut numbers, b, q, c)
 }
 
 fn agrees(b: &[u8], p: usize, c: Case) -> bool
@@ -122,7 +82,7 @@ fn replay(b: &[u8], n: usize)
     let mut cases = 0u64;
     let mut agree = 0u64;
     while p + 5 <= n {
-        let c = head(b, p);
+        let c = cases::head(b, p);
         let q = p + 5 + ENTRY_BYTES * (c.n + c.m + c.r);
         if n < q {
             cut_short();

@@ -1,3 +1,3 @@
--- What the proofs of several functions share.
+-- What the proofs of several crates share.
 pub mod Laws
 pub mod Forming

@@ -1,4 +1,3 @@
 -- The root of steps' definitions.
 pub mod State
 pub mod Steps
-pub mod Contract

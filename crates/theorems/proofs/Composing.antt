@@ -14,7 +14,7 @@ use Rattle.terms.specs.Singles.{GoodSum}
 use Rattle.arena.proofs.Laws.{good-some}
 use Rattle.formats.specs.Tree.{recordsIn}
 use Rattle.entries.specs.Encoding.{entriesIn, encodeSum}
-use Rattle.entries.proofs.Laws.{length-sum}
+use Rattle.book_entries.proofs.bytes.Laws.{length-sum}
 use Rattle.bodies.specs.Reading.{Read, done, refusedAt}
 use Rattle.calculus.specs.Derivative as derivatives
 use Rattle.calculus.specs.Integral as integrals

@@ -22,8 +22,8 @@ use Rattle.entries.specs.declared.Taken.{Taken}
 use Rattle.entries.specs.declared.Taken.the-variants as taken
 use Rattle.entries.specs.Encoding.{entriesIn, encodeSum}
 use Rattle.entries.specs.Taking.{Weighed}
-use Rattle.entries.proofs.Laws.{encode-unique}
-use Rattle.entries.proofs.Theorem.{weighed-good, only}
+use Rattle.book_entries.proofs.bytes.Laws.{encode-unique}
+use Rattle.book_entries.proofs.bytes.Theorem.{weighed-good, only}
 use Rattle.formats.specs.Tree.{recordsIn}
 use Rattle.formats.specs.declared.record.Primitive.the-variants.{Dup, Mul, Pow}
 use Rattle.drafts.specs.Writing as writing

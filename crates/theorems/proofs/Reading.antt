@@ -15,7 +15,7 @@ use Rattle.entries.specs.declared.Taken.{Taken}
 use Rattle.entries.specs.declared.Taken.the-variants as taken
 use Rattle.entries.specs.Encoding.{entriesIn, encodeSum}
 use Rattle.entries.specs.Taking.{Weighed}
-use Rattle.entries.proofs.Theorem.{good-taken}
+use Rattle.book_entries.proofs.bytes.Theorem.{good-taken}
 use Rattle.arena.proofs.Laws.{good-some}
 use Rattle.bodies.specs.Reading.{Read, done, readNodes}
 use Rattle.bodies.proofs.Good.{read-good}

@@ -22,13 +22,13 @@ use Rattle.entries.specs.declared.Taken.{Taken}
 use Rattle.entries.specs.declared.Taken.the-variants as taken
 use Rattle.entries.specs.Encoding.{entriesIn, encodeSum}
 use Rattle.entries.specs.Taking.{Weighed}
-use Rattle.entries.proofs.Laws.{length-sum}
-use Rattle.entries.proofs.Theorem.{good-taken}
+use Rattle.book_entries.proofs.bytes.Laws.{length-sum}
+use Rattle.book_entries.proofs.bytes.Theorem.{good-taken}
 use Rattle.bodies.specs.Reading.{Read, done}
 use Rattle.bodies.specs.Reading as reading
 use Rattle.calculus.specs.Derivative as derivatives
 use Rattle.calculus.specs.Integral as integrals
-use Rattle.calculus.proofs.Into.{not-empty}
+use Rattle.arena.proofs.Laws.{not-empty}
 use Rattle.calculus.proofs.Good.{derive-good, integrate-good}
 use Rattle.drafts.specs.Writing.{Written, wrote}
 use Rattle.writer.specs.ToNodes.{toNodes}

@@ -3,6 +3,5 @@ pub mod Count
 pub mod Good
 pub mod Refusals
 pub mod Parts
-pub mod Turning
 pub mod Whole
 pub mod Examples

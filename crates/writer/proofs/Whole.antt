@@ -3,7 +3,7 @@ use Prim.Native.Nat.{ℕ, _+_, _*_, _≤_}
 use native.Mathlib.Omega.{arith}
 use mathlib.Core.Bool.{Bool, false}
 use mathlib.Core.List.{List}
-use Rattle.cells.proofs.Laws.{zeros, length-zeros}
+use lib.ListN.{replicate, length-replicate}
 use Rattle.trees.specs.Sums.{Sum}
 use Rattle.formats.specs.Tree.{end}
 use Rattle.drafts.specs.declared.Said.{Said}
@@ -14,10 +14,10 @@ use Rattle.drafts.proofs.Growing.{ready-fresh}
 use Rattle.writer.specs.ToNodes.{write, toNodes}
 
 -- the buffer has room for 64 entries: two places in front for each, and nine behind
-pub ready-start : (m : ℕ) → m ≤ 64 → Ready (zeros 16944) record { from = 128; end = 128 } (2 * m) (9 * m + 2)
-ready-start m h = ready-fresh 128 (omega arith) (omega (arith, length-zeros 16944)) (omega arith)
+pub ready-start : (m : ℕ) → m ≤ 64 → Ready (replicate 16944 0) record { from = 128; end = 128 } (2 * m) (9 * m + 2)
+ready-start m h = ready-fresh 128 (omega arith) (omega (arith, length-replicate {A = ℕ} 16944 0)) (omega arith)
 
 -- what was said is the list of the whole sum, or its refusal
 pub said-whole : (n : ℕ) (flag : Bool) (t : Sum) {b : List ℕ} {s : Said} {front back : ℕ} → 24 * 128 ≤ n
-    → Spoken (zeros n) b record { from = 128; end = 128 } s front back (λ ns. write flag t false ns) → SaidAs s b (toNodes flag t)
-said-whole n flag t room k = k .lies end (fresh (zeros n) 128 (omega (arith, length-zeros n)))
+    → Spoken (replicate n 0) b record { from = 128; end = 128 } s front back (λ ns. write flag t false ns) → SaidAs s b (toNodes flag t)
+said-whole n flag t room k = k .lies end (fresh (replicate n 0) 128 (omega (arith, length-replicate {A = ℕ} n 0)))

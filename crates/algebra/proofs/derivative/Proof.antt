@@ -1,33 +1,33 @@
 -- A refusal of reading is handed on; the derivative of what was read is written. Assumes nothing.
 use mathlib.Core.Path.{refl}
-use borrow.Author.Needs.{needs}
 use Rattle.formats.specs.Tree.{recordsIn}
 use Rattle.answers.specs.Making.{deriveAndWrite}
 use Rattle.algebra.specs.Reading.{readList}
 use Rattle.algebra.specs.Entries.{derivative}
-use Rattle.algebra.proofs.Reading.{gave-held}
+use Rattle.algebra.proofs.Reading.{gave-source}
 use Rattle.algebra.proofs.Lists.{after-refused, after-made}
+use borrow.Author.Needs.{needs}
 use Rattle.algebra.proofs.derivative.Statement.{statement}
 use Rattle.algebra.proofs.derivative.Tie as tie
 
-then-requires : tie.Need-derive-and-write-requires
-then-requires c κs = gave-held (readList (c .before .before .before .before .before .before .before .before .before .before .before .before .before .before .before .before .before .before .before .before .before .before .args .list .now)) _ _ (c .before .before .before .before .before .before .before .data2 .given .1) (c .before .before .before .before .before .before .before .before .before .before .before .before .before .before .read-sum .ensures)
+derive-and-write-requires : tie.Need-derive-and-write-requires
+derive-and-write-requires c κs = gave-source (readList (c .before .before .before .before .before .before .before .before .before .before .before .before .before .before .before .before .before .before .args .list .now)) _ _ (c .before .before .before .before .before .data2 .given .1) (c .before .before .before .before .before .before .before .before .before .before .before .read-sum .ensures)
 
 returns : tie.Need-returns
 unfolding derivative
 returns c =
-    let start = c .before .before .before .before .before .before .before .before .before .before .before .before .before .before .before .before in
-    (_, refl, after-refused recordsIn (readList (start .args .list .now)) deriveAndWrite _ _ (start .args .out .now) (c .before .«data» .given .1) (c .before .before .before .before .before .before .before .before .read-sum .ensures))
+    let start = c .before .before .before .before .before .before .before .before .before .before .before .before .before .before in
+    (_, refl, after-refused recordsIn (readList (start .args .list .now)) deriveAndWrite _ _ (start .args .out .now) (c .before .«data» .given .1) (c .before .before .before .before .before .before .before .read-sum .ensures))
 
 returns-2 : tie.Need-returns-2
 unfolding derivative
-returns-2 c = (_, refl, after-made recordsIn (readList (c .before .before .before .before .before .before .before .before .before .before .before .before .before .before .before .before .before .before .before .before .before .before .before .before .before .args .list .now)) deriveAndWrite _ _ (c .before .before .before .before .before .before .before .before .before .before .data2 .given .1) (c .before .before .before .before .before .before .before .before .before .before .before .before .before .before .before .before .before .read-sum .ensures) (c .before .before .derive-and-write .ensures))
+returns-2 c =
+    (_, refl, after-made recordsIn (readList (c .before .before .before .before .before .before .before .before .before .before .before .before .before .before .before .before .before .before .before .before .before .before .before .before .args .list .now)) deriveAndWrite _ _ (c .before .before .before .before .before .before .before .before .before .before .before .data2 .given .1) (c .before .before .before .before .before .before .before .before .before .before .before .before .before .before .before .before .before .read-sum .ensures) (c .before .before .before .before .before .derive-and-write .ensures))
 
 pub derivative-spec : {M : Type 1} → statement M
 derivative-spec =
     tie.close
     (tie.spec
-    (λ c. search needs)
     (λ c. search needs)
     (λ c. search needs)
     (λ c. search needs)
@@ -38,9 +38,7 @@ derivative-spec =
     (λ c. search needs)
     (λ c. search needs)
     (λ c. search needs)
-    (λ c. search needs)
-    (λ c. search needs)
-    then-requires
+    derive-and-write-requires
     returns
     (λ c. search needs)
     returns-2)

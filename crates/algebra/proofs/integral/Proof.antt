@@ -1,33 +1,33 @@
 -- A refusal of reading is handed on; the integral of what was read is written. Assumes nothing.
 use mathlib.Core.Path.{refl}
-use borrow.Author.Needs.{needs}
 use Rattle.formats.specs.Tree.{recordsIn}
 use Rattle.answers.specs.Making.{integrateAndWrite}
 use Rattle.algebra.specs.Reading.{readList}
 use Rattle.algebra.specs.Entries.{integral}
-use Rattle.algebra.proofs.Reading.{gave-held}
+use Rattle.algebra.proofs.Reading.{gave-source}
 use Rattle.algebra.proofs.Lists.{after-refused, after-made}
+use borrow.Author.Needs.{needs}
 use Rattle.algebra.proofs.integral.Statement.{statement}
 use Rattle.algebra.proofs.integral.Tie as tie
 
-then-requires : tie.Need-integrate-and-write-requires
-then-requires c κs = gave-held (readList (c .before .before .before .before .before .before .before .before .before .before .before .before .before .before .before .before .before .before .before .before .before .before .args .list .now)) _ _ (c .before .before .before .before .before .before .before .data2 .given .1) (c .before .before .before .before .before .before .before .before .before .before .before .before .before .before .read-sum .ensures)
+integrate-and-write-requires : tie.Need-integrate-and-write-requires
+integrate-and-write-requires c κs = gave-source (readList (c .before .before .before .before .before .before .before .before .before .before .before .before .before .before .before .before .before .before .args .list .now)) _ _ (c .before .before .before .before .before .data2 .given .1) (c .before .before .before .before .before .before .before .before .before .before .before .read-sum .ensures)
 
 returns : tie.Need-returns
 unfolding integral
 returns c =
-    let start = c .before .before .before .before .before .before .before .before .before .before .before .before .before .before .before .before in
-    (_, refl, after-refused recordsIn (readList (start .args .list .now)) integrateAndWrite _ _ (start .args .out .now) (c .before .«data» .given .1) (c .before .before .before .before .before .before .before .before .read-sum .ensures))
+    let start = c .before .before .before .before .before .before .before .before .before .before .before .before .before .before in
+    (_, refl, after-refused recordsIn (readList (start .args .list .now)) integrateAndWrite _ _ (start .args .out .now) (c .before .«data» .given .1) (c .before .before .before .before .before .before .before .read-sum .ensures))
 
 returns-2 : tie.Need-returns-2
 unfolding integral
-returns-2 c = (_, refl, after-made recordsIn (readList (c .before .before .before .before .before .before .before .before .before .before .before .before .before .before .before .before .before .before .before .before .before .before .before .before .before .args .list .now)) integrateAndWrite _ _ (c .before .before .before .before .before .before .before .before .before .before .data2 .given .1) (c .before .before .before .before .before .before .before .before .before .before .before .before .before .before .before .before .before .read-sum .ensures) (c .before .before .integrate-and-write .ensures))
+returns-2 c =
+    (_, refl, after-made recordsIn (readList (c .before .before .before .before .before .before .before .before .before .before .before .before .before .before .before .before .before .before .before .before .before .before .before .before .args .list .now)) integrateAndWrite _ _ (c .before .before .before .before .before .before .before .before .before .before .before .data2 .given .1) (c .before .before .before .before .before .before .before .before .before .before .before .before .before .before .before .before .before .read-sum .ensures) (c .before .before .before .before .before .integrate-and-write .ensures))
 
 pub integral-spec : {M : Type 1} → statement M
 integral-spec =
     tie.close
     (tie.spec
-    (λ c. search needs)
     (λ c. search needs)
     (λ c. search needs)
     (λ c. search needs)
@@ -38,9 +38,7 @@ integral-spec =
     (λ c. search needs)
     (λ c. search needs)
     (λ c. search needs)
-    (λ c. search needs)
-    (λ c. search needs)
-    then-requires
+    integrate-and-write-requires
     returns
     (λ c. search needs)
     returns-2)

@@ -1,28 +1,26 @@
 -- The sum is taken and integrated, or refused. Assumes nothing.
 use mathlib.Core.Path.{refl}
+use Rattle.answers.proofs.Taking.{bytes-refused, bytes-made, bytes-source}
 use borrow.Author.Needs.{needs}
-use Rattle.answers.proofs.Taking.{bytes-refused, bytes-made, bytes-held}
 use Rattle.algebra.proofs.integrate.Statement.{statement}
 use Rattle.algebra.proofs.integrate.Tie as tie
 
-then-requires : tie.Need-integrate-requires
-then-requires c κs = bytes-held (c .before .before .before .before .before .before .before .before .before .before .before .before .before .before .take-in .ensures .1 _ (c .before .before .before .before .before .before .before .taken2 .given .1))
+integrate-requires : tie.Need-integrate-requires
+integrate-requires c κs = (bytes-source (c .before .before .before .before .before .before .before .before .before .before .take-in .ensures .1 _ (c .before .before .before .before .before .taken2 .given .1)), record { kinds = search needs; insides = search needs; numbers = search needs })
 
 returns : tie.Need-returns
-returns c = (_, refl, bytes-refused (c .before .before .before .before .before .before .before .before .take-in .ensures .0) (c .before .before .before .before .before .before .before .before .before .before .before .before .before .before .before .before .args .out .now) (c .before .taken .given .1))
+returns c = (_, refl, bytes-refused (c .before .before .before .before .before .before .take-in .ensures .0) (c .before .before .before .before .before .before .before .before .before .before .before .before .args .out .now) (c .before .taken .given .1))
 
 returns-2 : tie.Need-returns-2
 returns-2 c =
-    let took = c .before .before .before .before .before .before .before .before .before .before .before .before .before .before .before .before .before .take-in .ensures in
-    let given = c .before .before .before .before .before .before .before .before .before .before .taken2 .given .1 in
-    (_, refl, bytes-made (took .0) given (took .1 _ given) (c .before .before .integrate .ensures))
+    let took = c .before .before .before .before .before .before .before .before .before .before .before .before .before .before .before .before .take-in .ensures in
+    let given = c .before .before .before .before .before .before .before .before .before .before .before .taken2 .given .1 in
+    (_, refl, bytes-made (took .0) given (took .1 _ given) (c .before .before .before .before .before .integrate .ensures))
 
 pub integrate-spec : {M : Type 1} → statement M
 integrate-spec =
     tie.close
     (tie.spec
-    (λ c. search needs)
-    (λ c. search needs)
     (λ c. search needs)
     (λ c. search needs)
     (λ c. search needs)
@@ -32,9 +30,7 @@ integrate-spec =
     (λ c. search needs)
     (λ c. search needs)
     (λ c. search needs)
-    (λ c. search needs)
-    (λ c. search needs)
-    then-requires
+    integrate-requires
     returns
     (λ c. search needs)
     returns-2)

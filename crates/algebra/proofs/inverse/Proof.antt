@@ -1,25 +1,25 @@
 -- A refusal of reading may become 10; what was read is undone. Assumes nothing.
 use mathlib.Core.Path.{refl}
-use borrow.Author.Needs.{needs}
 use Rattle.algebra.specs.Reading.{readList}
 use Rattle.algebra.specs.Entries.{inverse}
 use Rattle.algebra.proofs.Reading.{gave-held}
 use Rattle.algebra.proofs.Lists.{inverse-refused, inverse-made}
+use borrow.Author.Needs.{needs}
 use Rattle.algebra.proofs.inverse.Statement.{statement}
 use Rattle.algebra.proofs.inverse.Tie as tie
 
 invert-read-requires : tie.Need-invert-read-requires
-invert-read-requires c κs = gave-held (readList (c .before .before .before .before .before .before .before .before .before .before .before .before .before .before .before .before .before .before .before .before .before .before .args .list .now)) _ _ (c .before .before .before .before .before .before .before .data2 .given .1) (c .before .before .before .before .before .before .before .before .before .before .before .before .before .before .read-sum .ensures)
+invert-read-requires c κs = gave-held (readList (c .before .before .before .before .before .before .before .before .before .before .before .before .before .before .before .before .before .before .args .list .now)) _ _ (c .before .before .before .before .before .data2 .given .1) (c .before .before .before .before .before .before .before .before .before .before .before .read-sum .ensures)
 
 returns : tie.Need-returns
 unfolding inverse
 returns c =
-    let start = c .before .before .before .before .before .before .before .before .before .before .before .before .before .before .before .before .before in
-    (_, refl, inverse-refused (readList (start .args .list .now)) _ _ (start .args .out .now) (c .before .before .«data» .given .1) (c .before .before .before .before .before .before .before .before .before .read-sum .ensures) (c .refuse-inverse .ensures))
+    let start = c .before .before .before .before .before .before .before .before .before .before .before .before .before .before .before in
+    (_, refl, inverse-refused (readList (start .args .list .now)) _ _ (start .args .out .now) (c .before .before .«data» .given .1) (c .before .before .before .before .before .before .before .before .read-sum .ensures) (c .refuse-inverse .ensures))
 
 returns-2 : tie.Need-returns-2
 unfolding inverse
-returns-2 c = (_, refl, inverse-made (readList (c .before .before .before .before .before .before .before .before .before .before .before .before .before .before .before .before .before .before .before .before .before .before .before .before .before .args .list .now)) _ _ (c .before .before .before .before .before .before .before .before .before .before .data2 .given .1) (c .before .before .before .before .before .before .before .before .before .before .before .before .before .before .before .before .before .read-sum .ensures) (c .before .before .invert-read .ensures))
+returns-2 c = (_, refl, inverse-made (readList (c .before .before .before .before .before .before .before .before .before .before .before .before .before .before .before .before .before .before .before .before .before .args .list .now)) _ _ (c .before .before .before .before .before .before .before .before .data2 .given .1) (c .before .before .before .before .before .before .before .before .before .before .before .before .before .before .read-sum .ensures) (c .before .before .invert-read .ensures))
 
 pub inverse-spec : {M : Type 1} → statement M
 inverse-spec =
@@ -29,12 +29,9 @@ inverse-spec =
     (λ c. search needs)
     (λ c. search needs)
     (λ c. search needs)
-    (λ c. search needs)
     (λ c κs. search needs)
     (λ c. search needs)
     (λ c κs. search needs)
-    (λ c. search needs)
-    (λ c. search needs)
     (λ c. search needs)
     (λ c. search needs)
     (λ c. search needs)

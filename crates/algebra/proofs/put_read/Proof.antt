@@ -1,7 +1,7 @@
 -- What is put out is answered with the flag. Assumes nothing.
-use borrow.Author.Needs.{needs}
 use Rattle.bodies.specs.Reading.{done}
 use Rattle.algebra.proofs.Reading.{flag-given}
+use borrow.Author.Needs.{needs}
 use Rattle.algebra.proofs.put_read.Statement.{statement}
 use Rattle.algebra.proofs.put_read.Tie as tie
 

@@ -1,23 +1,18 @@
 -- The verdict on the list comes first. Assumes nothing.
 use mathlib.Core.Path.{sym, _∙_}
-use borrow.Author.Needs.{needs}
 use Rattle.algebra.proofs.Reading.{list-refused, list-good}
+use borrow.Author.Needs.{needs}
 use Rattle.algebra.proofs.read_sum.Statement.{statement}
 use Rattle.algebra.proofs.read_sum.Tie as tie
 
 nodes-expr-requires : tie.Need-nodes-expr-requires
-nodes-expr-requires c κs = (sym (c .before .before .before .before .before .before .before .check .ensures .0) ∙ c .before .before .before .before .before .enum-told .given .1, c .before .before .before .before .before .before .before .before .before .before .before .before .before .before .pre)
+nodes-expr-requires c κs = (sym (c .before .before .before .before .before .before .check .ensures .0) ∙ c .before .before .before .before .enum-told .given .1, c .before .before .before .before .before .before .before .before .before .before .before .pre)
 
 returns : tie.Need-returns
-returns c =
-    let start = c .before .before .before .before .before .before .before .before .before .before in
-    list-refused (start .args .list .now) _ (sym (c .before .before .before .check .ensures .0) ∙ c .before .q .given .1)
+returns c = list-refused (c .before .before .before .before .before .before .before .before .args .list .now) _ (sym (c .before .before .before .check .ensures .0) ∙ c .before .q .given .1)
 
 returns-2 : tie.Need-returns-2
-returns-2 c =
-    let called = c .before .before .before .before .before .before .before .before .before .before in
-    let told = called .before .before .before .before .before .before in
-    rw (list-good (told .before .before .before .before .before .before .before .before .before .args .list .now) (sym (told .before .before .check .ensures .0) ∙ told .enum-told .given .1)) (called .nodes-expr .ensures)
+returns-2 c = rw (list-good (c .before .before .before .before .before .before .before .before .before .before .before .before .before .before .before .before .before .before .before .args .list .now) (sym (c .before .before .before .before .before .before .before .before .before .before .before .before .before .before .check .ensures .0) ∙ c .before .before .before .before .before .before .before .before .before .before .before .before .enum-told .given .1)) (c .before .before .before .before .before .before .before .nodes-expr .ensures)
 
 pub read-sum-spec : {M : Type 1} → statement M
 read-sum-spec =
@@ -28,7 +23,6 @@ read-sum-spec =
     (λ c. search needs)
     nodes-expr-requires
     returns
-    (λ c. search needs)
     (λ c. search needs)
     (λ c. search needs)
     (λ c. search needs)

@@ -1,20 +1,20 @@
 -- The sum is taken and written as a list, or refused. Assumes nothing.
 use mathlib.Core.Path.{refl}
-use borrow.Author.Needs.{needs}
 use Rattle.answers.proofs.Taking.{bytes-refused, bytes-made, bytes-held}
+use borrow.Author.Needs.{needs}
 use Rattle.algebra.proofs.write.Statement.{statement}
 use Rattle.algebra.proofs.write.Tie as tie
 
-then-requires : tie.Need-write-sum-requires
-then-requires c κs = bytes-held (c .before .before .before .before .before .before .before .before .before .before .before .before .before .before .take-in .ensures .1 _ (c .before .before .before .before .before .before .before .taken2 .given .1))
+write-sum-requires : tie.Need-write-sum-requires
+write-sum-requires c κs = bytes-held (c .before .before .before .before .before .before .before .before .before .before .take-in .ensures .1 _ (c .before .before .before .before .before .taken2 .given .1))
 
 returns : tie.Need-returns
-returns c = (_, refl, bytes-refused (c .before .before .before .before .before .before .before .before .take-in .ensures .0) (c .before .before .before .before .before .before .before .before .before .before .before .before .before .before .before .before .args .out .now) (c .before .taken .given .1))
+returns c = (_, refl, bytes-refused (c .before .before .before .before .before .before .take-in .ensures .0) (c .before .before .before .before .before .before .before .before .before .before .before .before .args .out .now) (c .before .taken .given .1))
 
 returns-2 : tie.Need-returns-2
 returns-2 c =
-    let took = c .before .before .before .before .before .before .before .before .before .before .before .before .before .before .before .before .before .take-in .ensures in
-    let given = c .before .before .before .before .before .before .before .before .before .before .taken2 .given .1 in
+    let took = c .before .before .before .before .before .before .before .before .before .before .before .before .before .take-in .ensures in
+    let given = c .before .before .before .before .before .before .before .before .taken2 .given .1 in
     (_, refl, bytes-made (took .0) given (took .1 _ given) (c .before .before .write-sum .ensures))
 
 pub write-spec : {M : Type 1} → statement M
@@ -24,17 +24,13 @@ write-spec =
     (λ c. search needs)
     (λ c. search needs)
     (λ c. search needs)
-    (λ c. search needs)
-    (λ c. search needs)
     (λ c κs. search needs)
     (λ c. search needs)
     (λ c. search needs)
     (λ c. search needs)
     (λ c. search needs)
     (λ c. search needs)
-    (λ c. search needs)
-    (λ c. search needs)
-    then-requires
+    write-sum-requires
     returns
     (λ c. search needs)
     returns-2)

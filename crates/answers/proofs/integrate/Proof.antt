@@ -1,42 +1,39 @@
 -- The integral is written, or its refusal is handed on. Assumes nothing.
-use borrow.Author.Needs.{needs}
 use Rattle.entries.specs.Encoding.{entriesIn}
 use Rattle.answers.specs.Making.{integrate, ofSum}
 use Rattle.answers.proofs.Giving.{then-refused, then-held, then-made}
+use borrow.Author.Needs.{needs}
 use Rattle.answers.proofs.integrate.Statement.{statement}
 use Rattle.answers.proofs.integrate.Tie as tie
 
-then-requires : tie.Need-put-out-requires
-then-requires c κs =
-    let start = c .before .before .before .before .before .before .before .before .before .before .before .before .before .before .before .before .before .before .before .before .before .before .before .before .before .before in
-    then-held _ _ (c .before .before .before .before .before .before .before .formed2 .given .1) (c .before .before .before .before .before .before .before .before .before .before .before .before .before .before .expr-integral .ensures (start .pre .1 .0) (start .pre .1 .1))
+put-out-requires : tie.Need-put-out-requires
+put-out-requires c κs =
+    let start = c .before .before .before .before .before .before .before .before .before .before .before .before .before .before .before .before .before .before .before in
+    let held = start .pre .0 .held in
+    then-held _ (start .args .w) _ (c .before .before .before .before .before .m .given .1) (c .before .before .before .before .before .before .before .before .before .before .before .before .expr-integral .ensures .1 (held .0) (held .1))
 
 returns : tie.Need-returns
 unfolding integrate
-returns c s l = then-refused entriesIn _ _ ofSum (c .before .before .before .before .before .before .before .before .before .before .before .before .before .before .before .before .before .before .before .before .args .out .now) (c .before .formed .given .1) (c .before .before .before .before .before .before .before .before .expr-integral .ensures s l)
+returns c s l = then-refused entriesIn _ (c .before .before .before .before .before .before .before .before .before .before .before .before .before .before .before .args .w) _ ofSum (c .before .before .before .before .before .before .before .before .before .before .before .before .before .before .before .args .out .now) (c .before .q .given .1) (c .before .before .before .before .before .before .before .before .expr-integral .ensures .1 s l)
 
 returns-2 : tie.Need-returns-2
 unfolding integrate
-returns-2 c s l = then-made entriesIn _ _ ofSum (c .before .before .before .before .before .before .before .before .before .before .formed2 .given .1) (c .before .before .before .before .before .before .before .before .before .before .before .before .before .before .before .before .before .expr-integral .ensures s l) (c .before .before .put-out .ensures)
+returns-2 c s l = then-made entriesIn _ (c .before .before .before .before .before .before .before .before .before .before .before .before .before .before .before .before .before .before .before .before .before .before .args .w) _ ofSum (c .before .before .before .before .before .before .before .before .m .given .1) (c .before .before .before .before .before .before .before .before .before .before .before .before .before .before .before .expr-integral .ensures .1 s l) (c .before .before .put-out .ensures)
 
 pub integrate-spec : {M : Type 1} → statement M
 integrate-spec =
     tie.close
     (tie.spec
+    (λ c κs. search needs)
+    (λ c. search needs)
+    (λ c. search needs)
+    put-out-requires
     (λ c. search needs)
     (λ c. search needs)
     (λ c. search needs)
-    (λ c. search needs)
-    (λ c. search needs)
-    (λ c κs. let start = c .before .before .before .before .before .before .before .before .before .before .before in (start .pre .0, start .pre .1, record { kinds = search needs; insides = search needs; nums = search needs; res = search needs; ims = search needs }))
-    (λ c. search needs)
-    (λ c. search needs)
-    (λ c. search needs)
-    (λ c. search needs)
-    (λ c. search needs)
-    (λ c. search needs)
-    (λ c. search needs)
-    then-requires
     returns
+    (λ c. search needs)
+    (λ c. search needs)
+    (λ c. search needs)
     (λ c. search needs)
     returns-2)

@@ -1,27 +1,17 @@
 -- There is room for the sum or there isn't. Assumes nothing.
 use native.Mathlib.Omega.{arith}
-use borrow.Author.Needs.{needs}
 use Rattle.answers.proofs.Giving.{put-refused, put-written}
+use borrow.Author.Needs.{needs}
 use Rattle.answers.proofs.put_out.Statement.{statement}
 use Rattle.answers.proofs.put_out.Tie as tie
 
 returns : tie.Need-returns
-returns c s l =
-    let start = c .before .before .before .before .before .before .before .before .before in
-    put-refused (start .args .out .now) l (omega (arith, c .before .count-entries .ensures))
+returns c s l = put-refused (c .before .before .before .before .before .before .args .out .now) l (omega (arith, c .before .count-entries .ensures))
 
 returns-2 : tie.Need-returns-2
-returns-2 c s l =
-    let start = c .before .before .before .before .before .before .before .before .before .before .before .before .before in
-    put-written (start .args .out .now) l _ (omega (arith, c .before .before .before .before .before .count-entries .ensures)) (c .before .before .put-sum .ensures s l)
+returns-2 c s l = put-written (c .before .before .before .before .before .before .before .before .before .before .args .out .now) l _ (omega (arith, c .before .before .before .before .before .count-entries .ensures)) (c .before .before .put-sum .ensures s l)
 
 pub put-out-spec : {M : Type 1} → statement M
 put-out-spec =
     tie.close
-    (tie.spec
-    (λ c κs. search needs)
-    (λ c. search needs)
-    returns
-    (λ c κs. (c .before .before .before .before .before .before .before .before .before .before .pre .1, omega (arith, c .before .before .count-entries .ensures)))
-    (λ c. search needs)
-    returns-2)
+    (tie.spec (λ c κs. search needs) (λ c. search needs) returns (λ c κs. search needs) (λ c. search needs) returns-2)

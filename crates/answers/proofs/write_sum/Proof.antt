@@ -1,7 +1,7 @@
 -- What was written is answered. Assumes nothing.
-use borrow.Author.Needs.{needs}
 use Rattle.answers.specs.Making.{write}
 use Rattle.answers.proofs.Giving.{list-given}
+use borrow.Author.Needs.{needs}
 use Rattle.answers.proofs.write_sum.Statement.{statement}
 use Rattle.answers.proofs.write_sum.Tie as tie
 

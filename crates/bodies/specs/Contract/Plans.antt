@@ -19,8 +19,6 @@ use Rattle.bodies.specs.Reading.{runners}
 use Rattle.bodies.specs.Contract.Walks.{walkOf}
 use Rattle.bodies.specs.declared.Way.{Way}
 use Rattle.bodies.specs.declared.Way.the-variants as way
-use Rattle.bodies.specs.declared.Manner.{Manner}
-use Rattle.bodies.specs.declared.Manner.the-variants as manner
 use Rattle.bodies.specs.declared.Use.{Use}
 use Rattle.bodies.specs.declared.Use.the-variants.{Refused, Bodies, Forks}
 use Rattle.bodies.specs.declared.Plan.{Plan}
@@ -34,16 +32,6 @@ wayOf Both = way.One
 wayOf Bracket = way.Two
 wayOf Fork = way.Any
 wayOf Unlisted = way.Unlisted
-
-abbrev pub mannerOf : Modifier → Manner
-mannerOf Dip = manner.Holds
-mannerOf Gap = manner.Drops
-mannerOf On = manner.Holds
-mannerOf By = manner.Copies
-mannerOf Both = manner.Holds
-mannerOf Bracket = manner.Holds
-mannerOf Fork = manner.Holds
-mannerOf Unlisted = manner.Holds
 
 -- how many sums are held, and how many of them are copied
 abbrev pub heldBy : Modifier → ℕ → ℕ

@@ -3,7 +3,7 @@ use Prim.Native.Nat.{_+_}
 use native.Mathlib.Omega.{arith}
 use borrow.Author.Needs.{needs}
 use lib.Ieee.{binary64, ofBits}
-use Rattle.forms.proofs.Cases.{kept}
+use Rattle.book_primitives.proofs.Cases.{kept}
 use Rattle.book_adding.proofs.Places.{kept-result, room-result, result-operand}
 use Rattle.book_powers.proofs.Constants.{pow-constant}
 use Rattle.book_primitives.proofs.Constants.{over-head, half-finite, two-finite, ten-finite, euler-finite}

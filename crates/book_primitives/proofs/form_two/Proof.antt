@@ -1,7 +1,7 @@
 -- `book_primitives::form_two` meets its contract: in each arm the primitive is the arm's. Assumes nothing.
 use Prim.Native.Nat.{_+_}
 use borrow.Author.Needs.{needs}
-use Rattle.forms.proofs.Cases.{kept-two}
+use Rattle.book_primitives.proofs.Cases.{kept-two}
 use Rattle.book_adding.proofs.Places.{kept-result, room-result, result-operand}
 use Rattle.book_primitives.proofs.form_two.Statement.{statement}
 use Rattle.book_primitives.proofs.form_two.Tie as tie

@@ -1,6 +1,6 @@
 -- By the base. Assumes nothing.
 use borrow.Author.Needs.{needs}
-use Rattle.calculus.proofs.Primes.{ln-one, ln-two, ln-ten, ln-other}
+use Rattle.calculus.proofs.Bases.{ln-one, ln-two, ln-ten, ln-other}
 use Rattle.calculus.proofs.ln_of.Statement.{statement}
 use Rattle.calculus.proofs.ln_of.Tie as tie
 

@@ -1,18 +1,12 @@
--- The steps by which a sum is taken in and written, named for the contracts of the functions that take them.
-use mathlib.Core.Path.{_≡_}
-use mathlib.Core.Bool.{Bool, true, _&&_}
-use mathlib.Core.Logic.{_↔_}
+-- What is read of an entry's bytes, named for the contracts of the functions that take a sum in.
+use mathlib.Core.Bool.{Bool, _&&_}
 use mathlib.Core.List.{List}
-use Prim.Native.Nat.{ℕ, _+_, _*_, _<_}
+use Prim.Native.Nat.{ℕ, _+_, _*_}
 use lib.Dec.{ltb}
 use lib.ListN.{getD}
-use Rattle.limits.specs.Limits.{sumEntries, sumLevels, entryBytes}
-use Rattle.cells.specs.Book.{Book, Cell, cell}
-use Rattle.limits.specs.declared.Refusal.the-variants.{BadRecord, TooDeep}
-use Rattle.sums.specs.Contract.Lies.{Held}
+use Rattle.limits.specs.Limits.{sumEntries, entryBytes}
+use Rattle.cells.specs.Book.{Cell}
 use Rattle.formats.specs.Bytes.{number}
-use Rattle.entries.specs.declared.Taken.{Taken}
-use Rattle.entries.specs.declared.Taken.the-variants as taken
 
 -- the blank bytes of the entry at place i are zero, and its count of what lies inside is below sumEntries
 abbrev pub cleanAt : List ℕ → ℕ → Bool
@@ -28,14 +22,3 @@ cellAt l i =
       re = number 8 l (entryBytes * i + 16);
       im = number 8 l (entryBytes * i + 24);
     }
-
--- r says whether the first n entries are clean; if so they are in the first n cells
-pub record Loaded (l : List ℕ) (n : ℕ) (b : Book) (r : Bool) : Type 0 where
-  pub tests : (r ≡ true) ↔ ((j : ℕ) → j < n → cleanAt l j ≡ true)
-  pub cells : r ≡ true → (j : ℕ) → j < n → cell b j ≡ cellAt l j
-
--- what the first n cells are: a good sum within sumLevels, a good sum beyond them, or none
-pub data Answered (b : Book) (n : ℕ) : Taken → Type 0 where
-  good : Held b 0 n sumLevels → Answered b n (taken.Sum n)
-  deep : Held b 0 n sumEntries → (Held b 0 n sumLevels → ⊥) → Answered b n (taken.Refused TooDeep)
-  bad : (Held b 0 n sumEntries → ⊥) → Answered b n (taken.Refused BadRecord)

@@ -1,13 +1,11 @@
 -- Two operands that an operation may be run on.
-use Prim.Native.Nat.{ℕ, _+_, _≤_}
-use Rattle.limits.specs.Limits.{sumEntries, sumLevels}
-use Rattle.cells.specs.Book.{Book, Room}
-use Rattle.sums.specs.Contract.Lies.{Held}
+use Prim.Native.Nat.{ℕ, _*_, _≤_}
+use Rattle.limits.specs.Limits.{sumEntries}
+use Rattle.book_cells.specs.Book.{Book}
+use Rattle.book_adding.specs.Contract.Operands.{Source}
 
--- good sums lie in the book, n cells from 0 on, of which there are some, and m cells from sumEntries on
+-- good sums lie in the book behind the places of a result: n cells, of which there are some, and m cells
 pub record Ready (b : Book) (n m : ℕ) : Type 0 where
-  pub first : Held b 0 (0 + n) sumLevels
-  pub second : Held b sumEntries (sumEntries + m) sumLevels
   pub some : 1 ≤ n
-  pub first-few : n ≤ sumEntries
-  pub second-few : m ≤ sumEntries
+  pub first : Source b (2 * sumEntries) n 0
+  pub second : Source b (3 * sumEntries) m 0

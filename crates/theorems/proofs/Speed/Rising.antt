@@ -22,7 +22,7 @@ use Rattle.trees.specs.Sums.{Sum, none, and, size, len, entry}
 use Rattle.trees.specs.Good.{isEmpty, Before, Good}
 use Rattle.trees.specs.Order.{cmpEach, cmpTerm}
 use Rattle.trees.proofs.Order.{Key, good-key, term-chain}
-use Rattle.sums.proofs.Walk.{GoodFirst, good-and}
+use Rattle.book_sums.proofs.order.Walk.{GoodFirst, good-and}
 use Rattle.theorems.specs.Value.{Exponent, whole, half, Power, IsWholeOrHalf, twice, Rising}
 use Rattle.theorems.proofs.Speed.Terms.{means-0, half-finite}
 use Rattle.theorems.proofs.Speed.Steps.{number-finite}

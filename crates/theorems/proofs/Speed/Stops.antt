@@ -21,7 +21,7 @@ use Rattle.limits.specs.declared.Refusal.the-variants.{NeedsMath}
 use Rattle.trees.specs.Sums.{Sum, size as entries, entry}
 use Rattle.trees.specs.Kinds as kinds
 use Rattle.trees.specs.Good.{isNumber, Good}
-use Rattle.sums.proofs.Walk.{good-and}
+use Rattle.book_sums.proofs.order.Walk.{good-and}
 use Rattle.writer.specs.Count.{cost}
 use Rattle.theorems.specs.Value.{Exponent, whole, half, Power, power, Rising, termValue}
 use Rattle.theorems.specs.Records.{costOf, isX}

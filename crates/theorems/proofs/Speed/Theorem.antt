@@ -12,7 +12,7 @@ use lib.Ieee.Scale.{finite}
 use Rattle.trees.specs.Kinds as kinds
 use Rattle.trees.specs.Sums.{Sum, size as entries, entry}
 use Rattle.trees.specs.Good.{Good}
-use Rattle.sums.proofs.Walk.{good-and}
+use Rattle.book_sums.proofs.order.Walk.{good-and}
 use Rattle.formats.specs.Tree.{Nodes, size, encode}
 use Rattle.formats.proofs.record.Theorem.{parse-encode}
 use Rattle.drafts.specs.Writing.{wrote}

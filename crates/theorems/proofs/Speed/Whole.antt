@@ -16,7 +16,7 @@ use Rattle.complex.specs.declared.Complex.{Complex}
 use Rattle.trees.specs.Kinds as kinds
 use Rattle.trees.specs.Sums.{Sum, and, size as entries, entry}
 use Rattle.trees.specs.Good.{isNumber, Good}
-use Rattle.sums.proofs.Walk.{GoodFirst, good-and}
+use Rattle.book_sums.proofs.order.Walk.{GoodFirst, good-and}
 use Rattle.formats.specs.declared.record.Record.{Record}
 use Rattle.formats.specs.declared.record.Primitive.the-variants as prim
 use Rattle.formats.specs.Tree.{Nodes, end, rec, size}

@@ -4,6 +4,7 @@ use borrow.Author.Needs.{needs}
 use borrow.Author.Tests.{not-false}
 use mathlib.Core.Path.{_≡_, sym}
 use mathlib.Core.Bool.{true, false, true≢false}
+use Rattle.book_cells.specs.Contract.Moves.{over}
 use Rattle.replay_arithmetic.proofs.arith.ready.Statement.{statement}
 use Rattle.replay_arithmetic.proofs.arith.ready.Tie as tie
 
@@ -21,11 +22,10 @@ ready-spec =
     (λ c. not-ready)
     (λ c κs. search needs)
     (λ c e.
-    let f = c .before .before .before in
+    let few = c .before .before .before in
+    let held = c .before .before .good-sum .ensures .0 (not-false _ (c .before .if4 .left)) in
     record {
-      first = c .before .before .good-sum .ensures .0 (not-false _ (c .before .if4 .left));
-      second = c .good-sum2 .ensures .0 e;
-      some = omega (arith, f .before .before .if1 .left);
-      first-few = f .before .if2 .left;
-      second-few = f .if3 .left;
+      some = omega (arith, few .before .before .if1 .left);
+      first = record { few = few .before .if2 .left; held = held; apart = over (omega arith) };
+      second = record { few = few .if3 .left; held = c .good-sum2 .ensures .0 e; apart = over (omega arith) };
     }))

@@ -1,17 +1,19 @@
 -- `replay_arithmetic::cases::lay` meets its contract. The loop keeps the slices as long as they were. Assumes nothing.
 use Prim.Native.Nat.{_+_, _≤_, _-_}
+use native.Mathlib.Omega.{arith}
 use borrow.Author.Needs.{needs}
-use mathlib.Core.Path.{_≡_}
-use lib.ListN.{length, length-set}
+use lib.ListN.{length-set}
+use Rattle.book_cells.specs.Book.{book}
+use Rattle.book_cells.specs.Contract.Moves.{SameRoom}
+use Rattle.book_cells.proofs.Laws.{same-room-refl}
 use Rattle.replay_arithmetic.proofs.cases.lay.Statement.{statement}
 use Rattle.replay_arithmetic.proofs.cases.lay.Tie as tie
 
 abbrev Inv-loop : tie.InvT-loop
-Inv-loop b p n m ak₀ ai₀ an₀ ar₀ am₀ j₀ ak ai an ar am j =
-    (j ≤ n + m) × (length ak ≡ length ak₀) × (length ai ≡ length ai₀) × (length an ≡ length an₀) × (length ar ≡ length ar₀) × (length am ≡ length am₀)
+Inv-loop kinds₀ insides₀ numbers₀ b p n m j₀ kinds insides numbers j = (j ≤ n + m) × SameRoom (book kinds₀ insides₀ numbers₀) (book kinds insides numbers)
 
 abbrev μ-loop : tie.MeasureT-loop
-μ-loop b p n m ak₀ ai₀ an₀ ar₀ am₀ j₀ ak ai an ar am j = n + m - j
+μ-loop kinds₀ insides₀ numbers₀ b p n m j₀ kinds insides numbers j = n + m - j
 
 pub lay-spec : {M : Type 1} → statement M
 lay-spec =
@@ -19,9 +21,15 @@ lay-spec =
     (tie.spec
     Inv-loop
     μ-loop
+    (λ c. (omega arith, same-room-refl (book _ _ _)))
     (λ c. search needs)
     (λ c. search needs)
     (λ c. search needs)
+    (λ c κs. search needs)
+    (λ c. search needs)
+    (λ c κs. search needs)
+    (λ c. search needs)
+    (λ c κs. search needs)
     (λ c. search needs)
     (λ c κs. search needs)
     (λ c. search needs)
@@ -29,26 +37,15 @@ lay-spec =
     (λ c. search needs)
     (λ c. search needs)
     (λ c. search needs)
-    (λ c. search needs)
-    (λ c κs. search needs)
-    (λ c. search needs)
-    (λ c. search needs)
-    (λ c. search needs)
-    (λ c κs. search needs)
-    (λ c. search needs)
-    (λ c. search needs)
-    (λ c. search needs)
-    (λ c κs. search needs)
     (λ c. search needs)
     (λ c. search needs)
     (λ c. search needs)
     (λ c. search needs)
     (λ c.
-    let v = c .before .before .before .before .before .before .before .loop .inv in
-    (search needs, simp length-set (v .1), simp length-set (v .2), simp length-set (v .3), simp length-set (v .4), simp length-set (v .5)))
-    (λ c. c .before .loop .inv .1)
-    (λ c. c .before .loop .inv .2)
-    (λ c. c .before .loop .inv .3)
-    (λ c. c .before .loop .inv .4)
-    (λ c. c .before .loop .inv .5)
+    let turn = c .before .before .before .before .before .before in
+    let long = turn .before .loop .inv .1 in
+    (omega (arith, turn .loop-test .taken), record { kinds = simp length-set (long .kinds); insides = simp length-set (long .insides); numbers = simp length-set (long .numbers) }))
+    (λ c. c .before .loop .inv .1 .kinds)
+    (λ c. c .before .loop .inv .1 .insides)
+    (λ c. c .before .loop .inv .1 .numbers)
     (λ c. search needs))

@@ -5,10 +5,10 @@ use Rattle.replay_arithmetic.proofs.cases.same_cells.Statement.{stateme
 use Rattle.replay_arithmetic.proofs.cases.same_cells.Tie as tie
 
 abbrev Inv-loop : tie.InvT-loop
-Inv-loop b p n wk wi wn wr wm j₀ j = j ≤ n
+Inv-loop kinds insides numbers b p n j₀ j = j ≤ n
 
 abbrev μ-loop : tie.MeasureT-loop
-μ-loop b p n wk wi wn wr wm j₀ j = n - j
+μ-loop kinds insides numbers b p n j₀ j = n - j
 
 pub same-cells-spec : {M : Type 1} → statement M
 same-cells-spec =
@@ -16,7 +16,6 @@ same-cells-spec =
     (tie.spec
     Inv-loop
     μ-loop
-    (λ c. search needs)
     (λ c. search needs)
     (λ c. search needs)
     (λ c. search needs)

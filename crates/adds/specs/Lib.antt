@@ -1,2 +1,0 @@
--- The root of adds' definitions.
-pub mod Contract

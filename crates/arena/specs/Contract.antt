@@ -1,4 +1,0 @@
--- What contracts between own functions, or laws, cite, and no promise to a user.
-pub mod Arena
-pub mod Blocks
-pub mod Stacked

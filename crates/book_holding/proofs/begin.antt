@@ -1,0 +1,2 @@
+-- The laws of how a modifier begins.
+pub mod Manners

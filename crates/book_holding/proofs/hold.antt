@@ -1,0 +1,3 @@
+-- The laws of what is held.
+pub mod Laws
+pub mod Moves

@@ -1,0 +1,2 @@
+-- The root of book_holding's definitions.
+pub mod Contract

@@ -1,0 +1,3 @@
+-- What the proofs of several functions share, and what a walk makes of a step.
+pub mod Choices
+pub mod Counting

@@ -1,0 +1,2 @@
+-- The root of book_leaves' definitions.
+pub mod Contract

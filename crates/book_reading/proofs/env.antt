@@ -1,0 +1,2 @@
+-- How a reading begins and ends.
+pub mod Ends

@@ -1,0 +1,2 @@
+-- The laws of one record's turn.
+pub mod Leaf

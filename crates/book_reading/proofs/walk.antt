@@ -1,0 +1,2 @@
+-- The laws of walks in the arena.
+pub mod Laws

@@ -1,0 +1,4 @@
+-- What contracts between own functions, or laws, cite, and no promise to a user.
+pub mod Runs
+pub mod Data
+pub mod Quick

@@ -1,0 +1,2 @@
+-- The root of book_reading's definitions.
+pub mod Contract

@@ -1,0 +1,2 @@
+-- The root of book_stack's definitions.
+pub mod Contract

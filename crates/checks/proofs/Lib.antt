@@ -1,3 +1,0 @@
--- The root of checks' laws.
-pub mod Cells
-pub mod Rising

@@ -1,2 +1,0 @@
--- The root of checks' definitions.
-pub mod Contract

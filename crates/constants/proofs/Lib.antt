@@ -1,2 +1,0 @@
--- The root of constants' laws.
-pub mod Lying

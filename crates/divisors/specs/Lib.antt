@@ -1,2 +1,0 @@
--- The root of divisors' definitions.
-pub mod Contract

@@ -1,2 +1,0 @@
--- The root of env's laws.
-pub mod Ends

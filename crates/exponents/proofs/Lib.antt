@@ -1,2 +1,0 @@
--- The root of exponents' laws.
-pub mod Bases

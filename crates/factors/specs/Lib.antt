@@ -1,2 +1,0 @@
--- The root of factors' definitions.
-pub mod Contract

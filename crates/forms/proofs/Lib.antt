@@ -1,3 +1,0 @@
--- The root of forms' laws.
-pub mod Cases
-pub mod Laid

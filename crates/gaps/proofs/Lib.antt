@@ -1,1 +1,0 @@
--- The root of gaps' laws: they stand in cells.

@@ -1,1 +1,0 @@
--- The root of gaps' definitions: they stand in cells.

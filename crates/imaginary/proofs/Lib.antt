@@ -1,2 +1,0 @@
--- The root of imaginary's laws.
-pub mod Laws

@@ -1,1 +1,0 @@
--- The root of inserts' laws: they stand in cells.

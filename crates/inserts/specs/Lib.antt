@@ -1,1 +1,0 @@
--- The root of inserts' definitions: they stand in cells.

@@ -1,2 +1,0 @@
--- The root of integrals' laws.
-pub mod Storing

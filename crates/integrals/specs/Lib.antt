@@ -1,2 +1,0 @@
--- The root of integrals' definitions.
-pub mod Contract

@@ -1,2 +1,0 @@
--- The root of leaves' definitions.
-pub mod Contract

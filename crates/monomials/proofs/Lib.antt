@@ -1,2 +1,0 @@
--- The root of monomials' laws.
-pub mod Reading

@@ -1,2 +1,0 @@
--- The root of monomials' definitions.
-pub mod Contract

@@ -1,3 +1,0 @@
--- The root of powers' laws.
-pub mod Reals
-pub mod Constants

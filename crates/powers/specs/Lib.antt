@@ -1,2 +1,0 @@
--- The root of powers' definitions.
-pub mod Contract

@@ -1,2 +1,0 @@
--- The root of primitives' laws.
-pub mod Laid

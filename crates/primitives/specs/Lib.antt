@@ -1,2 +1,0 @@
--- The root of primitives' definitions.
-pub mod Contract

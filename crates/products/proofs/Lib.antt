@@ -1,1 +1,0 @@
--- The root of products' laws: they stand in factors.

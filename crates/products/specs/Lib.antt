@@ -1,1 +1,0 @@
--- The root of products' definitions: they stand in factors.

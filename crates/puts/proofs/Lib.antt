@@ -1,1 +1,0 @@
--- The root of puts' laws: they stand in sums.

@@ -1,1 +1,0 @@
--- The root of puts' definitions: they stand in sums.

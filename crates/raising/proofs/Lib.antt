@@ -1,3 +1,0 @@
--- The root of raising's laws.
-pub mod Turns
-pub mod Whole

@@ -1,2 +1,0 @@
--- The root of raising's definitions.
-pub mod Contract

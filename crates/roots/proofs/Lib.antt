@@ -1,4 +1,0 @@
--- The root of roots' laws.
-pub mod Down
-pub mod Roots
-pub mod Rooting

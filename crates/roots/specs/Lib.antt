@@ -1,2 +1,0 @@
--- The root of roots' definitions.
-pub mod Contract

@@ -1,2 +1,0 @@
--- The root of rounds' laws.
-pub mod Laws

@@ -1,2 +1,0 @@
--- The root of rounds' definitions.
-pub mod Contract

@@ -1,1 +1,0 @@
--- The root of slides' laws: they stand in cells.

@@ -1,1 +1,0 @@
--- The root of slides' definitions: they stand in cells.

@@ -1,2 +1,0 @@
--- The root of sums' definitions.
-pub mod Contract

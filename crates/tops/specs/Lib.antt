@@ -1,2 +1,0 @@
--- The root of tops' definitions.
-pub mod Contract
