@@ -13,7 +13,9 @@
  * and no byte of `sum` or `out` is changed; on success bytes past what was written stay as they
  * were. Input and output must not overlap.
  *
- * The functions keep no state, allocate nothing and may be called from several threads at once.
+ * The functions keep no state, allocate nothing and may be called from several threads at once. The
+ * most stack that a call took of the lists that were tried: 100,100 bytes where records lie inside few
+ * others, 212,700 at the deepest there is, 128 levels (x86-64; tests/stack measures it). Have half a MiB.
  */
 #ifndef UPLINK_H
 #define UPLINK_H

@@ -26,11 +26,10 @@ static const char *const function_names[FUNCTIONS] = {"read", "derivative", "int
 
 enum row { EMPTY, SQUARE, CUBE, LARGE, COMPLEX, CONSTANT, NOT, RECIPROCAL, QUOTIENT, PRIMITIVES, DIVS, RUNS, NESTED, ROWS };
 
-/* The most bytes that a call may take, in the order of the functions: a tenth above what was measured on Arm. Nothing was
- * measured elsewhere. The compiler tells that frames are about as large on x86-64 but for that of a level, which is 288
- * bytes larger there; so the first four numbers of the last two rows, where there are 128 levels, have room for these as
- * well, and every bound is half as large again where the machine is no Arm. */
-#ifdef __aarch64__
+/* The most bytes that a call may take, in the order of the functions: a tenth above what was measured on x86-64. On Arm an
+ * earlier library took as much within a tenth, and less for each of 128 levels, but this one was not measured there; so every
+ * bound is half as large again where the machine is no x86-64. */
+#ifdef __x86_64__
 enum { BOUND_HALVES = 2 };
 #else
 enum { BOUND_HALVES = 3 };
@@ -40,19 +39,19 @@ static const struct {
     const char *name;
     unsigned most[FUNCTIONS];
 } bounds[ROWS] = {
-    [EMPTY] =      {"the empty list", { 42700,  63600,  63600,  43100,  18500,  18300,   7400,   5500,  21900}},
-    [SQUARE] =     {"a square",       { 64600,  85500,  85500,  65100,  18700,  18400,   7400,   5500,  21900}},
-    [CUBE] =       {"a cube",         { 70900,  91700,  91700,  71300,  18700,  18400,   7400,   5500,  21900}},
-    [LARGE] =      {"(x + 1)^63",     { 71100,  91900,  91900,  71600,  18700,  18400,   7500,   5600,  21900}},
-    [COMPLEX] =    {"Complex",        { 70500,  91400,  91400,  71000,  18700,  18400,   7400,   5500,  21900}},
-    [CONSTANT] =   {"Exp2 of 5",      { 64800,  85600,  85600,  65300,  18700,  18400,   7400,   5500,  21900}},
-    [NOT] =        {"Not",            { 52200,  73000,  73000,  52700,  18700,  18400,   7400,   5600,  21900}},
-    [RECIPROCAL] = {"Reciprocal",     { 54600,  75400,  75400,  55100,  18700,  18400,   7400,   5600,  21900}},
-    [QUOTIENT] =   {"Div",            { 60700,  81500,  81500,  61100,  18700,  18400,   7400,   5500,  21900}},
-    [PRIMITIVES] = {"any primitive",  { 70900,  91700,  91700,  71300,  18700,  18400,   7500,   5600,  22400}},
-    [DIVS] =       {"three Divs",     { 91000, 111800, 111800,  91200,  18700,  18400,  33600,   6600,  23400}},
-    [RUNS] =       {"128 runs",       {242400, 263300, 263300, 242900,  63700,  32000,   7400,   5500,  21900}},
-    [NESTED] =     {"64 modifiers",   {247900, 268700, 268700, 248400,  63700,  32000,   7400,   5500,  21900}},
+    [EMPTY] =       {"the empty list", { 53900,  72600,  72600,  54500,  18400,  18300,   6300,   6300,  25000}},
+    [SQUARE] =      {"a square",       { 67800,  86600,  86600,  68400,  18500,  18400,   6300,   6300,  25000}},
+    [CUBE] =        {"a cube",         { 68000,  86800,  86800,  68600,  18500,  18400,   6300,   6300,  25000}},
+    [LARGE] =       {"(x + 1)^63",     { 68000,  86800,  86800,  68600,  18500,  18400,   6300,   6300,  25000}},
+    [COMPLEX] =     {"Complex",        { 67800,  86600,  86600,  68400,  18500,  18400,   6300,   6300,  25000}},
+    [CONSTANT] =    {"Exp2 of 5",      { 68000,  86800,  86800,  68600,  18500,  18400,   6300,   6300,  25000}},
+    [NOT] =         {"Not",            { 60300,  79000,  79000,  60800,  18500,  18400,   6300,   6300,  25000}},
+    [RECIPROCAL] =  {"Reciprocal",     { 60300,  79100,  79100,  60900,  18500,  18400,   6300,   6400,  25000}},
+    [QUOTIENT] =    {"Div",            { 60300,  79100,  79100,  60900,  18500,  18400,   6300,   6300,  25000}},
+    [PRIMITIVES] =  {"any primitive",  { 68000,  86800,  86800,  68600,  18500,  18400,   6600,   6600,  25300}},
+    [DIVS] =        {"three Divs",     { 91300, 110100, 110100,  91900,  18500,  18400,  29600,   7200,  26000}},
+    [RUNS] =        {"128 runs",       {215200, 233900, 233900, 215800,  56800,  31900,   6300,   6300,  25000}},
+    [NESTED] =      {"64 modifiers",   {215200, 233900, 233900, 215800,  56800,  31900,   6300,   6300,  25000}},
 };
 
 /* ---- lists in words */
