@@ -22,7 +22,7 @@ fn larger(a: usize, b: usize) -> usize
 }
 
 // The shape of the records from `from` up to `to`, where the height of what lies inside each is known.
-fn stretch_shape(list: &[u8], heights: &[usize], from: usize, to: usize, bodies: bool) -> Shape
+fn stretch_shape(list: &[u8], heights: &[u16], from: usize, to: usize, bodies: bool) -> Shape
     requires { ⌜ (from ≤ to) × (recordBytes * to ≤ length (now list)) × (to ≤ listRecords) × (to ≤ length (now heights)) ⌝ }
     requires { ⌜ Measured (now list) (now heights) from to ⌝ }
     ensures { λ r. ⌜ r ≡ shapeOf bodies (forest (now (list .entry)) from to) ⌝ }
@@ -34,7 +34,7 @@ fn stretch_shape(list: &[u8], heights: &[usize], from: usize, to: usize, bodies:
         if !crate::fields::may_stand(r, at, to, bodies) {
             return Shape::Bad;
         }
-        tall = larger(heights[at] + 1, tall);
+        tall = larger(heights[at] as usize + 1, tall);
         at = at + 1 + r.inside as usize;
     }
     Shape::Tall(tall)
@@ -43,7 +43,7 @@ fn stretch_shape(list: &[u8], heights: &[usize], from: usize, to: usize, bodies:
 // The shape of the first `n` records, with room for their heights. What lies inside a record comes after it, so the heights are found from the last record to the first.
 // Once a height is known no record in that stretch reaches past its end, so each record is met in one stretch only, and is
 // read at most twice.
-fn shape_in(list: &[u8], n: usize, heights: &mut [usize]) -> Shape
+fn shape_in(list: &[u8], n: usize, heights: &mut [u16]) -> Shape
     requires { ⌜ (recordBytes * n ≤ length (now list)) × (n ≤ listRecords) × (n ≤ length (now heights)) ⌝ }
     ensures { λ r. ⌜ r ≡ shapeOf false (forest (now (list .entry)) 0 n) ⌝ }
 {
@@ -65,7 +65,7 @@ fn shape_in(list: &[u8], n: usize, heights: &mut [usize]) -> Shape
         let Shape::Tall(h) = inner else {
             return Shape::Bad;
         };
-        heights[i] = h;
+        heights[i] = h as u16;
     }
     stretch_shape(list, heights, 0, n, false)
 }
@@ -79,10 +79,10 @@ fn shape_of(list: &[u8], n: usize) -> Shape
     ensures { λ r. ⌜ r ≡ shapeOf false (forest (now (list .entry)) 0 n) ⌝ }
 {
     if n <= FEW_RECORDS {
-        let mut few = [0usize; FEW_RECORDS];
+        let mut few = [0u16; FEW_RECORDS];
         return shape_in(list, n, &mut few);
     }
-    let mut heights = [0usize; LIST_RECORDS];
+    let mut heights = [0u16; LIST_RECORDS];
     shape_in(list, n, &mut heights)
 }
 

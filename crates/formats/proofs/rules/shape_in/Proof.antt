@@ -4,9 +4,13 @@ use Prim.Native.Nat.{ℕ, _+_, _-_, _≤_}
 use native.Mathlib.Omega.{arith}
 use lib.ListN.{length, length-set}
 use borrow.Author.Needs.{needs}
+use Rattle.formats.specs.Tree.{recAt, nextOf}
+use Rattle.formats.specs.Rules.{isA}
 use Rattle.formats.specs.Contract.Measure.{Measured}
 use Rattle.formats.specs.declared.record.Record.{Record}
+use Rattle.formats.specs.declared.record.Kind.the-variants.{Modifier}
 use Rattle.formats.specs.declared.record.Shape.the-variants.{Bad, Tall}
+use Rattle.formats.proofs.record.Shapes.{tall-least}
 use Rattle.formats.proofs.record.Heights.{measured-more, too-long, bad-inside, inner-shape}
 use Rattle.formats.proofs.rules.shape_in.Statement.{statement}
 use Rattle.formats.proofs.rules.shape_in.Tie as tie
@@ -33,6 +37,16 @@ bad c =
     let r = c .before .before .before .before .before .before .before .record-at in
     let i : ℕ = c .before .before .before .before .before .before .before .before .before .loop .i - 1 in
     sym (bad-inside (a .list .now) i (a .n) (omega arith) (inner-shape (a .list .now) i (r .result) (c .before .before .before .is-a .result) (c .before .before .stretch-shape .result) Bad (r .ensures .0) (c .before .before .before .is-a .ensures) (c .before .before .stretch-shape .ensures) (c .enum-told .given .1)))
+
+height-fits : tie.Need-cast-heights Inv μ
+height-fits c =
+    let a = c .before .before .before .before .before .before .before .before .before .before .before .before .before .args in
+    let r = c .before .before .before .before .before .before .before .before .record-at in
+    let i : ℕ = c .before .before .before .before .before .before .before .before .before .before .loop .i - 1 in
+    let g = c .before .inner .given in
+    let inside = inner-shape (a .list .now) i (r .result) (c .before .before .before .before .is-a .result) (c .before .before .before .stretch-shape .result) (Tall (g .0 .0)) (r .ensures .0) (c .before .before .before .before .is-a .ensures) (c .before .before .before .stretch-shape .ensures) (g .1) in
+    let e = ap (λ (x : Record). x .inside) (r .ensures .0) in
+    omega (arith, tall-least (isA (recAt (a .list .now) i) Modifier) (a .list .now) (i + 1) (nextOf (a .list .now) i) (g .0 .0) inside)
 
 again : tie.Need-loop-again Inv μ
 again c =
@@ -68,6 +82,7 @@ shape-in-spec =
     (λ c. search needs)
     (λ c. search needs)
     bad
+    height-fits
     (λ c. search needs)
     (λ c. omega arith)
     (λ c. omega arith)

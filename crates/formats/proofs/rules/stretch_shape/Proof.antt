@@ -26,6 +26,14 @@ bad c =
     let r = c .before .before .record-at in
     sym (l .inv .1 ∙ ap (joinAt (l .tall)) (turn-bad (a .bodies) (a .list .now) (l .at) (a .to) (r .result) (omega arith) (r .ensures .0) (sym (c .before .may-stand .ensures) ∙ not-true _ (c .if1 .taken))))
 
+height-fits : tie.Need-cast-larger Inv μ
+height-fits c =
+    let a = c .before .before .before .before .before .before .before .before .args in
+    let l = c .before .before .before .before .before .loop in
+    let r = c .before .before .before .record-at in
+    let e : r .result .inside ≡ recAt (a .list .now) (l .at) .inside = ap (λ (x : Record). x .inside) (r .ensures .0) in
+    omega (arith, tall-least (isA (recAt (a .list .now) (l .at)) Modifier) (a .list .now) (l .at + 1) (nextOf (a .list .now) (l .at)) (getD (a .heights .now) (l .at) 0) (c .before .before .before .before .before .before .before .before .pre .1 (l .at) (l .inv .0) (omega arith)))
+
 tall-fits : tie.Need-add-larger Inv μ
 tall-fits c =
     let a = c .before .before .before .before .before .before .before .before .args in
@@ -67,6 +75,7 @@ stretch-shape-spec =
     bad
     (λ c. omega arith)
     (λ c. omega arith)
+    height-fits
     tall-fits
     (λ c κs. tt)
     (λ c. omega arith)
