@@ -92,8 +92,5 @@ same-at zero i a d h = absurd (omega arith)
 same-at (suc n) zero a d h = refl
 same-at (suc n) (suc i) a d h = same-at n i a d (omega arith)
 
-pub cell-fresh : (n i : ℕ) → i < n → cell (fresh n) i ≡ record { kind = 0; inside = 0; words = replicate 3 0 }
-cell-fresh n i h = rw (same-at {A = ℕ} n i 0 0 h, same-at {A = List ℕ} n i (replicate 3 0) [] h)
-
 pub room-fresh : (n : ℕ) → Room (fresh n) n
 room-fresh n = omega (arith, length-replicate {A = ℕ} n 0, length-replicate {A = List ℕ} n (replicate 3 0))

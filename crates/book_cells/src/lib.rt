@@ -121,36 +121,3 @@ pub fn insert(
     store(kinds, insides, numbers, k, x);
     copy_within(kinds, insides, numbers, i, n, k + 1);
 }
-
-// The same where the inside lies from i on in another book.
-pub fn insert_from(
-    x: Entry,
-    from_kinds: &[u8],
-    from_insides: &[u8],
-    from_numbers: &[[u64; 3]],
-    i: usize,
-    kinds: &mut [u8],
-    insides: &mut [u8],
-    numbers: &mut [[u64; 3]],
-    k: usize,
-    e: usize,
-)
-    requires { ⌜ Plain x × Room (lent «from_kinds» «from_insides» «from_numbers») (i + x .inside) ⌝ }
-    requires { ⌜ (k ≤ e) × Room (lent kinds insides numbers) (e + (1 + x .inside)) ⌝ }
-    ensures { λ _. ⌜ Inserted (entering «from_kinds» «from_insides» «from_numbers») (entering kinds insides numbers) (leaving kinds insides numbers) i k e x ⌝ }
-{
-    let inside = x.inside as usize;
-    open_gap(kinds, insides, numbers, k, e, 1 + inside);
-    store(kinds, insides, numbers, k, x);
-    copy_in(
-        from_kinds,
-        from_insides,
-        from_numbers,
-        i,
-        inside,
-        kinds,
-        insides,
-        numbers,
-        k + 1,
-    );
-}

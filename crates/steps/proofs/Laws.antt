@@ -20,10 +20,6 @@ pub then-went : (w : Walked) → andThen w went ≡ w
 then-went (went st) = refl
 then-went (stopped q at b) = refl
 
--- a stopped walk stays stopped
-pub then-stopped : {w : Walked} {q : Refusal} {at : ℕ} {b : Bool} (g : State → Walked) → w ≡ stopped q at b → andThen w g ≡ stopped q at b
-then-stopped g e = ap (λ (u : Walked). andThen u g) e
-
 -- three in turn
 pub then-then : (w : Walked) (f g : State → Walked) → andThen (andThen w f) g ≡ andThen w (λ st. andThen (f st) g)
 then-then (went st) f g = refl

@@ -36,18 +36,6 @@ use Rattle.terms.proofs.Goodness.{pair-divs}
 
 -- ---- reading off a sum
 
--- a constant: one entry, which is 1
-pub constant-test : (k : ℕ) (p : Float) (i : Sum) (c : Complex) (r : Sum) → asConstant (and k p i c r) ≡ cond (isEmpty r && isOne k p) (at c) absent
-unfolding asConstant
-constant-test k p i c none = refl
-constant-test k p i c (and l q j d r) = refl
-
--- x itself: one entry, an X of power 1
-pub x-test : (k : ℕ) (p : Float) (i : Sum) (c : Complex) (r : Sum) → isX (and k p i c r) ≡ isEmpty r && (eqb k X && eq p one64)
-unfolding isX
-x-test k p i c none = refl
-x-test k p i c (and l q j d r) = refl
-
 -- an empty sum has no entries
 pub empty-size : (s : Sum) → isEmpty s ≡ eqb (size s) 0
 unfolding size
@@ -102,48 +90,14 @@ complex-flat (suc left) (and k p i c r) g =
 -- ---- whether there is a product: of two terms by the table's code, of a term and a sum, of two sums
 
 module _ (k : ℕ) (f : Sum → Bool) where
-  -- two powers
-  pub pair-powers : (l : ℕ) (j : Sum) → productCode k l ≡ addPowers → pairable k f l j ≡ true
-  pair-powers l j e = rw e
-
   -- two Divs: their insides decide
   pub pair-insides : (l : ℕ) (j : Sum) → productCode k l ≡ mulInsides → pairable k f l j ≡ f j
   pair-insides l j e = rw e
-
-  -- no other pair has one
-  pub pair-none : (l : ℕ) (j : Sum) → productCode k l ≡ noProduct → pairable k f l j ≡ false
-  pair-none l j e = rw e
 
   -- nothing left
   pub row-none : rowable k f none ≡ true
   unfolding rowable
   row-none = refl
-
-  -- a term that has one: the rest decides
-  pub row-more : (l : ℕ) (q : Float) (j : Sum) (d : Complex) (s : Sum) → pairable k f l j ≡ true → rowable k f (and l q j d s) ≡ rowable k f s
-  unfolding rowable
-  row-more l q j d s e = rw e
-
-  -- a term that has none
-  pub row-stop : (l : ℕ) (q : Float) (j : Sum) (d : Complex) (s : Sum) → pairable k f l j ≡ false → rowable k f (and l q j d s) ≡ false
-  unfolding rowable
-  row-stop l q j d s e = rw e
-
-module _ (b : Sum) where
-  -- nothing left
-  pub mulable-none : mulable none b ≡ true
-  unfolding mulable
-  mulable-none = refl
-
-  -- a row that has its products: the rest decides
-  pub mulable-more : (k : ℕ) (p : Float) (i : Sum) (c : Complex) (r : Sum) → rowable k (λ v. mulable i v) b ≡ true → mulable (and k p i c r) b ≡ mulable r b
-  unfolding mulable
-  mulable-more k p i c r e = rw e
-
-  -- a row that has not
-  pub mulable-stop : (k : ℕ) (p : Float) (i : Sum) (c : Complex) (r : Sum) → rowable k (λ v. mulable i v) b ≡ false → mulable (and k p i c r) b ≡ false
-  unfolding mulable
-  mulable-stop k p i c r e = rw e
 
 -- ---- products formed: of two terms, of the terms of the first in turn, of the whole
 
@@ -151,26 +105,12 @@ module _ (b : Sum) where
 pub term-powers : (x : Entry) (f : Sum → Outcome) (y : Entry) (v s : Sum) → eqb (x .kind) X ≡ true → mulTerm x f y v s ≡ formed Add (entry X 0 (x .num ⊕ y .num) (complex.times (x .coef) (y .coef))) none s
 term-powers x f y v s e = rw e
 
--- of two Divs whose insides have a product
-pub term-insides : (x : Entry) (f : Sum → Outcome) (y : Entry) (v s w : Sum) → eqb (x .kind) X ≡ false → f v ≡ sum w → mulTerm x f y v s ≡ formed Add (entry Div (size w) zero64 (complex.times (x .coef) (y .coef))) w s
-term-insides x f y v s w e h = rw (e, h)
-
 -- of two Divs where that is refused
 pub term-refused : (x : Entry) (f : Sum → Outcome) (y : Entry) (v s : Sum) (n : Refusal) → eqb (x .kind) X ≡ false → f v ≡ refused n → mulTerm x f y v s ≡ refused n
 term-refused x f y v s n e h = rw (e, h)
 
 module _ (b s : Sum) where
-  -- nothing left
-  pub into-none : mulInto none b s ≡ sum s
-  unfolding mulInto
-  into-none = refl
-
   module _ (k : ℕ) (p : Float) (i : Sum) (c : Complex) (r : Sum) where
-    -- a row that gives a sum: the rest goes on from it
-    pub into-sum : (u : Sum) → eachInto (mulTerm (entry k (size i) p c) (λ v. mulInto i v none)) s b ≡ sum u → mulInto (and k p i c r) b s ≡ mulInto r b u
-    unfolding mulInto
-    into-sum u h = rw h
-
     -- a row that is refused
     pub into-refused : (n : Refusal) → eachInto (mulTerm (entry k (size i) p c) (λ v. mulInto i v none)) s b ≡ refused n → mulInto (and k p i c r) b s ≡ refused n
     unfolding mulInto
@@ -221,10 +161,6 @@ module _ (x : Entry) (i : Sum) (y : Entry) (j : Sum) where
   pub able-alike : quotientCode (x .kind) (y .kind) ≡ alike → divable x i y j ≡ sameTerm x i y j
   able-alike e = rw e
 
-  -- no other pair
-  pub able-none : quotientCode (x .kind) (y .kind) ≡ noQuotient → divable x i y j ≡ false
-  able-none e = rw e
-
 -- the coefficient of a quotient of two terms, and where the term quotient's own coefficient is 1
 abbrev pub ratio : Entry → Entry → Complex
 ratio x y = complex.over (x .coef) (y .coef)
@@ -233,14 +169,6 @@ abbrev pub ratioOne : Entry → Entry → Complex
 ratioOne x y = complex.times (ratio x y) complex.one
 
 module _ (x y : Entry) (j s : Sum) where
-  -- X by X
-  pub over-powers : quotientCode (x .kind) (y .kind) ≡ xByX → divTerm y j x s ≡ formed Add (entry X 0 (cond (isOne (x .kind) (x .num)) (neg (y .num)) (x .num ⊖ y .num)) (ratioOne x y)) none s
-  over-powers e = rw e
-
-  -- 1 by Div
-  pub over-div-one : quotientCode (x .kind) (y .kind) ≡ xByDiv → isOne (x .kind) (x .num) ≡ true → divTerm y j x s ≡ addTimes (ratio x y) s j
-  over-div-one e h = rw (e, h)
-
   -- any other X by Div
   pub over-div : quotientCode (x .kind) (y .kind) ≡ xByDiv → isOne (x .kind) (x .num) ≡ false → divTerm y j x s ≡ andThenSum (product (xTo (x .num)) j) (λ w. addTimes (ratio x y) s w)
   over-div e h = rw (e, h)
@@ -249,10 +177,6 @@ module _ (x y : Entry) (j s : Sum) where
   pub over-other : quotientCode (x .kind) (y .kind) ≡ xByOther
       → divTerm y j x s ≡ formed Add (entry Div (size (single (y .kind) (y .num) j complex.one)) zero64 (ratioOne x y)) (single (y .kind) (y .num) j complex.one) s
   over-other e = rw e
-
-  -- two of one kind
-  pub over-alike : quotientCode (x .kind) (y .kind) ≡ alike → divTerm y j x s ≡ formed Add (entry X 0 one64 (ratioOne x y)) none s
-  over-alike e = rw e
 
 -- by one term
 pub quotient-one : (a : Sum) (l : ℕ) (q : Float) (j : Sum) (d : Complex) → quotient a (and l q j d none) ≡ unless (allDivable (entry l (size j) q d) j a) TooComplex (eachInto (λ x i s. divTerm (entry l (size j) q d) j x s) none a)

@@ -122,9 +122,6 @@ module _ (t : ℕ) where
   abbrev D-W : D-Start → Book
   D-W s = book (s .args .kinds .now) (s .args .insides .now) (s .args .numbers .now)
 
-  abbrev D-T : D-Beside → Book
-  D-T c = book (c .side-by-side .last .1 .1 .1 .1 .1 .1 .1 .0) (c .side-by-side .last .1 .1 .1 .1 .1 .1 .1 .1 .0) (c .side-by-side .last .1 .1 .1 .1 .1 .1 .1 .1 .1 .0)
-
   abbrev D-T′ : D-Made → Book
   D-T′ c = book (c .expr-mul .last .0) (c .expr-mul .last .1 .0) (c .expr-mul .last .1 .1 .0)
 

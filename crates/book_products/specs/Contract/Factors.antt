@@ -61,9 +61,6 @@ pub record Beside (b b′ : Book) (i n j m : ℕ) : Type 0 where
 abbrev pub behindBoth : ℕ
 behindBoth = 2 * sumEntries
 
-abbrev pub behindAll : ℕ
-behindAll = 3 * sumEntries
-
 -- a fact of every two factors, of a cells from i on and of c from j on, and of the sum of n cells from p on into which their product goes
 abbrev pub OfThree : Book → ℕ → ℕ → ℕ → ℕ → ℕ → ℕ → ℕ → ℕ → (Sum → Sum → Sum → Type 0) → Type 0
 OfThree b i a above j c below p n fact = (t v s : Sum) → Lies b i (i + a) above t → Lies b j (j + c) below v → Lies b p (p + n) sumLevels s → fact t v s

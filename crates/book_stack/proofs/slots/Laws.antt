@@ -30,10 +30,6 @@ slot-cell a a′ j i e = ap (λ (s : Slot). decoded (s .cell)) e
 slot-size : (a a′ : Arena) (j i : ℕ) → slot a′ j ≡ slot a i → getD (a′ .sizes) j 0 ≡ getD (a .sizes) i 0
 slot-size a a′ j i e = ap (λ (s : Slot). s .size) e
 
--- the fresh state: n slots of zeros
-pub space-fresh : (n : ℕ) → Space (record { cells = fresh n; sizes = replicate n 0 }) n
-space-fresh n = record { cells = room-fresh n; sizes = omega (arith, length-replicate {A = ℕ} n 0) }
-
 pub space-less : {a : Arena} {m n : ℕ} → m ≤ n → Space a n → Space a m
 space-less h s = record { cells = room-less h (s .cells); sizes = let z = s .sizes in omega arith }
 
@@ -236,7 +232,3 @@ stacked-sunk {a} {a′} {lo} {from} {to} {n} {xs} s up low room h = (
   stacked-moved from to n (s .copied) (space-less (omega arith) (space-same (s .outside .long) room)) xs up,
   stacked-below (s .outside) (omega arith) low,
 )
-
--- a block that was copied below itself stays
-pub stacked-copied : {a a′ : Arena} {from to n : ℕ} {xs : List Sum} → Sunk a a′ from to n → Stacked a from (from + n) xs → to + n ≤ from → Stacked a′ from (from + n) xs
-stacked-copied s up h = stacked-above (s .outside) h up

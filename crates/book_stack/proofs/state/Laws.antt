@@ -35,30 +35,6 @@ use Rattle.book_stack.specs.Contract.Parts.{withUsed, Tops, finished}
 pub does-as : {a b : Arena} {v : ℕ} {env : AlgebraEnv} {r : Ran} {f g : State → Walked} → ((st : State) → Stands a v env st → f st ≡ g st) → Does a b v env r f → Does a b v env r g
 does-as {b = b} {v} {r = r} e d = record { kept = d .kept; agrees = λ st s. subst (λ (w : Walked). Agree r b v w) (e st s) (d .agrees st s) }
 
--- one step after another
-pub does-then : {a b c : Arena} {v : ℕ} {env env₁ : AlgebraEnv} {r : Ran} {f g : State → Walked} → Does a b v env (Went env₁) f → Does b c v env₁ r g → Does a c v env r (λ st. andThen (f st) g)
-does-then {b = b} {c} {v} {env₁ = env₁} {r} {f} {g} d e = record { kept = outside-trans (d .kept) (e .kept); agrees = λ st s. go (f st) (d .agrees st s) }
-  where
-    go : (w : Walked) → Agree (Went env₁) b v w → Agree r c v (andThen w g)
-    go (went st) h = e .agrees st h
-    go (stopped q at b) h = absurd h
-
--- after a refusal nothing is done
-pub does-stopped : {a b : Arena} {v : ℕ} {env : AlgebraEnv} {q : Refusal} {p : ℕ} {x : Bool} {f : State → Walked} (g : State → Walked) → Does a b v env (Stopped q p x) f → Does a b v env (Stopped q p x) (λ st. andThen (f st) g)
-does-stopped {b = b} {v} {q = q} {p} {x} {f} g d = record { kept = d .kept; agrees = λ st s. go (f st) (d .agrees st s) }
-  where
-    go : (w : Walked) → Agree (Stopped q p x) b v w → Agree (Stopped q p x) b v (andThen w g)
-    go (went st) h = absurd h
-    go (stopped q′ at b) h = h
-
--- what a step asks for holds after a step
-pub ready-after : {a b : Arena} {v : ℕ} {env env₁ : AlgebraEnv} {f : State → Walked} → Ready a v env → Does a b v env (Went env₁) f → Ready b v env₁
-ready-after {b = b} {v} {env₁ = env₁} {f} y d = record { space = space-same (d .kept .long) (y .space); within = y .within; some = go (f (y .some .0)) (d .agrees (y .some .0) (y .some .1)) }
-  where
-    go : (w : Walked) → Agree (Went env₁) b v w → (st : State) × Stands b v env₁ st
-    go (went st) h = (st, h)
-    go (stopped q at x) h = absurd h
-
 -- a step that changes nothing
 pub does-nothing : (a : Arena) (v : ℕ) (env : AlgebraEnv) → Does a a v env (Went env) went
 does-nothing a v env = record { kept = outside-refl a 0 v; agrees = λ st s. s }
