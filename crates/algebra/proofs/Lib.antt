@@ -1,3 +1,3 @@
--- The root of algebra's laws.
+-- The root of the laws of algebra.
 pub mod Reading
 pub mod Lists

@@ -5,22 +5,22 @@ use mathlib.Core.Bool.{Bool, true, false, cond}
 use mathlib.Core.List.{List}
 use lib.Dec.{leb}
 use borrow.Author.Tests.{le-leb, lt-leb}
-use Rattle.book_cells.specs.Book.{Book}
+use Rattle.cells.specs.Contract.Book.{Book}
 use Rattle.limits.specs.declared.Refusal.{Refusal}
 use Rattle.limits.specs.declared.Refusal.the-variants.{NotHandled}
 use Rattle.limits.specs.Refusals.{refusalNo}
-use Rattle.trees.specs.Sums.{Sum}
-use Rattle.book_sums.specs.Contract.Lies.{Lies}
+use Rattle.sums.specs.Tree.Sums.{Sum}
+use Rattle.sums.specs.Contract.Lies.{Lies}
 use Rattle.formats.specs.Tree.{recordsIn}
-use Rattle.book_reading.specs.declared.env.AlgebraData.{AlgebraData}
-use Rattle.book_reading.specs.declared.env.AlgebraData.the-variants as gave
-use Rattle.book_reading.specs.Contract.Data.{DataAs}
-use Rattle.bodies.specs.Reading.{Read, done}
-use Rattle.bodies.specs.Reading as reading
-use Rattle.answers.specs.declared.Answer.{Answer}
-use Rattle.answers.specs.declared.Answer.the-variants as answer
-use Rattle.answers.specs.Making.{Made, refusedAt, answered, invert, Gives}
-use Rattle.answers.proofs.Giving.{gives-refusal}
+use Rattle.reading.specs.declared.env.AlgebraData.{AlgebraData}
+use Rattle.reading.specs.declared.env.AlgebraData.the-variants as gave
+use Rattle.reading.specs.Contract.Data.{DataAs}
+use Rattle.modifiers.specs.Reading.{Read, done}
+use Rattle.modifiers.specs.Reading as reading
+use Rattle.algebra.specs.declared.answer.Answer.{Answer}
+use Rattle.algebra.specs.declared.answer.Answer.the-variants as answer
+use Rattle.algebra.specs.Answer.Making.{Made, refusedAt, answered, invert, Gives}
+use Rattle.algebra.proofs.answer.Giving.{gives-refusal}
 use Rattle.algebra.specs.Entries.{afterRead, inverseOf}
 use Rattle.algebra.proofs.Reading.{gave-refused, gave-sum}
 

@@ -4,25 +4,25 @@ use native.Mathlib.Omega.{arith}
 use mathlib.Core.Path.{_≡_, refl, ap, subst}
 use mathlib.Core.Bool.{Bool, false}
 use mathlib.Core.List.{List}
-use Rattle.book_cells.specs.Book.{Book, Room}
+use Rattle.cells.specs.Contract.Book.{Book, Room}
 use Rattle.limits.specs.declared.Refusal.{Refusal}
-use Rattle.trees.specs.Sums.{Sum}
-use Rattle.book_sums.specs.Contract.Lies.{Lies, Held}
-use Rattle.book_cells.specs.Contract.Moves.{over}
-use Rattle.book_cells.proofs.Laws.{room-less}
-use Rattle.book_adding.specs.Contract.Operands.{Source}
+use Rattle.sums.specs.Tree.Sums.{Sum}
+use Rattle.sums.specs.Contract.Lies.{Lies, Held}
+use Rattle.cells.specs.Contract.Moves.{over}
+use Rattle.cells.proofs.Laws.{room-less}
+use Rattle.arithmetic.specs.Add.Contract.Operands.{Source}
 use Rattle.formats.specs.declared.record.Verdict.the-variants as verdict
 use Rattle.formats.specs.Rules as rules
 use Rattle.formats.specs.Tree.{parse}
-use Rattle.entries.specs.Encoding.{entriesIn}
-use Rattle.bodies.specs.Reading.{Read, done, refusedAt, readNodes}
-use Rattle.book_reading.specs.declared.env.AlgebraData.{AlgebraData}
-use Rattle.book_reading.specs.declared.env.AlgebraData.the-variants as gave
-use Rattle.book_reading.specs.Contract.Data.{DataAs}
-use Rattle.answers.specs.declared.Answer.{Answer}
-use Rattle.answers.specs.Promises.{Promise}
-use Rattle.answers.specs.Making.{Gives}
-use Rattle.answers.proofs.Giving.{gives-refusal}
+use Rattle.sums.specs.Entry.Encoding.{entriesIn}
+use Rattle.modifiers.specs.Reading.{Read, done, refusedAt, readNodes}
+use Rattle.reading.specs.declared.env.AlgebraData.{AlgebraData}
+use Rattle.reading.specs.declared.env.AlgebraData.the-variants as gave
+use Rattle.reading.specs.Contract.Data.{DataAs}
+use Rattle.algebra.specs.declared.answer.Answer.{Answer}
+use Rattle.algebra.specs.Answer.Promises.{Promise}
+use Rattle.algebra.specs.Answer.Making.{Gives}
+use Rattle.algebra.proofs.answer.Giving.{gives-refusal}
 use Rattle.algebra.specs.Reading.{readList, madeOf, flagOf, flagged, answerOf, bytesOf}
 use Rattle.algebra.specs.declared.ReadAnswer.{ReadAnswer}
 use Rattle.algebra.specs.declared.ReadAnswer.the-variants as answer

@@ -7,10 +7,10 @@ use Rattle.limits.specs.Limits.{lastReplaced}
 use Rattle.limits.specs.declared.Refusal.{Refusal}
 use Rattle.limits.specs.declared.Refusal.the-variants.{NotHandled}
 use Rattle.limits.specs.Refusals.{refusalNo}
-use Rattle.trees.specs.Sums.{Sum}
-use Rattle.bodies.specs.Reading as reading
-use Rattle.bodies.specs.Reading.{Read, done}
-use Rattle.answers.specs.Making.{Made, refusedAt, invert, deriveAndWrite, integrateAndWrite}
+use Rattle.sums.specs.Tree.Sums.{Sum}
+use Rattle.modifiers.specs.Reading as reading
+use Rattle.modifiers.specs.Reading.{Read, done}
+use Rattle.algebra.specs.Answer.Making.{Made, refusedAt, invert, deriveAndWrite, integrateAndWrite}
 use Rattle.algebra.specs.Reading.{readList}
 
 -- what was read goes on with its complex flag

@@ -1,4 +1,5 @@
--- The root of algebra's definitions.
+-- The root of the definitions of algebra.
 pub mod Reading
 pub mod Entries
 pub mod Replies
+pub mod Answer

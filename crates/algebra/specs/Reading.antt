@@ -7,13 +7,13 @@ use Rattle.formats.specs.declared.record.Verdict.{Verdict}
 use Rattle.formats.specs.declared.record.Verdict.the-variants as verdict
 use Rattle.formats.specs.Rules as rules
 use Rattle.formats.specs.Tree.{parse}
-use Rattle.entries.specs.Encoding.{entriesIn}
-use Rattle.bodies.specs.Reading.{Read, done, refusedAt, readNodes}
-use Rattle.answers.specs.declared.Answer.{Answer}
-use Rattle.answers.specs.declared.Answer.the-variants as given
-use Rattle.answers.specs.declared.Numbers.{Numbers}
-use Rattle.answers.specs.Making as making
-use Rattle.answers.specs.Making.{Made, ofSum, answered, written}
+use Rattle.sums.specs.Entry.Encoding.{entriesIn}
+use Rattle.modifiers.specs.Reading.{Read, done, refusedAt, readNodes}
+use Rattle.algebra.specs.declared.answer.Answer.{Answer}
+use Rattle.algebra.specs.declared.answer.Answer.the-variants as given
+use Rattle.algebra.specs.declared.answer.Numbers.{Numbers}
+use Rattle.algebra.specs.Answer.Making as making
+use Rattle.algebra.specs.Answer.Making.{Made, ofSum, answered, written}
 use Rattle.algebra.specs.declared.ReadAnswer.{ReadAnswer}
 use Rattle.algebra.specs.declared.ReadAnswer.the-variants as answer
 

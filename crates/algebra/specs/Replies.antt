@@ -8,18 +8,18 @@ use Rattle.numbers.specs.Signs.{zero64}
 use Rattle.limits.specs.declared.Refusal.{Refusal}
 use Rattle.limits.specs.Refusals.{refusalNo}
 use Rattle.formats.specs.Tree.{recordsIn}
-use Rattle.entries.specs.Encoding.{entriesIn}
+use Rattle.sums.specs.Entry.Encoding.{entriesIn}
 use Rattle.running.specs.declared.RunAnswer.{RunAnswer}
 use Rattle.running.specs.declared.RunNumbers.{RunNumbers}
 use Rattle.running.specs.Running.{runList, numbersOf}
-use Rattle.costs.specs.declared.CostAnswer.{CostAnswer}
-use Rattle.costs.specs.declared.CostNumbers.{CostNumbers}
-use Rattle.costs.specs.Cost.{costList, costNumbers}
-use Rattle.answers.specs.declared.Answer.{Answer}
-use Rattle.answers.specs.declared.Numbers.{Numbers}
-use Rattle.answers.specs.Promises.{Promise}
-use Rattle.answers.specs.Making as making
-use Rattle.answers.specs.Making.{answerNumbers, Gives, OfBytes}
+use Rattle.reading.specs.declared.cost.CostAnswer.{CostAnswer}
+use Rattle.reading.specs.declared.cost.CostNumbers.{CostNumbers}
+use Rattle.reading.specs.Cost.Cost.{costList, costNumbers}
+use Rattle.algebra.specs.declared.answer.Answer.{Answer}
+use Rattle.algebra.specs.declared.answer.Numbers.{Numbers}
+use Rattle.algebra.specs.Answer.Promises.{Promise}
+use Rattle.algebra.specs.Answer.Making as making
+use Rattle.algebra.specs.Answer.Making.{answerNumbers, Gives, OfBytes}
 use Rattle.algebra.specs.declared.ReadAnswer.{ReadAnswer}
 use Rattle.algebra.specs.Reading.{readList, answerOf, bytesOf, readNumbers}
 use Rattle.algebra.specs.Entries as lists

@@ -1,37 +1,39 @@
 // The entries. None asks anything of its caller: every byte list gets a result or one refusal, and a refusal changes no output byte.
-use answers::Answer;
-use answers::Numbers;
-use book_reading::env::AlgebraData;
-use book_stack::slots::ARENA;
-use book_stack::slots::WORKING;
-use costs::CostAnswer;
-use entries::Taken;
+pub mod answer;
+
+use crate::answer::Answer;
+use crate::answer::Numbers;
 use formats::record::Verdict;
 use limits::LAST_REPLACED;
 use limits::Refusal;
 use limits::SUM_ENTRIES;
+use reading::cost::CostAnswer;
+use reading::env::AlgebraData;
 use running::RunAnswer;
-ghost use mathlib.Core.Path.{_≡_};
+use stack::slots::ARENA;
+use stack::slots::WORKING;
+use sums::entry::Taken;
 ghost use Prim.Native.Nat.{_+_, _≤_};
+ghost use Rattle.algebra.specs.Answer.Making.{answered, Gives, OfBytes};
+ghost use Rattle.algebra.specs.Answer.Promises.{Promise};
+ghost use Rattle.algebra.specs.Reading.{readList, flagged, answerOf, bytesOf, readNumbers};
+ghost use Rattle.algebra.specs.Replies.{Promised, ofRead, ofAnswer, ofRun, ofCost};
+ghost use Rattle.cells.specs.Contract.Book.{lent, entering, leaving};
+ghost use Rattle.formats.specs.Tree.{recordsIn};
+ghost use Rattle.limits.specs.Limits.{sumEntries, sumLevels};
+ghost use Rattle.modifiers.specs.Reading.{done, refusedAt};
+ghost use Rattle.reading.specs.Contract.Data.{DataAs};
+ghost use Rattle.running.specs.Running.{runList};
+ghost use Rattle.stack.specs.Contract.Arena.{arena, Space, working, places};
+ghost use Rattle.sums.specs.Contract.Lies.{Lies, Held, OfOne};
+ghost use Rattle.sums.specs.Entry.Encoding.{entriesIn};
+ghost use Rattle.sums.specs.Tree.Sums.{Sum};
 ghost use mathlib.Core.Bool.{Bool};
 ghost use mathlib.Core.List.{[]};
-ghost use Rattle.limits.specs.Limits.{sumEntries, sumLevels};
-ghost use Rattle.trees.specs.Sums.{Sum};
-ghost use Rattle.book_cells.specs.Book.{lent, entering, leaving};
-ghost use Rattle.book_sums.specs.Contract.Lies.{Lies, Held, OfOne};
-ghost use Rattle.book_stack.specs.Contract.Arena.{arena, Space, working, places};
-ghost use Rattle.formats.specs.Tree.{recordsIn};
-ghost use Rattle.entries.specs.Encoding.{entriesIn};
-ghost use Rattle.bodies.specs.Reading.{done, refusedAt};
-ghost use Rattle.book_reading.specs.Contract.Data.{DataAs};
-ghost use Rattle.running.specs.Running.{runList};
-ghost use Rattle.answers.specs.Promises.{Promise};
-ghost use Rattle.answers.specs.Making as making;
-ghost use Rattle.answers.specs.Making.{answered, Gives, OfBytes};
-ghost use Rattle.algebra.specs.Reading.{readList, flagged, answerOf, bytesOf, readNumbers};
+ghost use mathlib.Core.Path.{_≡_};
+ghost use Rattle.algebra.specs.Answer.Making as making;
 ghost use Rattle.algebra.specs.Entries as lists;
 ghost use Rattle.algebra.specs.Replies as entry;
-ghost use Rattle.algebra.specs.Replies.{Promised, ofRead, ofAnswer, ofRun, ofCost};
 
 // What `read` answers: a sum of so many entries, with the complex flag, or a refusal with its place.
 pub enum ReadAnswer {
@@ -74,7 +76,7 @@ fn read_sum(
 {
     match formats::rules::check(list) {
         Verdict::Refused(q) => AlgebraData::Refused(q, 0, false),
-        Verdict::Good => book_reading::env::nodes_expr(list, kinds, insides, numbers, sizes),
+        Verdict::Good => reading::env::nodes_expr(list, kinds, insides, numbers, sizes),
     }
 }
 
@@ -100,7 +102,7 @@ fn put_read(
     requires { ⌜ (n ≤ sumEntries) × Held (lent kinds insides numbers) working (working + n) sumLevels ⌝ }
     ensures { λ r. ⌜ ((s : Sum) (h : Bool) → Lies (entering kinds insides numbers) working (working + n) sumLevels s → Promise (answerOf (done s complex h)) (bytesOf (done s complex h)) (now (out .entry)) (now (out .exit)) r) ⌝ }
 {
-    let answer = answers::put_out(kinds, insides, numbers, WORKING, n, out);
+    let answer = crate::answer::put_out(kinds, insides, numbers, WORKING, n, out);
     flagged(complex, answer)
 }
 
@@ -130,7 +132,7 @@ pub fn derivative(list: &[u8], out: &mut [u8]) -> Answer
     let data = read_sum(list, &mut kinds, &mut insides, &mut numbers, &mut sizes);
     match data {
         AlgebraData::Refused(q, at, _) => Answer::Refused(q, at),
-        AlgebraData::Sum(n, complex, _) => answers::derive_and_write(
+        AlgebraData::Sum(n, complex, _) => crate::answer::derive_and_write(
             &mut kinds,
             &mut insides,
             &mut numbers,
@@ -154,7 +156,7 @@ pub fn integral(list: &[u8], out: &mut [u8]) -> Answer
     let data = read_sum(list, &mut kinds, &mut insides, &mut numbers, &mut sizes);
     match data {
         AlgebraData::Refused(q, at, _) => Answer::Refused(q, at),
-        AlgebraData::Sum(n, complex, _) => answers::integrate_and_write(
+        AlgebraData::Sum(n, complex, _) => crate::answer::integrate_and_write(
             &mut kinds,
             &mut insides,
             &mut numbers,
@@ -196,7 +198,7 @@ fn invert_read(
     if !handled {
         return Answer::Refused(Refusal::NotHandled, 0);
     }
-    answers::invert(kinds, insides, numbers, WORKING, n, complex, out)
+    crate::answer::invert(kinds, insides, numbers, WORKING, n, complex, out)
 }
 
 // From a list to the list that undoes it.
@@ -228,10 +230,10 @@ pub fn derive(sum: &[u8], out: &mut [u8]) -> Answer
     let mut kinds = [0u8; SUM_PLACES];
     let mut insides = [0u8; SUM_PLACES];
     let mut numbers = [[0u64; 3]; SUM_PLACES];
-    let taken = book_entries::bytes::take_in(&mut kinds, &mut insides, &mut numbers, sum);
+    let taken = sums::bytes::take_in(&mut kinds, &mut insides, &mut numbers, sum);
     match taken {
         Taken::Refused(q) => Answer::Refused(q, 0),
-        Taken::Sum(n) => answers::derive(
+        Taken::Sum(n) => crate::answer::derive(
             &mut kinds,
             &mut insides,
             &mut numbers,
@@ -250,10 +252,10 @@ pub fn integrate(sum: &[u8], out: &mut [u8]) -> Answer
     let mut kinds = [0u8; SUM_PLACES];
     let mut insides = [0u8; SUM_PLACES];
     let mut numbers = [[0u64; 3]; SUM_PLACES];
-    let taken = book_entries::bytes::take_in(&mut kinds, &mut insides, &mut numbers, sum);
+    let taken = sums::bytes::take_in(&mut kinds, &mut insides, &mut numbers, sum);
     match taken {
         Taken::Refused(q) => Answer::Refused(q, 0),
-        Taken::Sum(n) => answers::integrate(
+        Taken::Sum(n) => crate::answer::integrate(
             &mut kinds,
             &mut insides,
             &mut numbers,
@@ -272,10 +274,10 @@ pub fn write(sum: &[u8], complex: bool, out: &mut [u8]) -> Answer
     let mut kinds = [0u8; SUM_PLACES];
     let mut insides = [0u8; SUM_PLACES];
     let mut numbers = [[0u64; 3]; SUM_PLACES];
-    let taken = book_entries::bytes::take_in(&mut kinds, &mut insides, &mut numbers, sum);
+    let taken = sums::bytes::take_in(&mut kinds, &mut insides, &mut numbers, sum);
     match taken {
         Taken::Refused(q) => Answer::Refused(q, 0),
-        Taken::Sum(n) => answers::write_sum(&kinds, &insides, &numbers, 0, n, complex, out),
+        Taken::Sum(n) => crate::answer::write_sum(&kinds, &insides, &numbers, 0, n, complex, out),
     }
 }
 
@@ -294,5 +296,5 @@ pub fn run(list: &[u8], x: f64) -> RunAnswer
 pub fn cost(list: &[u8]) -> CostAnswer
     ensures { λ r. ⌜ Promised entry.cost (now (list .entry)) [] [] (ofCost r) ⌝ }
 {
-    costs::cost(list)
+    reading::cost::cost(list)
 }

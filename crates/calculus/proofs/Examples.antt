@@ -6,14 +6,14 @@ use mathlib.Core.List.{[], _∷_}
 use lib.Ieee.{Float, neg, add, sub, mul, div, eq, lt, ofBits}
 use Rattle.numbers.specs.Constants.{euler, two64}
 use Rattle.numbers.specs.Signs.{zero64, one64}
-use Rattle.complex.specs.declared.Complex.{Complex}
-use Rattle.complex.specs.Arith as complex
-use Rattle.trees.specs.Kinds as kinds
-use Rattle.trees.specs.Sums.{Sum, none, and, size, len, levels}
-use Rattle.trees.specs.Order.{cmpEach}
-use Rattle.trees.specs.Same.{sameSum}
-use Rattle.trees.specs.Map.{sum, at, coefIn, putIn, formed, eachInto}
-use Rattle.terms.specs.Singles.{constant}
+use Rattle.numbers.specs.declared.complex.Complex.{Complex}
+use Rattle.numbers.specs.Complex.Arith as complex
+use Rattle.sums.specs.Tree.Kinds as kinds
+use Rattle.sums.specs.Tree.Sums.{Sum, none, and, size, len, levels}
+use Rattle.sums.specs.Tree.Order.{cmpEach}
+use Rattle.sums.specs.Tree.Same.{sameSum}
+use Rattle.sums.specs.Tree.Map.{sum, at, coefIn, putIn, formed, eachInto}
+use Rattle.arithmetic.specs.Singles.{constant}
 use Rattle.calculus.specs.Derivative.{primeFrom, deriveInto, derive}
 use Rattle.calculus.specs.Integral.{x, integrateInto, integrate}
 use Rattle.calculus.specs.Rules.{slopesAt, allVanish, lastAt, lastLog}

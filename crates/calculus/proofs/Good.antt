@@ -11,22 +11,22 @@ use lib.Ieee.Scale.{finite}
 use Rattle.numbers.specs.Constants.{euler}
 use Rattle.numbers.specs.Ops.{_⊕_, _⊖_}
 use Rattle.numbers.specs.Signs.{zero64, one64}
-use Rattle.complex.specs.declared.Complex.{Complex}
-use Rattle.complex.specs.Arith as complex
+use Rattle.numbers.specs.declared.complex.Complex.{Complex}
+use Rattle.numbers.specs.Complex.Arith as complex
 use Rattle.cells.specs.declared.Entry.{Entry}
-use Rattle.trees.specs.declared.Merge.{Merge}
-use Rattle.trees.specs.declared.Merge.the-variants.{Add, Take, Store}
+use Rattle.sums.specs.declared.tree.Merge.{Merge}
+use Rattle.sums.specs.declared.tree.Merge.the-variants.{Add, Take, Store}
 use Rattle.limits.specs.declared.Refusal.the-variants.{TooComplex}
-use Rattle.trees.specs.Kinds as kinds
-use Rattle.trees.specs.Sums.{Sum, none, and, size, entry}
-use Rattle.trees.specs.Same.{sameSum}
-use Rattle.trees.specs.Good.{isNumber, isEmpty, GoodEntry, Good}
-use Rattle.trees.specs.Map.{Outcome, sum, refused, Found, at, absent, formed, eachInto}
-use Rattle.trees.proofs.Keeps.{Fits, GoodHead, good-head, good-more}
-use Rattle.terms.specs.Singles.{GoodSum, isX}
-use Rattle.terms.specs.Product.{product}
-use Rattle.terms.proofs.Steps.{never, differ, sum-is, then-sum, unless-sum, either}
-use Rattle.terms.proofs.Goodness.{fits-times, fits-negated, x-head, over-head, good-formed, good-every, each-good, GoodTerm, none-good, good-zero, good-xTo, good-product}
+use Rattle.sums.specs.Tree.Kinds as kinds
+use Rattle.sums.specs.Tree.Sums.{Sum, none, and, size, entry}
+use Rattle.sums.specs.Tree.Same.{sameSum}
+use Rattle.sums.specs.Tree.Good.{isNumber, isEmpty, GoodEntry, Good}
+use Rattle.sums.specs.Tree.Map.{Outcome, sum, refused, Found, at, absent, formed, eachInto}
+use Rattle.sums.proofs.tree.Keeps.{Fits, GoodHead, good-head, good-more}
+use Rattle.arithmetic.specs.Singles.{GoodSum, isX}
+use Rattle.arithmetic.specs.Product.{product}
+use Rattle.arithmetic.proofs.Steps.{never, differ, sum-is, then-sum, unless-sum, either}
+use Rattle.arithmetic.proofs.Goodness.{fits-times, fits-negated, x-head, over-head, good-formed, good-every, each-good, GoodTerm, none-good, good-zero, good-xTo, good-product}
 use Rattle.calculus.specs.declared.Ln.{Ln}
 use Rattle.calculus.specs.declared.Ln.the-variants.{Is, Other}
 use Rattle.calculus.specs.Derivative.{slope, vanishes, prime, byPrime, firstCoef, turnedTo, byLn, deriveX, deriveDiv, deriveExp, deriveBy, lnOf, deriveLog, deriveInto, orZero, derive}

@@ -13,22 +13,22 @@ use Rattle.numbers.specs.Constants.{euler}
 use Rattle.numbers.specs.Ops.{_⊕_, _⊖_}
 use Rattle.numbers.specs.Signs.{zero64, one64}
 use Rattle.numbers.proofs.Unity.{more-1-finite, less-1-finite}
-use Rattle.complex.specs.declared.Complex.{Complex}
-use Rattle.complex.specs.Arith as complex
+use Rattle.numbers.specs.declared.complex.Complex.{Complex}
+use Rattle.numbers.specs.Complex.Arith as complex
 use Rattle.cells.specs.declared.Entry.{Entry}
 use Rattle.limits.specs.declared.Refusal.{Refusal}
 use Rattle.limits.specs.declared.Refusal.the-variants.{TooComplex, NeedsMath, PowerNotFinite}
-use Rattle.trees.specs.declared.Merge.{Merge}
-use Rattle.trees.specs.declared.Merge.the-variants.{Add, Take, Store}
-use Rattle.trees.specs.Kinds as kinds
-use Rattle.trees.specs.Sums.{Sum, none, and, size, entry}
-use Rattle.trees.specs.Good.{isNumber, GoodEntry, Good}
-use Rattle.trees.specs.Same.{sameSum}
-use Rattle.trees.specs.Map.{Outcome, sum, refused, Found, at, absent, andThenSum, unless, formed, eachInto, Has}
-use Rattle.trees.proofs.Keeps.{refused-is, not-refused, each-refusal}
-use Rattle.trees.proofs.Overflow.{other-refusal, overflowed}
-use Rattle.terms.specs.Singles.{isX}
-use Rattle.terms.specs.Product.{product}
+use Rattle.sums.specs.declared.tree.Merge.{Merge}
+use Rattle.sums.specs.declared.tree.Merge.the-variants.{Add, Take, Store}
+use Rattle.sums.specs.Tree.Kinds as kinds
+use Rattle.sums.specs.Tree.Sums.{Sum, none, and, size, entry}
+use Rattle.sums.specs.Tree.Good.{isNumber, GoodEntry, Good}
+use Rattle.sums.specs.Tree.Same.{sameSum}
+use Rattle.sums.specs.Tree.Map.{Outcome, sum, refused, Found, at, absent, andThenSum, unless, formed, eachInto, Has}
+use Rattle.sums.proofs.tree.Keeps.{refused-is, not-refused, each-refusal}
+use Rattle.sums.proofs.tree.Overflow.{other-refusal, overflowed}
+use Rattle.arithmetic.specs.Singles.{isX}
+use Rattle.arithmetic.specs.Product.{product}
 use Rattle.calculus.specs.declared.Ln.{Ln}
 use Rattle.calculus.specs.declared.Ln.the-variants.{Is, Other}
 use Rattle.calculus.specs.Derivative.{slope, vanishes, prime, byPrime, firstCoef, turnedTo, byLn, lnOf, deriveX, deriveDiv, deriveExp, deriveBy, deriveLog, deriveInto, orZero, derive}

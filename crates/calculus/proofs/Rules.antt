@@ -22,26 +22,26 @@ use Rattle.numbers.proofs.Bools.{T-of}
 use Rattle.numbers.proofs.Order.{eq-symmetric, eq-transitive, then-equal-both}
 use Rattle.numbers.proofs.Wholes.{means-finite, less-1, less-1-eq, more-1, more-1-eq}
 use Rattle.numbers.proofs.Zeros.{eq-self}
-use Rattle.complex.specs.declared.Complex.{Complex}
-use Rattle.complex.specs.Arith as complex
+use Rattle.numbers.specs.declared.complex.Complex.{Complex}
+use Rattle.numbers.specs.Complex.Arith as complex
 use Rattle.cells.specs.declared.Entry.{Entry}
-use Rattle.trees.specs.declared.Merge.the-variants.{Add, Store}
-use Rattle.trees.specs.Kinds as kinds
-use Rattle.trees.specs.Sums.{Sum, none, and, size, entry}
-use Rattle.trees.specs.Order.{cmpNat, cmpHead, cmpSum, cmpTerm}
-use Rattle.trees.specs.Same.{sameSum}
-use Rattle.trees.specs.Good.{isEmpty, GoodEntry, Good}
-use Rattle.trees.specs.Map.{byOrder, sum, Found, at, absent, formed, eachInto, lookup, Has, here, there}
-use Rattle.trees.proofs.Order.{Finite, Key, good-finite, good-key, nat-equal, term-self}
-use Rattle.trees.proofs.Keeps.{Fits, Formed, formed-sum, good-head, good-more}
-use Rattle.trees.proofs.Lookup.{lookup-other, lookup-before}
-use Rattle.trees.proofs.Same.{alone-same}
-use Rattle.terms.specs.Singles.{GoodSum, constant, Expressible}
-use Rattle.terms.specs.Powers.{PowerSum, coefAt, where-is, totalAt}
-use Rattle.terms.proofs.Steps.{never, differ, sum-is, then-sum, either, and-both}
-use Rattle.terms.proofs.Goodness.{x-head, none-good, good-formed}
-use Rattle.terms.proofs.Agree.{then-fine, formed-fine}
-use Rattle.terms.proofs.Calculus.{xKey, coef-found, put-found, gained, gained-total, gained-x, put-powers}
+use Rattle.sums.specs.declared.tree.Merge.the-variants.{Add, Store}
+use Rattle.sums.specs.Tree.Kinds as kinds
+use Rattle.sums.specs.Tree.Sums.{Sum, none, and, size, entry}
+use Rattle.sums.specs.Tree.Order.{cmpNat, cmpHead, cmpSum, cmpTerm}
+use Rattle.sums.specs.Tree.Same.{sameSum}
+use Rattle.sums.specs.Tree.Good.{isEmpty, GoodEntry, Good}
+use Rattle.sums.specs.Tree.Map.{byOrder, sum, Found, at, absent, formed, eachInto, lookup, Has, here, there}
+use Rattle.sums.proofs.tree.Order.{Finite, Key, good-finite, good-key, nat-equal, term-self}
+use Rattle.sums.proofs.tree.Keeps.{Fits, Formed, formed-sum, good-head, good-more}
+use Rattle.sums.proofs.tree.Lookup.{lookup-other, lookup-before}
+use Rattle.sums.proofs.tree.Same.{alone-same}
+use Rattle.arithmetic.specs.Singles.{GoodSum, constant, Expressible}
+use Rattle.arithmetic.specs.Powers.{PowerSum, coefAt, where-is, totalAt}
+use Rattle.arithmetic.proofs.Steps.{never, differ, sum-is, then-sum, either, and-both}
+use Rattle.arithmetic.proofs.Goodness.{x-head, none-good, good-formed}
+use Rattle.arithmetic.proofs.Agree.{then-fine, formed-fine}
+use Rattle.arithmetic.proofs.Calculus.{xKey, coef-found, put-found, gained, gained-total, gained-x, put-powers}
 use Rattle.calculus.specs.Derivative.{slope, vanishes, deriveX, deriveInto, orZero, derive}
 use Rattle.calculus.specs.Integral.{x, stored, integrateX, integrateInto, integrate}
 use Rattle.calculus.specs.Rules.{WholePowers, slopeAt, slopesAt, allVanish, later, dividedAt, lastAt, lastLog, logKey}

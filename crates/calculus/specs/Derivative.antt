@@ -6,17 +6,17 @@ use lib.Ieee.{Float, eq, binary64, ofBits}
 use Rattle.numbers.specs.Constants.{euler, ln2, ln10, two64}
 use Rattle.numbers.specs.Ops.{_⊖_}
 use Rattle.numbers.specs.Signs.{zero64, one64}
-use Rattle.complex.specs.declared.Complex.{Complex}
-use Rattle.complex.specs.Arith as complex
+use Rattle.numbers.specs.declared.complex.Complex.{Complex}
+use Rattle.numbers.specs.Complex.Arith as complex
 use Rattle.cells.specs.declared.Entry.{Entry}
-use Rattle.trees.specs.declared.Merge.{Merge}
-use Rattle.trees.specs.declared.Merge.the-variants.{Add, Take}
+use Rattle.sums.specs.declared.tree.Merge.{Merge}
+use Rattle.sums.specs.declared.tree.Merge.the-variants.{Add, Take}
 use Rattle.limits.specs.declared.Refusal.the-variants.{TooComplex, NeedsMath}
-use Rattle.trees.specs.Kinds as kinds
-use Rattle.trees.specs.Sums.{Sum, none, and, size, entry}
-use Rattle.trees.specs.Map.{Outcome, sum, refused, Found, at, absent, andThenSum, unless, formed, eachInto}
-use Rattle.terms.specs.Singles.{constant, isX}
-use Rattle.terms.specs.Product.{product}
+use Rattle.sums.specs.Tree.Kinds as kinds
+use Rattle.sums.specs.Tree.Sums.{Sum, none, and, size, entry}
+use Rattle.sums.specs.Tree.Map.{Outcome, sum, refused, Found, at, absent, andThenSum, unless, formed, eachInto}
+use Rattle.arithmetic.specs.Singles.{constant, isX}
+use Rattle.arithmetic.specs.Product.{product}
 use Rattle.calculus.specs.declared.Ln.{Ln}
 use Rattle.calculus.specs.declared.Ln.the-variants.{Is, Other}
 

@@ -5,17 +5,17 @@ use lib.Ieee.{Float, eq}
 use Rattle.numbers.specs.Constants.{euler}
 use Rattle.numbers.specs.Ops.{_⊕_}
 use Rattle.numbers.specs.Signs.{zero64, one64}
-use Rattle.complex.specs.declared.Complex.{Complex}
-use Rattle.complex.specs.Arith as complex
+use Rattle.numbers.specs.declared.complex.Complex.{Complex}
+use Rattle.numbers.specs.Complex.Arith as complex
 use Rattle.cells.specs.declared.Entry.{Entry}
 use Prim.Native.Nat.{ℕ}
-use Rattle.trees.specs.declared.Merge.the-variants.{Store}
+use Rattle.sums.specs.declared.tree.Merge.the-variants.{Store}
 use Rattle.limits.specs.declared.Refusal.the-variants.{TooComplex}
-use Rattle.trees.specs.Kinds as kinds
-use Rattle.trees.specs.Sums.{Sum, none, entry}
-use Rattle.trees.specs.Same.{sameSum}
-use Rattle.trees.specs.Map.{Outcome, refused, unless, formed, eachInto}
-use Rattle.terms.specs.Quotient.{xTo}
+use Rattle.sums.specs.Tree.Kinds as kinds
+use Rattle.sums.specs.Tree.Sums.{Sum, none, entry}
+use Rattle.sums.specs.Tree.Same.{sameSum}
+use Rattle.sums.specs.Tree.Map.{Outcome, refused, unless, formed, eachInto}
+use Rattle.arithmetic.specs.Quotient.{xTo}
 
 -- x, the argument of what is stored
 abbrev pub x : Sum

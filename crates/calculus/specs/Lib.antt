@@ -1,4 +1,4 @@
--- The root of calculus' definitions.
+-- The root of the definitions of calculus.
 pub mod Derivative
 pub mod Integral
 pub mod Rules

@@ -10,13 +10,13 @@ use Rattle.numbers.specs.Constants.{euler}
 use Rattle.numbers.specs.Ops.{_⊕_, _⊖_}
 use Rattle.numbers.specs.Signs.{zero64, one64}
 use Rattle.numbers.specs.Wholes.{Means}
-use Rattle.complex.specs.declared.Complex.{Complex}
-use Rattle.complex.specs.Arith as complex
+use Rattle.numbers.specs.declared.complex.Complex.{Complex}
+use Rattle.numbers.specs.Complex.Arith as complex
 use Rattle.cells.specs.declared.Entry.{Entry}
-use Rattle.trees.specs.Kinds as kinds
-use Rattle.trees.specs.Sums.{Sum, none, and, entry}
-use Rattle.trees.specs.Map.{Found, at, absent}
-use Rattle.terms.specs.Powers.{where-is}
+use Rattle.sums.specs.Tree.Kinds as kinds
+use Rattle.sums.specs.Tree.Sums.{Sum, none, and, entry}
+use Rattle.sums.specs.Tree.Map.{Found, at, absent}
+use Rattle.arithmetic.specs.Powers.{where-is}
 use Rattle.calculus.specs.Derivative.{slope, vanishes}
 
 -- each power of x is a whole number of which near holds: Near, that 1 can be taken from it exactly, or NearUp, that 1 can be added

@@ -1,9 +1,14 @@
 // What the derivative and the integral of a sum are, with their laws, and what the code of both asks of one entry.
-use complex::Complex;
-use trees::Merge;
-ghost use mathlib.Core.Path.{_≡_};
+// The derivative and the integral of a sum that lies in a book of three arrays. The sum lies apart from twice the places of a sum from w on: the result is
+// formed in the first SUM_ENTRIES of them, the others are to work in, and no other place is written.
+pub mod derivative;
+pub mod integral;
+
+use numbers::complex::Complex;
+use sums::tree::Merge;
+ghost use Rattle.calculus.specs.Contract.Turned.{turnedKind, turnedHow};
 ghost use Rattle.calculus.specs.Derivative.{slope, vanishes, lnOf};
-ghost use Rattle.calculus.specs.Contract.Into.{turnedKind, turnedHow};
+ghost use mathlib.Core.Path.{_≡_};
 
 // The natural logarithm of a base, where it is known.
 pub enum Ln {
@@ -44,23 +49,23 @@ pub fn vanishes(p: f64, c: Complex) -> bool
 pub fn turned_kind(kind: u8) -> u8
     ensures { λ r. ⌜ r ≡ turnedKind kind ⌝ }
 {
-    if kind == trees::SIN {
-        return trees::COS;
+    if kind == sums::tree::SIN {
+        return sums::tree::COS;
     }
-    if kind == trees::COS {
-        return trees::SIN;
+    if kind == sums::tree::COS {
+        return sums::tree::SIN;
     }
-    if kind == trees::SINH {
-        return trees::COSH;
+    if kind == sums::tree::SINH {
+        return sums::tree::COSH;
     }
-    trees::SINH
+    sums::tree::SINH
 }
 
 // The derivative of cos is taken away.
 pub fn turned_how(kind: u8) -> Merge
     ensures { λ r. ⌜ r ≡ turnedHow kind ⌝ }
 {
-    if kind == trees::COS {
+    if kind == sums::tree::COS {
         Merge::Take
     } else {
         Merge::Add

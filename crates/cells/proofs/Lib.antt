@@ -1,2 +1,4 @@
--- The root of cells' laws.
+-- The root of the laws of cells.
+pub mod Bits
 pub mod Laws
+pub mod Writes

@@ -1,4 +1,4 @@
--- The root of formats' definitions.
+-- The root of the definitions of formats.
 pub mod Names
 pub mod Table
 pub mod Bytes

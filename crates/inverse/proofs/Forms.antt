@@ -3,14 +3,14 @@ use mathlib.Core.Path.{_≡_, refl, ap, _∙_, sym}
 use mathlib.Core.Bool.{Bool, true, false, _&&_, cond}
 use mathlib.Core.List.{List, [], _∷_, _++_}
 use Rattle.numbers.specs.Constants.{half64, two64}
-use Rattle.complex.specs.declared.Complex.{Complex}
-use Rattle.complex.specs.Arith as complex
+use Rattle.numbers.specs.declared.complex.Complex.{Complex}
+use Rattle.numbers.specs.Complex.Arith as complex
 use Rattle.numbers.specs.Signs.{one64}
 use lib.Ieee.{Float, binary64, eq, neg, ofBits}
 use Rattle.limits.specs.declared.Refusal.the-variants.{TooComplex, NeedsMath}
 use Rattle.formats.specs.declared.record.Primitive.the-variants as prim
 use Rattle.formats.specs.Tree.{end}
-use Rattle.drafts.specs.Writing.{refused}
+use Rattle.writing.specs.Draft.Writing.{refused}
 use Rattle.inverse.specs.Inverse.{Word, num, act, spell, minusFour64, minusOne64, lessConstant, overFactor, unpower, isInt, ofPower, simpleQuadratic, root, larger, fullQuadratic, linear, ofConstant, ofQuadratic}
 use Rattle.inverse.specs.Contract.Steps.{byOthers}
 use Rattle.inverse.specs.declared.Others.{Others}

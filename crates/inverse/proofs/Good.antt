@@ -11,24 +11,24 @@ use lib.Ieee.Fits.{and-r, mul-fits, div-fits}
 use Rattle.numbers.specs.Constants.{half64, two64}
 use Rattle.numbers.specs.Signs.{zero64, one64}
 use Rattle.numbers.specs.Ops.{_⊗_}
-use Rattle.complex.specs.declared.Complex.{Complex}
-use Rattle.complex.specs.Arith as complex
+use Rattle.numbers.specs.declared.complex.Complex.{Complex}
+use Rattle.numbers.specs.Complex.Arith as complex
 use Rattle.limits.specs.declared.Refusal.{Refusal}
 use Rattle.limits.specs.declared.Refusal.the-variants.{TooComplex, NeedsMath}
-use Rattle.trees.specs.Kinds as kinds
-use Rattle.trees.specs.Sums.{Sum, none, and}
-use Rattle.trees.specs.Good as good
-use Rattle.trees.proofs.Keeps.{Fits}
-use Rattle.terms.specs.Powers.{coefAt}
-use Rattle.terms.proofs.Goodness.{fits-times, fits-bits}
+use Rattle.sums.specs.Tree.Kinds as kinds
+use Rattle.sums.specs.Tree.Sums.{Sum, none, and}
+use Rattle.sums.specs.Tree.Good as good
+use Rattle.sums.proofs.tree.Keeps.{Fits}
+use Rattle.arithmetic.specs.Powers.{coefAt}
+use Rattle.arithmetic.proofs.Goodness.{fits-times, fits-bits}
 use Rattle.formats.specs.declared.record.Primitive.{Primitive}
 use Rattle.formats.specs.declared.record.Verdict.the-variants.{Good}
 use Rattle.formats.specs.declared.record.Primitive.the-variants as prim
 use Rattle.formats.specs.Tree.{Nodes, end, encode}
 use Rattle.formats.specs.Rules.{verdict}
-use Rattle.drafts.specs.Writing.{does, append, one, Written, wrote, refused, andThen, numberRecord, canWrite, ifCan}
-use Rattle.drafts.proofs.Fine.{Fine, fine-more, fine-end, fine-say, fine-good, plain-does, plain-number}
-use Rattle.inverse.proofs.Searching.{coef-first}
+use Rattle.writing.specs.Draft.Writing.{does, append, one, Written, wrote, refused, andThen, numberRecord, canWrite, ifCan}
+use Rattle.writing.proofs.draft.Fine.{Fine, fine-more, fine-end, fine-say, fine-good, plain-does, plain-number}
+use Rattle.inverse.proofs.Coefs.{coef-first}
 use Rattle.inverse.specs.Inverse.{Word, num, act, spell, minusFour64, minusOne64, coefOf, low, others, lessConstant, overFactor, unpower, isInt, simpleQuadratic, fullQuadratic, linear, ofQuadratic, ofOthers, inverse}
 
 -- ---- words

@@ -1,5 +1,6 @@
--- The root of inverse's laws.
+-- The root of the laws of inverse.
 pub mod Words
 pub mod Forms
-pub mod Searching
+pub mod Coefs
 pub mod Good
+pub mod Searching

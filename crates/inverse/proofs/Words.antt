@@ -5,18 +5,18 @@ use mathlib.Core.List.{List, [], _∷_, _++_}
 use Prim.Native.Nat.{ℕ, _+_, _≤_}
 use native.Mathlib.Omega.{arith}
 use lib.ListN.{length}
-use Rattle.complex.specs.declared.Complex.{Complex}
+use Rattle.numbers.specs.declared.complex.Complex.{Complex}
 use Rattle.limits.specs.declared.Refusal.{Refusal}
 use Rattle.formats.specs.declared.record.Primitive.{Primitive}
 use Rattle.formats.specs.Tree.{Nodes, end}
-use Rattle.drafts.specs.declared.Draft.{Draft}
-use Rattle.drafts.specs.declared.Said.{Said}
-use Rattle.drafts.specs.declared.Said.the-variants as said
-use Rattle.drafts.specs.Writing.{does, append, one, Written, wrote, refused, andThen, number}
-use Rattle.drafts.specs.Contract.Lying.{SaidAs}
-use Rattle.drafts.specs.Contract.Growing.{Ready, Drawn, Spoken}
-use Rattle.drafts.proofs.Lying.{fresh}
-use Rattle.drafts.proofs.Growing.{ready-fresh, ready-less, ready-drawn, ready-spoken}
+use Rattle.writing.specs.declared.draft.Draft.{Draft}
+use Rattle.writing.specs.declared.draft.Said.{Said}
+use Rattle.writing.specs.declared.draft.Said.the-variants as said
+use Rattle.writing.specs.Draft.Writing.{does, append, one, Written, wrote, refused, andThen, number}
+use Rattle.writing.specs.Draft.Contract.Lying.{SaidAs}
+use Rattle.writing.specs.Draft.Contract.Growing.{Ready, Drawn, Spoken}
+use Rattle.writing.proofs.draft.Lying.{fresh}
+use Rattle.writing.proofs.draft.Growing.{ready-fresh, ready-less, ready-drawn, ready-spoken}
 use Rattle.inverse.specs.Inverse.{Word, num, act, spell}
 use Rattle.inverse.specs.Contract.Steps.{ReadyTo, Spelt, Told}
 

@@ -7,17 +7,17 @@ use Prim.Native.Nat.{ℕ}
 use Rattle.numbers.specs.Constants.{half64, two64}
 use Rattle.numbers.specs.Numbers.{isWhole}
 use Rattle.numbers.specs.Signs.{zero64, one64}
-use Rattle.complex.specs.declared.Complex.{Complex}
-use Rattle.complex.specs.Arith as complex
+use Rattle.numbers.specs.declared.complex.Complex.{Complex}
+use Rattle.numbers.specs.Complex.Arith as complex
 use Rattle.limits.specs.declared.Refusal.the-variants.{TooComplex, NeedsMath}
-use Rattle.trees.specs.Kinds as kinds
-use Rattle.trees.specs.Sums.{Sum, none, and}
-use Rattle.trees.specs.Map.{Found, at, absent}
-use Rattle.terms.specs.Powers.{coefAt}
+use Rattle.sums.specs.Tree.Kinds as kinds
+use Rattle.sums.specs.Tree.Sums.{Sum, none, and}
+use Rattle.sums.specs.Tree.Map.{Found, at, absent}
+use Rattle.arithmetic.specs.Powers.{coefAt}
 use Rattle.formats.specs.declared.record.Primitive.{Primitive}
 use Rattle.formats.specs.declared.record.Primitive.the-variants as prim
 use Rattle.formats.specs.Tree.{Nodes, end}
-use Rattle.drafts.specs.Writing.{does, append, one, Written, wrote, refused, andThen, number}
+use Rattle.writing.specs.Draft.Writing.{does, append, one, Written, wrote, refused, andThen, number}
 
 -- ---- lists of numbers and primitives
 

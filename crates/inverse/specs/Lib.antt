@@ -1,3 +1,3 @@
--- The root of inverse's definitions.
+-- The root of the definitions of inverse.
 pub mod Inverse
 pub mod Contract

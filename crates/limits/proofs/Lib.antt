@@ -1,3 +1,3 @@
--- The root of limits' laws.
+-- The root of the laws of limits.
 pub mod Variants
 pub mod Refusals

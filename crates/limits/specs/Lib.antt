@@ -1,3 +1,3 @@
--- The root of limits' definitions.
+-- The root of the definitions of limits.
 pub mod Limits
 pub mod Refusals

@@ -1,6 +1,6 @@
 // Document 01's limits and refusals by name. Nothing else in the code gives a limit or a refusal its number.
-ghost use mathlib.Core.Path.{_≡_};
 ghost use Rattle.limits.specs.Refusals.{refusalNo};
+ghost use mathlib.Core.Path.{_≡_};
 
 // A sum, insides counted.
 pub const SUM_ENTRIES: usize = 64;

@@ -1,4 +1,4 @@
--- The root of numbers' laws.
+-- The root of the laws of numbers.
 pub mod Bools
 pub mod Values
 pub mod Bits

@@ -1,11 +1,14 @@
 // What the algebra asks of binary64 numbers, and the constants that it uses.
+pub mod complex;
+pub mod radical;
+
 use limits::HIGHEST_POWER;
-ghost use mathlib.Core.Path.{_≡_};
-ghost use lib.Ieee.{binary64, ofBits};
-ghost use lib.Ieee.Scale.{finite};
+ghost use Rattle.numbers.specs.Constants.{euler, ln2, ln10, epsilon};
 ghost use Rattle.numbers.specs.Numbers.{isWhole, smallWhole, belowEpsilon};
 ghost use Rattle.numbers.specs.Order.{cmpNum, andThen};
-ghost use Rattle.numbers.specs.Constants.{euler, ln2, ln10, epsilon};
+ghost use lib.Ieee.Scale.{finite};
+ghost use lib.Ieee.{binary64, ofBits};
+ghost use mathlib.Core.Path.{_≡_};
 
 // How one value lies to another.
 pub enum Ordering {

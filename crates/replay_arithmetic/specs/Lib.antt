@@ -1,2 +1,2 @@
--- The root of operations' definitions.
+-- The root of the definitions of replay_arithmetic.
 pub mod Contract

@@ -10,7 +10,7 @@ ghost use mathlib.Core.Path.{_≡_};
 ghost use mathlib.Core.Bool.{true};
 ghost use Prim.Native.Nat.{_+_, _*_, _≤_};
 ghost use lib.ListN.{length};
-ghost use Rattle.book_cells.specs.Book.{lent, entering, Room};
+ghost use Rattle.cells.specs.Contract.Book.{lent, entering, Room};
 ghost use Rattle.replay_arithmetic.specs.Contract.Ready.{Ready};
 ghost use Rattle.limits.specs.Limits.{entryBytes, sumEntries};
 
@@ -35,10 +35,10 @@ fn ready(kinds: &[u8], insides: &[u8], numbers: &[[u64; 3]], n: usize, m: usize)
     if SUM_ENTRIES < m {
         return false;
     }
-    if !book_entries::good::good_sum(kinds, insides, numbers, FIRST, n, SUM_LEVELS) {
+    if !sums::good::good_sum(kinds, insides, numbers, FIRST, n, SUM_LEVELS) {
         return false;
     }
-    book_entries::good::good_sum(kinds, insides, numbers, SECOND, m, SUM_LEVELS)
+    sums::good::good_sum(kinds, insides, numbers, SECOND, m, SUM_LEVELS)
 }
 
 // Whether what the primitive forms of the first sum is what is stored from q on.
@@ -54,7 +54,7 @@ fn one_stored(
     requires { ⌜ (c .r ≤ sumEntries) × (q + entryBytes * c .r ≤ length (now b)) ⌝ }
 {
     let p = formats::record::primitive_of(c.code);
-    let f = book_primitives::form_one(kinds, insides, numbers, p, FIRST, c.n, 0);
+    let f = primitives::form_one(kinds, insides, numbers, p, FIRST, c.n, 0);
     cases::is_stored(kinds, insides, numbers, f, c.number, b, q, c.r)
 }
 
@@ -71,7 +71,7 @@ fn two_stored(
     requires { ⌜ (c .r ≤ sumEntries) × (q + entryBytes * c .r ≤ length (now b)) ⌝ }
 {
     let p = formats::record::primitive_of(c.code);
-    let f = book_primitives::form_two(kinds, insides, numbers, p, FIRST, c.n, SECOND, c.m, 0);
+    let f = primitives::form_two(kinds, insides, numbers, p, FIRST, c.n, SECOND, c.m, 0);
     cases::is_stored(kinds, insides, numbers, f, c.number, b, q, c.r)
 }
 

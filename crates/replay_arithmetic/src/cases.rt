@@ -1,12 +1,12 @@
 // A case is five bytes, the code, the entries of the two operands, the refusal's number or 0, and the entries of the result; and then the
 // entries, 32 bytes each.
 use crate::text;
-use book_sums::order::Formed;
 use limits::ENTRY_BYTES;
 use limits::SUM_ENTRIES;
+use sums::order::Formed;
 ghost use Prim.Native.Nat.{_+_, _*_, _≤_, _<_};
 ghost use lib.ListN.{length};
-ghost use Rattle.book_cells.specs.Book.{lent, Room};
+ghost use Rattle.cells.specs.Contract.Book.{lent, Room};
 ghost use Rattle.limits.specs.Limits.{entryBytes, sumEntries};
 
 // A case is run in a book of four sums: from 0 on its result is formed, with as many working places behind it, and then the operands lie.

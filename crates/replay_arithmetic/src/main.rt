@@ -1,18 +1,17 @@
 // Replays stored answers of arithmetic on sums: standard input has operands and results in hex, and each operation has to give what is stored.
-use limits::ENTRY_BYTES;
-use limits::SUM_ENTRIES;
-
-mod arith;
-mod cases;
-mod text;
-
 use cases::Case;
 use cases::FOUR_SUMS;
 use libc::STDIN_FILENO;
 use libc::STDOUT_FILENO;
+use limits::ENTRY_BYTES;
+use limits::SUM_ENTRIES;
 ghost use Prim.Native.Nat.{_+_, _*_, _≤_};
-ghost use lib.ListN.{length};
 ghost use Rattle.limits.specs.Limits.{entryBytes, sumEntries};
+ghost use lib.ListN.{length};
+
+mod arith;
+mod cases;
+mod text;
 
 // Whether the case whose entries are stored from p on gives what is stored.
 fn laid_agrees(b: &[u8], p: usize, c: Case) -> bool

@@ -32,7 +32,7 @@ fn holds(out: &[u8], want: &[u8]) -> bool {
     if out.len() < n {
         return false;
     }
-    if !replay::text::is_start(out, want) {
+    if !crate::text::is_start(out, want) {
         return false;
     }
     is_untouched(out, n)
@@ -75,11 +75,11 @@ fn with_short_room(name: &[u8], counts: &mut [u64; 80], k: Keyword, input: &[u8]
         return;
     }
     let goes = is_refused(k, input, n - 1, OUTPUT_ROOM);
-    replay::count::tally(
+    crate::count::tally(
         name,
         counts,
         entries::row(k),
-        replay::count::SHORT_ROOMS,
+        crate::count::SHORT_ROOMS,
         goes,
         b"room a byte short",
     );
@@ -93,11 +93,11 @@ fn with_short_input(name: &[u8], counts: &mut [u64; 80], k: Keyword, input: &[u8
     }
     let m = n - 1;
     let goes = is_refused(k, &input[..m], AMPLE, BAD_RECORD);
-    replay::count::tally(
+    crate::count::tally(
         name,
         counts,
         entries::row(k),
-        replay::count::SHORT_INPUTS,
+        crate::count::SHORT_INPUTS,
         goes,
         b"input a byte short",
     );
@@ -116,11 +116,11 @@ fn with_enough_room(
 {
     let exact = is_given(k, input, want.len(), answer, want);
     let more = is_given(k, input, AMPLE, answer, want);
-    replay::count::tally(
+    crate::count::tally(
         name,
         counts,
         entries::row(k),
-        replay::count::ANSWERS,
+        crate::count::ANSWERS,
         exact & more,
         b"answer",
     );
@@ -137,7 +137,7 @@ pub fn replay(
 ) {
     let n = want.len();
     if AMPLE < n {
-        replay::count::note_line(counts, replay::count::BROKEN);
+        crate::count::note_line(counts, crate::count::BROKEN);
         return;
     }
     with_enough_room(name, counts, k, input, answer, want);

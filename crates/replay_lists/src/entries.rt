@@ -1,5 +1,5 @@
 // The entries under test, each with its answer as a stored line has it.
-use answers::Numbers;
+use algebra::answer::Numbers;
 use limits::LIST_RECORDS;
 ghost use Prim.Native.Nat.{_<_};
 
@@ -30,43 +30,43 @@ pub struct Answer {
 }
 
 pub fn keyword_of(line: &[u8]) -> Keyword {
-    if replay::text::is_keyword(line, b"list") {
+    if crate::text::is_keyword(line, b"list") {
         return Keyword::List;
     }
-    if replay::text::is_keyword(line, b"sum") {
+    if crate::text::is_keyword(line, b"sum") {
         return Keyword::Sum;
     }
-    if replay::text::is_keyword(line, b"read") {
+    if crate::text::is_keyword(line, b"read") {
         return Keyword::Read;
     }
-    if replay::text::is_keyword(line, b"derive") {
+    if crate::text::is_keyword(line, b"derive") {
         return Keyword::Derive;
     }
-    if replay::text::is_keyword(line, b"integrate") {
+    if crate::text::is_keyword(line, b"integrate") {
         return Keyword::Integrate;
     }
-    if replay::text::is_keyword(line, b"write 0") {
+    if crate::text::is_keyword(line, b"write 0") {
         return Keyword::WriteReal;
     }
-    if replay::text::is_keyword(line, b"write 1") {
+    if crate::text::is_keyword(line, b"write 1") {
         return Keyword::WriteComplex;
     }
-    if replay::text::is_keyword(line, b"derivative") {
+    if crate::text::is_keyword(line, b"derivative") {
         return Keyword::Derivative;
     }
-    if replay::text::is_keyword(line, b"integral") {
+    if crate::text::is_keyword(line, b"integral") {
         return Keyword::Integral;
     }
-    if replay::text::is_keyword(line, b"inverse") {
+    if crate::text::is_keyword(line, b"inverse") {
         return Keyword::Inverse;
     }
-    if replay::text::is_keyword(line, b"run") {
+    if crate::text::is_keyword(line, b"run") {
         return Keyword::Run;
     }
-    if replay::text::is_keyword(line, b"back 0") {
+    if crate::text::is_keyword(line, b"back 0") {
         return Keyword::BackReal;
     }
-    if replay::text::is_keyword(line, b"back 1") {
+    if crate::text::is_keyword(line, b"back 1") {
         return Keyword::BackComplex;
     }
     Keyword::Other
@@ -97,18 +97,18 @@ pub fn row(k: Keyword) -> usize
     ensures { λ r. ⌜ r < 10 ⌝ }
 {
     match k {
-        Keyword::Read => replay::count::READ,
-        Keyword::Derive => replay::count::DERIVE,
-        Keyword::Integrate => replay::count::INTEGRATE,
-        Keyword::WriteReal => replay::count::WRITE,
-        Keyword::WriteComplex => replay::count::WRITE,
-        Keyword::Derivative => replay::count::DERIVATIVE,
-        Keyword::Integral => replay::count::INTEGRAL,
-        Keyword::Inverse => replay::count::INVERSE,
-        Keyword::Run => replay::count::RUN,
-        Keyword::BackReal => replay::count::BACK,
-        Keyword::BackComplex => replay::count::BACK,
-        _ => replay::count::LINES,
+        Keyword::Read => crate::count::READ,
+        Keyword::Derive => crate::count::DERIVE,
+        Keyword::Integrate => crate::count::INTEGRATE,
+        Keyword::WriteReal => crate::count::WRITE,
+        Keyword::WriteComplex => crate::count::WRITE,
+        Keyword::Derivative => crate::count::DERIVATIVE,
+        Keyword::Integral => crate::count::INTEGRAL,
+        Keyword::Inverse => crate::count::INVERSE,
+        Keyword::Run => crate::count::RUN,
+        Keyword::BackReal => crate::count::BACK,
+        Keyword::BackComplex => crate::count::BACK,
+        _ => crate::count::LINES,
     }
 }
 
@@ -173,8 +173,8 @@ fn told(n: Numbers) -> Answer {
     }
 }
 
-fn given(a: answers::Answer) -> Answer {
-    told(answers::answer_numbers(a))
+fn given(a: algebra::answer::Answer) -> Answer {
+    told(algebra::answer::answer_numbers(a))
 }
 
 // The most bytes that a list has.
@@ -183,7 +183,7 @@ const LIST_BYTES: usize = 49152;
 // What `read` answers to the list that `write` writes of a sum; what `write` refuses, where it does.
 fn back(sum: &[u8], complex: bool, out: &mut [u8]) -> Answer {
     let mut list = [0u8; LIST_BYTES];
-    let wrote = answers::answer_numbers(algebra::write(sum, complex, &mut list));
+    let wrote = algebra::answer::answer_numbers(algebra::write(sum, complex, &mut list));
     if wrote.number != 0 {
         return told(wrote);
     }

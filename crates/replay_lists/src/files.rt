@@ -31,7 +31,7 @@ fn keep(text: &mut [u8], from: usize, n: usize) -> usize
 // At the end of a file nothing is left: else it ends within a line, or a line has no room.
 fn finish(counts: &mut [u64; 80], had: usize) {
     if 0 < had {
-        replay::count::note_line(counts, replay::count::CUT_OFF);
+        crate::count::note_line(counts, crate::count::CUT_OFF);
     }
 }
 
@@ -58,17 +58,17 @@ fn run_open(
         had = keep(text, reached.at, n);
         turns = turns - 1;
     }
-    replay::count::note_line(counts, replay::count::CUT_OFF);
+    crate::count::note_line(counts, crate::count::CUT_OFF);
 }
 
 // Every line of the file of this name. The text has room for a line of 2,048 records in full.
 pub fn run(name: &[u8], counts: &mut [u64; 80]) {
     let fd = os::open_read(name);
     if fd < 0 {
-        replay::count::note_line(counts, replay::count::CUT_OFF);
+        crate::count::note_line(counts, crate::count::CUT_OFF);
         return;
     }
-    counts[replay::count::LINE] = 0;
+    counts[crate::count::LINE] = 0;
     let mut text = [0u8; 131072];
     let mut input = [0u8; 65536];
     let mut want = [0u8; 16384];

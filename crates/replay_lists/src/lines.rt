@@ -4,9 +4,9 @@ use crate::entries;
 use crate::entries::Answer;
 use crate::entries::Keyword;
 use crate::runs;
-use replay::text::Decoded;
-use replay::text::Number;
-use replay::text::Numbers;
+use crate::text::Decoded;
+use crate::text::Number;
+use crate::text::Numbers;
 ghost use Prim.Native.Nat.{_≤_};
 ghost use lib.ListN.{length};
 
@@ -35,28 +35,28 @@ enum Stored {
 }
 
 fn list_line(line: &[u8], counts: &mut [u64; 80], input: &mut [u8]) -> Held {
-    let decoded = replay::text::decode(line, 4, RECORD, input);
+    let decoded = crate::text::decode(line, 4, RECORD, input);
     match decoded {
         Decoded::Bytes(n) => {
-            replay::count::note_line(counts, replay::count::LISTS);
+            crate::count::note_line(counts, crate::count::LISTS);
             Held::List(n)
         }
         Decoded::Broken => {
-            replay::count::note_line(counts, replay::count::BROKEN);
+            crate::count::note_line(counts, crate::count::BROKEN);
             Held::Nothing
         }
     }
 }
 
 fn sum_line(line: &[u8], counts: &mut [u64; 80], input: &mut [u8]) -> Held {
-    let decoded = replay::text::decode(line, 3, ENTRY, input);
+    let decoded = crate::text::decode(line, 3, ENTRY, input);
     match decoded {
         Decoded::Bytes(n) => {
-            replay::count::note_line(counts, replay::count::SUMS);
+            crate::count::note_line(counts, crate::count::SUMS);
             Held::Sum(n)
         }
         Decoded::Broken => {
-            replay::count::note_line(counts, replay::count::BROKEN);
+            crate::count::note_line(counts, crate::count::BROKEN);
             Held::Nothing
         }
     }
@@ -84,7 +84,7 @@ fn stored_in(
     want: &mut [u8],
 ) -> Stored {
     let unit = unit_of(k);
-    let decoded = replay::text::decode(line, at, unit, want);
+    let decoded = crate::text::decode(line, at, unit, want);
     let Decoded::Bytes(n) = decoded else {
         return Stored::Broken;
     };
@@ -99,14 +99,14 @@ fn stored_in(
 
 // The answer of a line; some have a flag behind the place.
 fn stored_of(line: &[u8], k: Keyword, want: &mut [u8]) -> Stored {
-    let both = replay::text::numbers_at(line, entries::word_len(k));
+    let both = crate::text::numbers_at(line, entries::word_len(k));
     let Numbers::Both(number, place, i) = both else {
         return Stored::Broken;
     };
     if !entries::tells_flag(k) {
         return stored_in(line, i, k, number, place, 0, want);
     }
-    let third = replay::text::number_at(line, i);
+    let third = crate::text::number_at(line, i);
     let Number::Found(flag, j) = third else {
         return Stored::Broken;
     };
@@ -125,11 +125,11 @@ fn replay(
     m: usize,
 ) {
     if input.len() < n {
-        replay::count::note_line(counts, replay::count::BROKEN);
+        crate::count::note_line(counts, crate::count::BROKEN);
         return;
     }
     if want.len() < m {
-        replay::count::note_line(counts, replay::count::BROKEN);
+        crate::count::note_line(counts, crate::count::BROKEN);
         return;
     }
     calls::replay(name, counts, k, &input[..n], answer, &want[..m]);
@@ -162,13 +162,13 @@ fn answer_line(
     want: &mut [u8],
 ) {
     if !is_fit(k, held) {
-        replay::count::note_line(counts, replay::count::BROKEN);
+        crate::count::note_line(counts, crate::count::BROKEN);
         return;
     }
     let n = held_bytes(held);
     let stored = stored_of(line, k, want);
     let Stored::Answer(answer, m) = stored else {
-        replay::count::note_line(counts, replay::count::BROKEN);
+        crate::count::note_line(counts, crate::count::BROKEN);
         return;
     };
     replay(name, counts, k, input, n, answer, want, m);
@@ -176,11 +176,11 @@ fn answer_line(
 
 fn run_line(name: &[u8], line: &[u8], counts: &mut [u64; 80], held: Held, input: &[u8]) {
     let Held::List(n) = held else {
-        replay::count::note_line(counts, replay::count::BROKEN);
+        crate::count::note_line(counts, crate::count::BROKEN);
         return;
     };
     if input.len() < n {
-        replay::count::note_line(counts, replay::count::BROKEN);
+        crate::count::note_line(counts, crate::count::BROKEN);
         return;
     }
     runs::replay(name, counts, line, &input[..n]);
@@ -195,7 +195,7 @@ fn run(
     input: &mut [u8],
     want: &mut [u8],
 ) -> Held {
-    replay::count::note_line(counts, replay::count::LINE);
+    crate::count::note_line(counts, crate::count::LINE);
     let k = entries::keyword_of(line);
     match k {
         Keyword::List => list_line(line, counts, input),
@@ -205,7 +205,7 @@ fn run(
             held
         }
         Keyword::Other => {
-            replay::count::note_line(counts, replay::count::SKIPPED);
+            crate::count::note_line(counts, crate::count::SKIPPED);
             held
         }
         _ => {

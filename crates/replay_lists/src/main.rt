@@ -1,9 +1,12 @@
 // Replays stored answers: lists and sums, each with the answers of the entries, in the form that vectors/README.md describes.
+// What the programs that replay stored answers share: texts, and counting what agrees.
 mod calls;
+pub mod count;
 mod entries;
 mod files;
 mod lines;
 mod runs;
+pub mod text;
 
 fn main() {
     let mut counts = [0u64; 80];
@@ -11,5 +14,5 @@ fn main() {
     files::run(b"sums.txt", &mut counts);
     files::run(b"limits.txt", &mut counts);
     files::run(b"runs.txt", &mut counts);
-    replay::count::summary(&counts);
+    crate::count::summary(&counts);
 }

@@ -1,6 +1,6 @@
 // Runs of one list: at the number that a line gives, and on the list less a byte.
-use replay::text::Number;
-use replay::text::Numbers;
+use crate::text::Number;
+use crate::text::Numbers;
 
 // Where a list is run, and what the run answers; numbers as their bits.
 struct Run {
@@ -24,11 +24,11 @@ const BAD_RECORD: u64 = 11;
 
 // Value, steps and peak stand here and end the line.
 fn with_value(line: &[u8], at: usize, x: u64, number: u64, place: u64) -> Stored {
-    let first = replay::text::bits_at(line, at);
+    let first = crate::text::bits_at(line, at);
     let Number::Found(value, i) = first else {
         return Stored::Broken;
     };
-    let both = replay::text::numbers_at(line, i);
+    let both = crate::text::numbers_at(line, i);
     let Numbers::Both(steps, peak, end) = both else {
         return Stored::Broken;
     };
@@ -46,11 +46,11 @@ fn with_value(line: &[u8], at: usize, x: u64, number: u64, place: u64) -> Stored
 }
 
 fn stored_of(line: &[u8]) -> Stored {
-    let first = replay::text::bits_at(line, WORD);
+    let first = crate::text::bits_at(line, WORD);
     let Number::Found(x, i) = first else {
         return Stored::Broken;
     };
-    let both = replay::text::numbers_at(line, i);
+    let both = crate::text::numbers_at(line, i);
     let Numbers::Both(number, place, j) = both else {
         return Stored::Broken;
     };
@@ -98,11 +98,11 @@ fn with_short_input(name: &[u8], counts: &mut [u64; 80], list: &[u8], x: u64) {
         peak: 0,
     };
     let goes = is_given(&list[..m], refused);
-    replay::count::tally(
+    crate::count::tally(
         name,
         counts,
-        replay::count::RUN,
-        replay::count::SHORT_INPUTS,
+        crate::count::RUN,
+        crate::count::SHORT_INPUTS,
         goes,
         b"input a byte short",
     );
@@ -112,15 +112,15 @@ fn with_short_input(name: &[u8], counts: &mut [u64; 80], list: &[u8], x: u64) {
 pub fn replay(name: &[u8], counts: &mut [u64; 80], line: &[u8], list: &[u8]) {
     let stored = stored_of(line);
     let Stored::Answer(run) = stored else {
-        replay::count::note_line(counts, replay::count::BROKEN);
+        crate::count::note_line(counts, crate::count::BROKEN);
         return;
     };
     let goes = is_given(list, run);
-    replay::count::tally(
+    crate::count::tally(
         name,
         counts,
-        replay::count::RUN,
-        replay::count::ANSWERS,
+        crate::count::RUN,
+        crate::count::ANSWERS,
         goes,
         b"run",
     );

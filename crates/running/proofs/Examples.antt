@@ -7,7 +7,7 @@ use lib.IntN.{pos}
 use lib.Ieee.{Float, nan, fin, binary64, neg, add, sub, mul, div, eq, lt, ofInt, ofBits, units, size as digits}
 use Rattle.numbers.specs.Signs.{±0}
 use Rattle.numbers.specs.Numbers.{smallWhole}
-use Rattle.radicals.specs.Root.{root}
+use Rattle.numbers.specs.Radical.Root.{root}
 use Rattle.limits.specs.declared.Refusal.the-variants.{TooManyVariables, NotSupported, NoOutput, TooManyOutputs, InterpreterBug, NeedsMath, NonReal, NotFinite}
 use Rattle.formats.specs.declared.record.Record.{Record}
 use Rattle.formats.specs.declared.record.Kind.{Kind}

@@ -17,8 +17,8 @@ use Rattle.numbers.proofs.Finite.{mul-not-finite-left}
 use Rattle.numbers.specs.Numbers.{smallWhole}
 use Rattle.numbers.specs.declared.SmallWhole.{SmallWhole}
 use Rattle.numbers.specs.declared.SmallWhole.the-variants.{Is, Other}
-use Rattle.radicals.specs.Root.{root}
-use Rattle.radicals.proofs.Laws.{root-finite}
+use Rattle.numbers.specs.Radical.Root.{root}
+use Rattle.numbers.proofs.radical.Laws.{root-finite}
 use Rattle.limits.specs.declared.Refusal.{Refusal}
 use Rattle.numbers.proofs.Bits.{no-nan}
 use Rattle.limits.specs.declared.Refusal.the-variants.{TooManyVariables, NoOutput, TooManyOutputs, NeedsMath, NotFinite}

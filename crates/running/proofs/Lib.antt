@@ -1,4 +1,4 @@
--- The root of runner's laws.
+-- The root of the laws of running.
 pub mod Stack
 pub mod Laws
 pub mod Walks

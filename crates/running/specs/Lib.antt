@@ -1,4 +1,4 @@
--- The root of runner's definitions.
+-- The root of the definitions of running.
 pub mod Primitives
 pub mod Running
 pub mod Contract

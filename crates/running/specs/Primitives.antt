@@ -9,7 +9,7 @@ use Rattle.numbers.specs.Ops.{_⊕_, _⊖_, _⊗_, _⊘_}
 use Rattle.numbers.specs.Numbers.{smallWhole}
 use Rattle.numbers.specs.declared.SmallWhole.{SmallWhole}
 use Rattle.numbers.specs.declared.SmallWhole.the-variants.{Is, Other}
-use Rattle.radicals.specs.Root.{root}
+use Rattle.numbers.specs.Radical.Root.{root}
 use Rattle.limits.specs.declared.Refusal.{Refusal}
 use Rattle.limits.specs.declared.Refusal.the-variants.{TooManyVariables, NotSupported, NonScalar, NonReal, NeedsMath, NotFinite}
 use Rattle.formats.specs.declared.record.Record.{Record}

@@ -54,7 +54,7 @@ fn square_root(a: f64) -> Left
     if !numbers::is_finite(a) {
         return Left::One(a);
     }
-    Left::One(radicals::sqrt(a))
+    Left::One(numbers::radical::sqrt(a))
 }
 
 // What is left of the value a, which was on top.

@@ -6,11 +6,11 @@ use formats::record::Kind;
 use formats::record::KindFound;
 use formats::record::Primitive;
 use limits::Refusal;
-ghost use mathlib.Core.Path.{_≡_};
 ghost use Rattle.formats.specs.Names.{kindOf};
 ghost use Rattle.formats.specs.declared.record.KindFound.the-variants.{Known};
 ghost use Rattle.running.specs.Primitives.{workOf, wayOf};
 ghost use Rattle.running.specs.Running.{numbersOf};
+ghost use mathlib.Core.Path.{_≡_};
 
 // What a primitive leaves in place of what it takes, named from the top; or why it is refused. One value is a value formed.
 pub enum Left {

@@ -8,24 +8,24 @@ use lib.ListN.{take}
 use lib.Seq.{sets}
 use Rattle.limits.specs.declared.Refusal.{Refusal}
 use Rattle.limits.specs.declared.Refusal.the-variants.{OutputRoom}
-use Rattle.trees.specs.Sums.{Sum}
-use Rattle.trees.specs.Map.{Outcome, sum}
-use Rattle.terms.specs.Singles.{GoodSum}
-use Rattle.arena.proofs.Laws.{good-some}
+use Rattle.sums.specs.Tree.Sums.{Sum}
+use Rattle.sums.specs.Tree.Map.{Outcome, sum}
+use Rattle.arithmetic.specs.Singles.{GoodSum}
+use Rattle.stack.proofs.Sizes.{good-some}
 use Rattle.formats.specs.Tree.{recordsIn}
-use Rattle.entries.specs.Encoding.{entriesIn, encodeSum}
-use Rattle.book_entries.proofs.bytes.Laws.{length-sum}
-use Rattle.bodies.specs.Reading.{Read, done, refusedAt}
+use Rattle.sums.specs.Entry.Encoding.{entriesIn, encodeSum}
+use Rattle.sums.proofs.bytes.Laws.{length-sum}
+use Rattle.modifiers.specs.Reading.{Read, done, refusedAt}
 use Rattle.calculus.specs.Derivative as derivatives
 use Rattle.calculus.specs.Integral as integrals
 use Rattle.calculus.proofs.Good.{derive-good, integrate-good}
-use Rattle.answers.specs.declared.Answer.{Answer}
-use Rattle.answers.specs.declared.Answer.the-variants as given
-use Rattle.answers.specs.Making as making
-use Rattle.answers.specs.Making.{Made, ofOutcome, ofSum, write, derive, integrate, deriveAndWrite, integrateAndWrite, Gives, OfBytes}
-use Rattle.answers.proofs.Giving.{gives-refusal}
-use Rattle.answers.proofs.Taking.{of-good}
-use Rattle.answers.proofs.Told.{Success, success, refusal, not-made, refused-same, sum-same, SumMade, sum-made, refused-outcome, first-bytes}
+use Rattle.algebra.specs.declared.answer.Answer.{Answer}
+use Rattle.algebra.specs.declared.answer.Answer.the-variants as given
+use Rattle.algebra.specs.Answer.Making as making
+use Rattle.algebra.specs.Answer.Making.{Made, ofOutcome, ofSum, write, derive, integrate, deriveAndWrite, integrateAndWrite, Gives, OfBytes}
+use Rattle.algebra.proofs.answer.Giving.{gives-refusal}
+use Rattle.algebra.proofs.answer.Taking.{of-good}
+use Rattle.algebra.proofs.answer.Told.{Success, success, refusal, not-made, refused-same, sum-same, SumMade, sum-made, refused-outcome, first-bytes}
 use Rattle.algebra.specs.Reading.{readList, madeOf, flagOf}
 use Rattle.algebra.specs.Entries.{afterRead, derivative, integral}
 use Rattle.algebra.specs.declared.ReadAnswer.the-variants as answer

@@ -12,7 +12,7 @@ use lib.Ieee.Scale.{finite}
 use Rattle.limits.specs.declared.Refusal.{Refusal}
 use Rattle.limits.specs.Refusals.{refusalNo}
 use Rattle.limits.proofs.Refusals.{numbered}
-use Rattle.trees.specs.Sums.{Sum}
+use Rattle.sums.specs.Tree.Sums.{Sum}
 use Rattle.formats.specs.declared.record.Record.{Record}
 use Rattle.formats.specs.declared.record.Kind.the-variants as kind
 use Rattle.formats.specs.declared.record.KindFound.{KindFound}
@@ -33,14 +33,14 @@ use Rattle.running.specs.declared.Deed.{Deed}
 use Rattle.running.specs.declared.Deed.the-variants.{Pushes, Works}
 use Rattle.running.specs.Primitives.{Act, went, stop, act, wayOf}
 use Rattle.running.specs.Running.{Running, Out, done, refusedAt, andThen, ifRoom, settle, copied, giveBack, modify, stepped, runBy, runs, lastOf, ended, start, runNodes, judged, runList}
-use Rattle.bodies.specs.Reading as bodies
-use Rattle.bodies.specs.Reading.{insideOf, readNodes}
-use Rattle.costs.specs.declared.CostAnswer.{CostAnswer}
-use Rattle.costs.specs.declared.CostAnswer.the-variants as costs
-use Rattle.costs.specs.Cost as cost
-use Rattle.costs.specs.Cost.{mostSteps, timesOf, insideTimes, ownCost, costOf, costList, costNumbers}
-use Rattle.costs.specs.Counting.{ran}
-use Rattle.costs.proofs.Theorem.{tells}
+use Rattle.modifiers.specs.Reading as bodies
+use Rattle.modifiers.specs.Reading.{insideOf, readNodes}
+use Rattle.reading.specs.declared.cost.CostAnswer.{CostAnswer}
+use Rattle.reading.specs.declared.cost.CostAnswer.the-variants as costs
+use Rattle.reading.specs.Cost.Cost as cost
+use Rattle.reading.specs.Cost.Cost.{mostSteps, timesOf, insideTimes, ownCost, costOf, costList, costNumbers}
+use Rattle.reading.specs.Cost.Counting.{ran}
+use Rattle.reading.proofs.cost.Theorem.{tells}
 use Rattle.algebra.specs.declared.ReadAnswer.the-variants as answer
 use Rattle.algebra.specs.Reading.{byVerdict, readList}
 use Rattle.algebra.specs.Replies as entry

@@ -10,7 +10,7 @@ use lib.Ieee.Scale.{finite}
 use Rattle.numbers.specs.Signs.{zero64}
 use Rattle.numbers.proofs.Bools.{and-false}
 use Rattle.limits.specs.declared.Refusal.the-variants.{NotFinite}
-use Rattle.trees.specs.Sums.{Sum}
+use Rattle.sums.specs.Tree.Sums.{Sum}
 use Rattle.running.specs.declared.RunAnswer.the-variants.{Value, Refused}
 use Rattle.running.specs.Running.{runList}
 use Rattle.theorems.specs.Value.{whole, half, Power, nothing, zero-term, term, Terms, RootTerms, value}

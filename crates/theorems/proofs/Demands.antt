@@ -10,14 +10,14 @@ use Rattle.formats.specs.Tree.{recordsIn}
 use Rattle.running.specs.declared.RunAnswer.{RunAnswer}
 use Rattle.running.specs.declared.RunAnswer.the-variants as ran
 use Rattle.running.specs.Running.{runList}
-use Rattle.costs.specs.declared.CostAnswer.{CostAnswer}
-use Rattle.costs.specs.declared.CostAnswer.the-variants as costs
-use Rattle.costs.specs.Cost.{costList}
-use Rattle.answers.specs.declared.Answer.{Answer}
-use Rattle.answers.specs.declared.Answer.the-variants as given
-use Rattle.answers.proofs.Determined as promises
-use Rattle.answers.proofs.Taking.{bytes-determined}
-use Rattle.answers.proofs.Told.{refusal-quiet, bytes-quiet}
+use Rattle.reading.specs.declared.cost.CostAnswer.{CostAnswer}
+use Rattle.reading.specs.declared.cost.CostAnswer.the-variants as costs
+use Rattle.reading.specs.Cost.Cost.{costList}
+use Rattle.algebra.specs.declared.answer.Answer.{Answer}
+use Rattle.algebra.specs.declared.answer.Answer.the-variants as given
+use Rattle.algebra.proofs.answer.Determined as promises
+use Rattle.algebra.proofs.answer.Taking.{bytes-determined}
+use Rattle.algebra.proofs.answer.Told.{refusal-quiet, bytes-quiet}
 use Rattle.algebra.specs.declared.ReadAnswer.{ReadAnswer}
 use Rattle.algebra.specs.declared.ReadAnswer.the-variants as answer
 use Rattle.algebra.specs.Reading.{readList}

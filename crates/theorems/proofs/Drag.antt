@@ -7,12 +7,12 @@ use lib.Ieee.{Float, binary64, ofBits}
 use Rattle.numbers.specs.Constants.{half64}
 use Rattle.numbers.specs.Signs.{one64}
 use Rattle.limits.specs.declared.Refusal.the-variants.{NeedsMath}
-use Rattle.trees.specs.Sums.{Sum}
+use Rattle.sums.specs.Tree.Sums.{Sum}
 use Rattle.formats.specs.declared.record.Primitive.the-variants.{Pow, Sqrt, Mul}
-use Rattle.drafts.specs.Writing.{push, does}
+use Rattle.writing.specs.Draft.Writing.{push, does}
 use Rattle.running.specs.declared.RunAnswer.the-variants.{Value, Refused}
 use Rattle.running.specs.Running.{runList}
-use Rattle.answers.specs.Making.{made}
+use Rattle.algebra.specs.Answer.Making.{made}
 use Rattle.algebra.specs.Entries.{derivative}
 use Rattle.theorems.specs.Cases.{bytesOf}
 use Rattle.theorems.specs.Value.{half, power, nothing, term}

@@ -8,41 +8,41 @@ use mathlib.Core.Logic.{_⊎_, inl, inr}
 use lib.Dec.{leb}
 use lib.Ieee.{fits, ofBits}
 use Rattle.numbers.specs.Signs.{zero64}
-use Rattle.complex.specs.Arith as complex
+use Rattle.numbers.specs.Complex.Arith as complex
 use Rattle.limits.specs.declared.Refusal.{Refusal}
 use Rattle.limits.specs.declared.Refusal.the-variants.{BadRecord, TooDeep, OutputRoom, PowerNotFinite}
 use Rattle.limits.specs.Refusals.{refusalNo}
 use Rattle.limits.proofs.Refusals.{same-number}
-use Rattle.trees.specs.Kinds.{X, Div}
-use Rattle.trees.specs.Sums.{Sum, none, and, size}
-use Rattle.trees.specs.Good.{Good}
-use Rattle.trees.specs.Map.{Outcome, sum, refused}
-use Rattle.trees.proofs.Overflow.{overflows, overflowed}
-use Rattle.entries.specs.declared.Taken.{Taken}
-use Rattle.entries.specs.declared.Taken.the-variants as taken
-use Rattle.entries.specs.Encoding.{entriesIn, encodeSum}
-use Rattle.entries.specs.Taking.{Weighed}
-use Rattle.book_entries.proofs.bytes.Laws.{encode-unique}
-use Rattle.book_entries.proofs.bytes.Theorem.{weighed-good, only}
+use Rattle.sums.specs.Tree.Kinds.{X, Div}
+use Rattle.sums.specs.Tree.Sums.{Sum, none, and, size}
+use Rattle.sums.specs.Tree.Good.{Good}
+use Rattle.sums.specs.Tree.Map.{Outcome, sum, refused}
+use Rattle.sums.proofs.tree.Overflow.{overflows, overflowed}
+use Rattle.sums.specs.declared.entry.Taken.{Taken}
+use Rattle.sums.specs.declared.entry.Taken.the-variants as taken
+use Rattle.sums.specs.Entry.Encoding.{entriesIn, encodeSum}
+use Rattle.sums.specs.Entry.Taking.{Weighed}
+use Rattle.sums.proofs.bytes.Laws.{encode-unique}
+use Rattle.sums.proofs.bytes.Theorem.{weighed-good, only}
 use Rattle.formats.specs.Tree.{recordsIn}
 use Rattle.formats.specs.declared.record.Primitive.the-variants.{Dup, Mul, Pow}
-use Rattle.drafts.specs.Writing as writing
-use Rattle.drafts.specs.Writing.{push, does}
-use Rattle.writer.specs.ToNodes.{toNodes}
-use Rattle.writer.proofs.Refusals.{only-15}
+use Rattle.writing.specs.Draft.Writing as writing
+use Rattle.writing.specs.Draft.Writing.{push, does}
+use Rattle.writing.specs.ToNodes.{toNodes}
+use Rattle.writing.proofs.Refusals.{only-15}
 use Rattle.running.specs.Running.{runList, numbersOf}
 use Rattle.running.proofs.Refusals.{run-number}
-use Rattle.costs.specs.Cost.{costList, costNumbers}
-use Rattle.costs.proofs.Theorem.{cost-number}
+use Rattle.reading.specs.Cost.Cost.{costList, costNumbers}
+use Rattle.reading.proofs.cost.Theorem.{cost-number}
 use Rattle.calculus.specs.Integral as integrals
 use Rattle.calculus.proofs.Overflow.{derive-overflow, integrate-quiet}
-use Rattle.bodies.specs.Reading as bodies
-use Rattle.answers.specs.declared.Answer.{Answer}
-use Rattle.answers.specs.declared.Answer.the-variants as given
-use Rattle.answers.specs.Making as making
-use Rattle.answers.specs.Making.{Made, made, refusedAt, ofOutcome, ofSum, ofList, answered, answerNumbers, Gives, OfBytes}
-use Rattle.answers.proofs.Giving.{gives-refusal}
-use Rattle.answers.proofs.Told.{refused-same, not-made}
+use Rattle.modifiers.specs.Reading as bodies
+use Rattle.algebra.specs.declared.answer.Answer.{Answer}
+use Rattle.algebra.specs.declared.answer.Answer.the-variants as given
+use Rattle.algebra.specs.Answer.Making as making
+use Rattle.algebra.specs.Answer.Making.{Made, made, refusedAt, ofOutcome, ofSum, ofList, answered, answerNumbers, Gives, OfBytes}
+use Rattle.algebra.proofs.answer.Giving.{gives-refusal}
+use Rattle.algebra.proofs.answer.Told.{refused-same, not-made}
 use Rattle.algebra.specs.declared.ReadAnswer.the-variants as answer
 use Rattle.algebra.specs.Reading as readings
 use Rattle.algebra.specs.Reading.{readList, answerOf}

@@ -5,25 +5,25 @@ use mathlib.Core.Path.{_≡_, refl, sym, _∙_}
 use mathlib.Core.Bool.{Bool}
 use mathlib.Core.List.{List}
 use Rattle.limits.specs.declared.Refusal.{Refusal}
-use Rattle.trees.specs.Sums.{Sum, size}
-use Rattle.terms.specs.Singles.{GoodSum}
+use Rattle.sums.specs.Tree.Sums.{Sum, size}
+use Rattle.arithmetic.specs.Singles.{GoodSum}
 use Rattle.formats.specs.declared.record.Verdict.{Verdict}
 use Rattle.formats.specs.declared.record.Verdict.the-variants as verdict
 use Rattle.formats.specs.Rules as rules
 use Rattle.formats.specs.Tree.{Nodes, parse}
-use Rattle.entries.specs.declared.Taken.{Taken}
-use Rattle.entries.specs.declared.Taken.the-variants as taken
-use Rattle.entries.specs.Encoding.{entriesIn, encodeSum}
-use Rattle.entries.specs.Taking.{Weighed}
-use Rattle.book_entries.proofs.bytes.Theorem.{good-taken}
-use Rattle.arena.proofs.Laws.{good-some}
-use Rattle.bodies.specs.Reading.{Read, done, readNodes}
-use Rattle.bodies.proofs.Good.{read-good}
-use Rattle.answers.specs.declared.Answer.{Answer}
-use Rattle.answers.specs.declared.Answer.the-variants as given
-use Rattle.answers.specs.Promises.{Promise}
-use Rattle.answers.specs.Making.{answered, Gives}
-use Rattle.answers.proofs.Told as told
+use Rattle.sums.specs.declared.entry.Taken.{Taken}
+use Rattle.sums.specs.declared.entry.Taken.the-variants as taken
+use Rattle.sums.specs.Entry.Encoding.{entriesIn, encodeSum}
+use Rattle.sums.specs.Entry.Taking.{Weighed}
+use Rattle.sums.proofs.bytes.Theorem.{good-taken}
+use Rattle.stack.proofs.Sizes.{good-some}
+use Rattle.modifiers.specs.Reading.{Read, done, readNodes}
+use Rattle.modifiers.proofs.Good.{read-good}
+use Rattle.algebra.specs.declared.answer.Answer.{Answer}
+use Rattle.algebra.specs.declared.answer.Answer.the-variants as given
+use Rattle.algebra.specs.Answer.Promises.{Promise}
+use Rattle.algebra.specs.Answer.Making.{answered, Gives}
+use Rattle.algebra.proofs.answer.Told as told
 use Rattle.algebra.specs.Reading.{byVerdict, readList, madeOf, flagOf, flagged, answerOf, bytesOf}
 use Rattle.algebra.specs.declared.ReadAnswer.{ReadAnswer}
 use Rattle.algebra.specs.declared.ReadAnswer.the-variants as answer

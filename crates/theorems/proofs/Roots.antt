@@ -9,23 +9,23 @@ use lib.Ieee.{Float}
 use lib.Ieee.Scale.{finite}
 use lib.ListN.{take}
 use borrow.Author.Tests.{le-leb}
-use Rattle.trees.specs.Sums.{Sum}
-use Rattle.terms.specs.Singles.{GoodSum}
+use Rattle.sums.specs.Tree.Sums.{Sum}
+use Rattle.arithmetic.specs.Singles.{GoodSum}
 use Rattle.formats.specs.declared.record.Verdict.{Verdict}
 use Rattle.formats.specs.declared.record.Verdict.the-variants as verdicts
 use Rattle.formats.specs.Rules.{verdict}
 use Rattle.formats.specs.Tree.{Nodes, size, encode, parse, recordsIn}
 use Rattle.formats.proofs.record.Codes.{length-encode}
-use Rattle.bodies.specs.Reading.{done, readNodes}
+use Rattle.modifiers.specs.Reading.{done, readNodes}
 use Rattle.calculus.proofs.Good.{derive-good}
-use Rattle.drafts.specs.Writing.{wrote}
+use Rattle.writing.specs.Draft.Writing.{wrote}
 use Rattle.running.specs.declared.RunAnswer.{RunAnswer}
 use Rattle.running.specs.declared.RunAnswer.the-variants.{Value}
 use Rattle.running.specs.Running.{runNodes, runList}
-use Rattle.answers.specs.declared.Answer.{Answer}
-use Rattle.answers.specs.declared.Answer.the-variants.{Done}
-use Rattle.answers.specs.Making.{Made, ofList, write, deriveAndWrite, Gives}
-use Rattle.answers.proofs.Told.{first-bytes}
+use Rattle.algebra.specs.declared.answer.Answer.{Answer}
+use Rattle.algebra.specs.declared.answer.Answer.the-variants.{Done}
+use Rattle.algebra.specs.Answer.Making.{Made, ofList, write, deriveAndWrite, Gives}
+use Rattle.algebra.proofs.answer.Told.{first-bytes}
 use Rattle.algebra.specs.Reading.{byVerdict, readList}
 use Rattle.algebra.specs.Entries.{derivative}
 use Rattle.algebra.specs.Replies.{ofAnswer, ofRun}

@@ -10,34 +10,34 @@ use lib.ListN.{take}
 use lib.Seq.{sets}
 use Rattle.limits.specs.declared.Refusal.the-variants.{NotHandled}
 use Rattle.limits.specs.Refusals.{refusalNo}
-use Rattle.trees.specs.Sums.{Sum}
-use Rattle.trees.specs.Map.{Outcome, sum, refused}
-use Rattle.terms.specs.Singles.{GoodSum}
-use Rattle.arena.proofs.Laws.{good-some}
+use Rattle.sums.specs.Tree.Sums.{Sum}
+use Rattle.sums.specs.Tree.Map.{Outcome, sum, refused}
+use Rattle.arithmetic.specs.Singles.{GoodSum}
+use Rattle.stack.proofs.Sizes.{good-some}
 use Rattle.formats.specs.declared.record.Verdict.the-variants as verdicts
 use Rattle.formats.specs.Rules.{verdict}
 use Rattle.formats.specs.Tree.{Nodes, encode, recordsIn}
 use Rattle.formats.proofs.record.Codes.{length-encode}
-use Rattle.entries.specs.declared.Taken.{Taken}
-use Rattle.entries.specs.declared.Taken.the-variants as taken
-use Rattle.entries.specs.Encoding.{entriesIn, encodeSum}
-use Rattle.entries.specs.Taking.{Weighed}
-use Rattle.book_entries.proofs.bytes.Laws.{length-sum}
-use Rattle.book_entries.proofs.bytes.Theorem.{good-taken}
-use Rattle.bodies.specs.Reading.{Read, done}
-use Rattle.bodies.specs.Reading as reading
+use Rattle.sums.specs.declared.entry.Taken.{Taken}
+use Rattle.sums.specs.declared.entry.Taken.the-variants as taken
+use Rattle.sums.specs.Entry.Encoding.{entriesIn, encodeSum}
+use Rattle.sums.specs.Entry.Taking.{Weighed}
+use Rattle.sums.proofs.bytes.Laws.{length-sum}
+use Rattle.sums.proofs.bytes.Theorem.{good-taken}
+use Rattle.modifiers.specs.Reading.{Read, done}
+use Rattle.modifiers.specs.Reading as reading
 use Rattle.calculus.specs.Derivative as derivatives
 use Rattle.calculus.specs.Integral as integrals
-use Rattle.arena.proofs.Laws.{not-empty}
+use Rattle.stack.proofs.Sizes.{not-empty}
 use Rattle.calculus.proofs.Good.{derive-good, integrate-good}
-use Rattle.drafts.specs.Writing.{Written, wrote}
-use Rattle.writer.specs.ToNodes.{toNodes}
-use Rattle.writer.proofs.Good.{written-good}
+use Rattle.writing.specs.Draft.Writing.{Written, wrote}
+use Rattle.writing.specs.ToNodes.{toNodes}
+use Rattle.writing.proofs.Good.{written-good}
 use Rattle.inverse.specs.Inverse as inverses
 use Rattle.inverse.proofs.Good as inverse-laws
-use Rattle.answers.specs.declared.Answer.the-variants as given
-use Rattle.answers.specs.Making.{Made, refusedAt, ofOutcome, ofSum, ofList, write, invert, derive, integrate, deriveAndWrite, integrateAndWrite, Gives, OfBytes}
-use Rattle.answers.proofs.Told.{success, sum-made, list-made, not-made, first-bytes}
+use Rattle.algebra.specs.declared.answer.Answer.the-variants as given
+use Rattle.algebra.specs.Answer.Making.{Made, refusedAt, ofOutcome, ofSum, ofList, write, invert, derive, integrate, deriveAndWrite, integrateAndWrite, Gives, OfBytes}
+use Rattle.algebra.proofs.answer.Told.{success, sum-made, list-made, not-made, first-bytes}
 use Rattle.algebra.specs.Reading.{readList}
 use Rattle.algebra.specs.Entries.{afterRead, inverseOf, derivative, integral, inverse}
 use Rattle.algebra.specs.declared.ReadAnswer.the-variants as answer

@@ -6,22 +6,22 @@ use mathlib.Core.List.{List, [], _∷_, _++_}
 use lib.Ieee.{Float, binary64, ofBits}
 use Rattle.numbers.specs.Constants.{euler}
 use Rattle.numbers.specs.Signs.{zero64, one64}
-use Rattle.complex.specs.Arith as complex
+use Rattle.numbers.specs.Complex.Arith as complex
 use Rattle.limits.specs.declared.Refusal.{Refusal}
 use Rattle.limits.specs.declared.Refusal.the-variants.{TooManyVariables, NoOutput, TooManyOutputs, NotHandled}
-use Rattle.trees.specs.Sums.{Sum, size}
-use Rattle.terms.specs.Singles.{constant}
-use Rattle.terms.specs.Quotient.{xTo}
+use Rattle.sums.specs.Tree.Sums.{Sum, size}
+use Rattle.arithmetic.specs.Singles.{constant}
+use Rattle.arithmetic.specs.Quotient.{xTo}
 use Rattle.formats.specs.declared.record.Record.{Record}
 use Rattle.formats.specs.declared.record.Primitive.the-variants as prim
 use Rattle.formats.specs.Tree.{encodeRec}
-use Rattle.entries.specs.Encoding.{encodeSum}
-use Rattle.bodies.specs.Reading as reading
-use Rattle.drafts.specs.Writing.{push, does, on, body}
+use Rattle.sums.specs.Entry.Encoding.{encodeSum}
+use Rattle.modifiers.specs.Reading as reading
+use Rattle.writing.specs.Draft.Writing.{push, does, on, body}
 use Rattle.running.specs.declared.RunAnswer.{RunAnswer}
 use Rattle.running.specs.declared.RunAnswer.the-variants as ran
 use Rattle.running.specs.Running.{runList}
-use Rattle.answers.specs.Making.{Made, made, refusedAt}
+use Rattle.algebra.specs.Answer.Making.{Made, made, refusedAt}
 use Rattle.algebra.specs.Reading.{readList}
 use Rattle.algebra.specs.Entries
 

@@ -7,15 +7,15 @@ use lib.ListN.{take}
 use Rattle.limits.specs.Limits.{entryBytes}
 use Rattle.limits.specs.declared.Refusal.{Refusal}
 use Rattle.limits.specs.declared.Refusal.the-variants.{OutputRoom}
-use Rattle.trees.specs.Sums.{Sum, size}
+use Rattle.sums.specs.Tree.Sums.{Sum, size}
 use Rattle.formats.specs.Tree.{recordsIn}
-use Rattle.entries.specs.Encoding.{entriesIn, encodeSum}
-use Rattle.bodies.specs.Reading.{Read, done}
-use Rattle.answers.specs.declared.Answer.{Answer}
-use Rattle.answers.specs.declared.Answer.the-variants as given
-use Rattle.answers.specs.Promises.{Promise}
-use Rattle.answers.specs.Making as making
-use Rattle.answers.specs.Making.{Made, Gives, OfBytes}
+use Rattle.sums.specs.Entry.Encoding.{entriesIn, encodeSum}
+use Rattle.modifiers.specs.Reading.{Read, done}
+use Rattle.algebra.specs.declared.answer.Answer.{Answer}
+use Rattle.algebra.specs.declared.answer.Answer.the-variants as given
+use Rattle.algebra.specs.Answer.Promises.{Promise}
+use Rattle.algebra.specs.Answer.Making as making
+use Rattle.algebra.specs.Answer.Making.{Made, Gives, OfBytes}
 use Rattle.algebra.specs.declared.ReadAnswer.{ReadAnswer}
 use Rattle.algebra.specs.declared.ReadAnswer.the-variants as answer
 use Rattle.algebra.specs.Reading.{readList, answerOf, bytesOf}

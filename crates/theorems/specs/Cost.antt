@@ -8,10 +8,10 @@ use Rattle.limits.specs.declared.Refusal.{Refusal}
 use Rattle.formats.specs.Tree.{parse}
 use Rattle.running.specs.declared.RunAnswer.the-variants.{Value}
 use Rattle.running.specs.Running.{runList}
-use Rattle.bodies.specs.Reading.{refusedAt}
-use Rattle.costs.specs.declared.CostAnswer.the-variants.{Steps, Refused}
-use Rattle.costs.specs.Cost.{mostSteps, costList}
-use Rattle.costs.specs.Counting.{ran}
+use Rattle.modifiers.specs.Reading.{refusedAt}
+use Rattle.reading.specs.declared.cost.CostAnswer.the-variants.{Steps, Refused}
+use Rattle.reading.specs.Cost.Cost.{mostSteps, costList}
+use Rattle.reading.specs.Cost.Counting.{ran}
 use Rattle.algebra.specs.declared.ReadAnswer.the-variants.{Sum}
 use Rattle.algebra.specs.Reading.{readList}
 use Rattle.algebra.specs.Replies as entry

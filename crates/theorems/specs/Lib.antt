@@ -1,4 +1,4 @@
--- The root of theorems' definitions.
+-- The root of the definitions of theorems.
 pub mod Contract
 pub mod Reals
 pub mod Value
@@ -14,3 +14,4 @@ pub mod Written
 pub mod Cases
 pub mod Nought
 pub mod PowerOverflow
+pub mod Readback

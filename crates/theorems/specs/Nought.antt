@@ -7,11 +7,11 @@ use lib.Dec.{T}
 use lib.Ieee.{Float}
 use lib.Ieee.Scale.{finite}
 use Rattle.numbers.specs.Signs.{±0, one64}
-use Rattle.complex.specs.Arith as complex
-use Rattle.terms.specs.Singles.{constant}
+use Rattle.numbers.specs.Complex.Arith as complex
+use Rattle.arithmetic.specs.Singles.{constant}
 use Rattle.formats.specs.declared.record.Primitive.the-variants.{Pow}
-use Rattle.drafts.specs.Writing.{push, does}
-use Rattle.bodies.specs.Reading.{done}
+use Rattle.writing.specs.Draft.Writing.{push, does}
+use Rattle.modifiers.specs.Reading.{done}
 use Rattle.running.specs.declared.RunAnswer.the-variants.{Value}
 use Rattle.running.specs.Running.{runList}
 use Rattle.algebra.specs.Reading.{readList}

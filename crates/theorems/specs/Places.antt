@@ -11,15 +11,15 @@ use lib.Ieee.{Float, eq}
 use lib.Ieee.Scale.{finite}
 use Rattle.numbers.specs.Signs.{zero64, one64}
 use Rattle.numbers.specs.Ops.{_⊕_, _⊗_}
-use Rattle.radicals.specs.Root.{root}
+use Rattle.numbers.specs.Radical.Root.{root}
 use Rattle.limits.specs.Limits.{recordBytes}
 use Rattle.limits.specs.declared.Refusal.the-variants.{NotFinite}
 use Rattle.formats.specs.Tree.{recordsIn}
 use Rattle.running.specs.declared.RunAnswer.the-variants.{Refused}
 use Rattle.running.specs.Primitives.{times}
 use Rattle.running.specs.Running.{runList}
-use Rattle.answers.specs.declared.Answer.{Answer}
-use Rattle.answers.specs.Making.{Gives}
+use Rattle.algebra.specs.declared.answer.Answer.{Answer}
+use Rattle.algebra.specs.Answer.Making.{Gives}
 use Rattle.algebra.specs.Entries.{derivative}
 use Rattle.theorems.specs.Value.{Exponent, whole, half, Power, power, termValue, value}
 use Rattle.theorems.specs.Records.{costOf, isX, records}

@@ -7,20 +7,20 @@ use mathlib.Core.Logic.{_↔_}
 use lib.Dec.{T}
 use lib.Ieee.{Float, binary64, ofBits}
 use lib.Ieee.Scale.{finite}
-use Rattle.complex.specs.declared.Complex.{Complex}
+use Rattle.numbers.specs.declared.complex.Complex.{Complex}
 use Rattle.cells.specs.declared.Entry as cells
 use Rattle.limits.specs.Limits.{sumLevels}
 use Rattle.limits.specs.declared.Refusal.the-variants.{NotFinite, BigPower, PowerNotFinite}
 use Rattle.limits.specs.Refusals.{refusalNo}
-use Rattle.trees.specs.declared.Merge.{Merge}
-use Rattle.trees.specs.Kinds.{X, Div}
-use Rattle.trees.specs.Sums.{Sum}
-use Rattle.trees.specs.Good.{Good}
-use Rattle.trees.specs.Map.{refused, formed, Has}
-use Rattle.terms.specs.Product.{product}
+use Rattle.sums.specs.declared.tree.Merge.{Merge}
+use Rattle.sums.specs.Tree.Kinds.{X, Div}
+use Rattle.sums.specs.Tree.Sums.{Sum}
+use Rattle.sums.specs.Tree.Good.{Good}
+use Rattle.sums.specs.Tree.Map.{refused, formed, Has}
+use Rattle.arithmetic.specs.Product.{product}
 use Rattle.formats.specs.declared.record.Record.{Record}
 use Rattle.formats.specs.declared.record.Primitive.the-variants.{Dup, Mul, Pow}
-use Rattle.drafts.specs.Writing.{push, does}
+use Rattle.writing.specs.Draft.Writing.{push, does}
 use Rattle.calculus.specs.Derivative.{derive}
 use Rattle.calculus.specs.Integral.{integrate}
 use Rattle.algebra.specs.Replies as entry

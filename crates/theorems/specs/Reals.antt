@@ -1,6 +1,6 @@
 -- Sums without imaginary parts.
 use Rattle.numbers.specs.Signs.{Zero}
-use Rattle.trees.specs.Sums.{Sum, none, and}
+use Rattle.sums.specs.Tree.Sums.{Sum, none, and}
 
 -- every coefficient, at every level, has the imaginary part +0 or -0
 unfoldable pub RealSum : Sum → Type 0

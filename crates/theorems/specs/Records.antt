@@ -5,8 +5,8 @@ use mathlib.Core.List.{List, [], _∷_}
 use lib.ListN.{length}
 use lib.Ieee.{Float, eq}
 use Rattle.numbers.specs.Signs.{one64}
-use Rattle.writer.specs.ToNodes.{Form}
-use Rattle.writer.specs.Count.{Shape, shape, cost, bareX, recordsFor}
+use Rattle.writing.specs.ToNodes.{Form}
+use Rattle.writing.specs.Count.{Shape, shape, cost, bareX, recordsFor}
 use Rattle.theorems.specs.Value.{Exponent, whole, half, Power, power}
 
 -- a power is 0, 0.5, 1, 2 or another

@@ -14,16 +14,16 @@ use Rattle.numbers.specs.Signs.{zero64}
 use Rattle.limits.specs.Limits.{recordBytes}
 use Rattle.limits.specs.Refusals.{refusalNo}
 use Rattle.limits.specs.declared.Refusal.the-variants.{NeedsMath, NotFinite}
-use Rattle.trees.specs.Sums.{Sum}
-use Rattle.trees.specs.Map.{sum}
+use Rattle.sums.specs.Tree.Sums.{Sum}
+use Rattle.sums.specs.Tree.Map.{sum}
 use Rattle.formats.specs.Tree.{recordsIn}
-use Rattle.bodies.specs.Reading.{done}
+use Rattle.modifiers.specs.Reading.{done}
 use Rattle.calculus.specs.Derivative.{derive}
 use Rattle.running.specs.declared.RunAnswer.the-variants.{Value, Refused}
 use Rattle.running.specs.Running.{runList}
-use Rattle.answers.specs.declared.Answer.{Answer}
-use Rattle.answers.specs.declared.Answer.the-variants.{Done}
-use Rattle.answers.specs.Making.{Gives}
+use Rattle.algebra.specs.declared.answer.Answer.{Answer}
+use Rattle.algebra.specs.declared.answer.Answer.the-variants.{Done}
+use Rattle.algebra.specs.Answer.Making.{Gives}
 use Rattle.algebra.specs.Reading.{readList}
 use Rattle.algebra.specs.Entries.{derivative}
 use Rattle.algebra.specs.Replies as entry

@@ -8,13 +8,13 @@ use Rattle.limits.specs.Limits.{recordBytes, entryBytes}
 use Rattle.formats.specs.declared.record.Verdict.the-variants as verdicts
 use Rattle.formats.specs.Rules.{verdict}
 use Rattle.formats.specs.Tree.{recordsIn}
-use Rattle.entries.specs.declared.Taken.{Taken}
-use Rattle.entries.specs.declared.Taken.the-variants as taken
-use Rattle.entries.specs.Encoding.{entriesIn}
-use Rattle.entries.specs.Taking.{Weighed}
-use Rattle.answers.specs.declared.Answer.the-variants as given
-use Rattle.answers.specs.Making as making
-use Rattle.answers.specs.Making.{Gives, OfBytes}
+use Rattle.sums.specs.declared.entry.Taken.{Taken}
+use Rattle.sums.specs.declared.entry.Taken.the-variants as taken
+use Rattle.sums.specs.Entry.Encoding.{entriesIn}
+use Rattle.sums.specs.Entry.Taking.{Weighed}
+use Rattle.algebra.specs.declared.answer.Answer.the-variants as given
+use Rattle.algebra.specs.Answer.Making as making
+use Rattle.algebra.specs.Answer.Making.{Gives, OfBytes}
 use Rattle.algebra.specs.declared.ReadAnswer.the-variants as answer
 use Rattle.algebra.specs.Reading.{readList}
 use Rattle.algebra.specs.Entries as lists

@@ -1,2 +1,2 @@
--- The root of uplink's laws.
+-- The root of the laws of uplink.
 pub mod Telling

@@ -8,12 +8,12 @@ use mir.Val.{boolByte}
 use Rattle.running.specs.declared.RunAnswer.{RunAnswer}
 use Rattle.running.specs.declared.RunNumbers.{RunNumbers}
 use Rattle.running.specs.Running.{numbersOf}
-use Rattle.costs.specs.declared.CostAnswer.{CostAnswer}
-use Rattle.costs.specs.declared.CostNumbers.{CostNumbers}
-use Rattle.costs.specs.Cost.{costNumbers}
-use Rattle.answers.specs.declared.Answer.{Answer}
-use Rattle.answers.specs.declared.Numbers.{Numbers}
-use Rattle.answers.specs.Making.{answerNumbers}
+use Rattle.reading.specs.declared.cost.CostAnswer.{CostAnswer}
+use Rattle.reading.specs.declared.cost.CostNumbers.{CostNumbers}
+use Rattle.reading.specs.Cost.Cost.{costNumbers}
+use Rattle.algebra.specs.declared.answer.Answer.{Answer}
+use Rattle.algebra.specs.declared.answer.Numbers.{Numbers}
+use Rattle.algebra.specs.Answer.Making.{answerNumbers}
 use Rattle.algebra.specs.declared.ReadAnswer.{ReadAnswer}
 use Rattle.algebra.specs.Reading.{readNumbers}
 use Rattle.algebra.specs.Replies as entry

@@ -1,2 +1,2 @@
--- The root of uplink's definitions.
+-- The root of the definitions of uplink.
 pub mod Told

@@ -1,9 +1,9 @@
 // The nine entries as C functions: each returns the number, and writes place and counts into `answer`. A slice is passed as a pointer and a length.
+ghost use Rattle.uplink.specs.Told.{Told, Ran, withFlag, withCount, withCost};
+ghost use lib.Dec.{eqb};
 ghost use mathlib.Core.Bool.{not};
 ghost use mathlib.Core.List.{[]};
-ghost use lib.Dec.{eqb};
 ghost use Rattle.algebra.specs.Replies as entry;
-ghost use Rattle.uplink.specs.Told.{Told, Ran, withFlag, withCount, withCost};
 
 // From a list to the sum that it stands for; `answer` is place, count and complex flag.
 #[no_mangle]
@@ -20,7 +20,7 @@ pub extern "C" fn uplink_read(list: &[u8], sum: &mut [u8], answer: &mut [u64; 3]
 pub extern "C" fn uplink_derive(sum: &[u8], out: &mut [u8], answer: &mut [u64; 2]) -> u64
     ensures { λ r. ⌜ Told entry.derive withCount (now (sum .entry)) (now (out .entry)) (now (out .exit)) r (now (answer .exit)) ⌝ }
 {
-    let n = answers::answer_numbers(algebra::derive(sum, out));
+    let n = algebra::answer::answer_numbers(algebra::derive(sum, out));
     *answer = [n.place as u64, n.count as u64];
     n.number
 }
@@ -30,7 +30,7 @@ pub extern "C" fn uplink_derive(sum: &[u8], out: &mut [u8], answer: &mut [u64; 2
 pub extern "C" fn uplink_integrate(sum: &[u8], out: &mut [u8], answer: &mut [u64; 2]) -> u64
     ensures { λ r. ⌜ Told entry.integrate withCount (now (sum .entry)) (now (out .entry)) (now (out .exit)) r (now (answer .exit)) ⌝ }
 {
-    let n = answers::answer_numbers(algebra::integrate(sum, out));
+    let n = algebra::answer::answer_numbers(algebra::integrate(sum, out));
     *answer = [n.place as u64, n.count as u64];
     n.number
 }
@@ -45,7 +45,7 @@ pub extern "C" fn uplink_write(
 ) -> u64
     ensures { λ r. ⌜ Told (entry.write (not (eqb complex 0))) withCount (now (sum .entry)) (now (out .entry)) (now (out .exit)) r (now (answer .exit)) ⌝ }
 {
-    let n = answers::answer_numbers(algebra::write(sum, complex != 0, out));
+    let n = algebra::answer::answer_numbers(algebra::write(sum, complex != 0, out));
     *answer = [n.place as u64, n.count as u64];
     n.number
 }
@@ -55,7 +55,7 @@ pub extern "C" fn uplink_write(
 pub extern "C" fn uplink_derivative(list: &[u8], out: &mut [u8], answer: &mut [u64; 2]) -> u64
     ensures { λ r. ⌜ Told entry.derivative withCount (now (list .entry)) (now (out .entry)) (now (out .exit)) r (now (answer .exit)) ⌝ }
 {
-    let n = answers::answer_numbers(algebra::derivative(list, out));
+    let n = algebra::answer::answer_numbers(algebra::derivative(list, out));
     *answer = [n.place as u64, n.count as u64];
     n.number
 }
@@ -65,7 +65,7 @@ pub extern "C" fn uplink_derivative(list: &[u8], out: &mut [u8], answer: &mut [u
 pub extern "C" fn uplink_integral(list: &[u8], out: &mut [u8], answer: &mut [u64; 2]) -> u64
     ensures { λ r. ⌜ Told entry.integral withCount (now (list .entry)) (now (out .entry)) (now (out .exit)) r (now (answer .exit)) ⌝ }
 {
-    let n = answers::answer_numbers(algebra::integral(list, out));
+    let n = algebra::answer::answer_numbers(algebra::integral(list, out));
     *answer = [n.place as u64, n.count as u64];
     n.number
 }
@@ -75,7 +75,7 @@ pub extern "C" fn uplink_integral(list: &[u8], out: &mut [u8], answer: &mut [u64
 pub extern "C" fn uplink_inverse(list: &[u8], out: &mut [u8], answer: &mut [u64; 2]) -> u64
     ensures { λ r. ⌜ Told entry.inverse withCount (now (list .entry)) (now (out .entry)) (now (out .exit)) r (now (answer .exit)) ⌝ }
 {
-    let n = answers::answer_numbers(algebra::inverse(list, out));
+    let n = algebra::answer::answer_numbers(algebra::inverse(list, out));
     *answer = [n.place as u64, n.count as u64];
     n.number
 }
@@ -96,7 +96,7 @@ pub extern "C" fn uplink_run(list: &[u8], x: f64, value: &mut f64, answer: &mut 
 pub extern "C" fn uplink_cost(list: &[u8], answer: &mut [u64; 2]) -> u64
     ensures { λ r. ⌜ Told entry.cost withCost (now (list .entry)) [] [] r (now (answer .exit)) ⌝ }
 {
-    let n = costs::cost_numbers(algebra::cost(list));
+    let n = reading::cost::cost_numbers(algebra::cost(list));
     *answer = [n.place, n.steps];
     n.number
 }

@@ -1,7 +1,7 @@
 -- A refusal of reading is handed on; the derivative of what was read is written. Assumes nothing.
 use mathlib.Core.Path.{refl}
 use Rattle.formats.specs.Tree.{recordsIn}
-use Rattle.answers.specs.Making.{deriveAndWrite}
+use Rattle.algebra.specs.Answer.Making.{deriveAndWrite}
 use Rattle.algebra.specs.Reading.{readList}
 use Rattle.algebra.specs.Entries.{derivative}
 use Rattle.algebra.proofs.Reading.{gave-source}

@@ -1,7 +1,7 @@
 -- A refusal of reading is handed on; the integral of what was read is written. Assumes nothing.
 use mathlib.Core.Path.{refl}
 use Rattle.formats.specs.Tree.{recordsIn}
-use Rattle.answers.specs.Making.{integrateAndWrite}
+use Rattle.algebra.specs.Answer.Making.{integrateAndWrite}
 use Rattle.algebra.specs.Reading.{readList}
 use Rattle.algebra.specs.Entries.{integral}
 use Rattle.algebra.proofs.Reading.{gave-source}

@@ -1,6 +1,6 @@
 -- The sum is taken and integrated, or refused. Assumes nothing.
 use mathlib.Core.Path.{refl}
-use Rattle.answers.proofs.Taking.{bytes-refused, bytes-made, bytes-source}
+use Rattle.algebra.proofs.answer.Taking.{bytes-refused, bytes-made, bytes-source}
 use borrow.Author.Needs.{needs}
 use Rattle.algebra.proofs.integrate.Statement.{statement}
 use Rattle.algebra.proofs.integrate.Tie as tie

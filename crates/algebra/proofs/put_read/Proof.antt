@@ -1,5 +1,5 @@
 -- What is put out is answered with the flag. Assumes nothing.
-use Rattle.bodies.specs.Reading.{done}
+use Rattle.modifiers.specs.Reading.{done}
 use Rattle.algebra.proofs.Reading.{flag-given}
 use borrow.Author.Needs.{needs}
 use Rattle.algebra.proofs.put_read.Statement.{statement}

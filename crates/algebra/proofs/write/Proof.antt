@@ -1,6 +1,6 @@
 -- The sum is taken and written as a list, or refused. Assumes nothing.
 use mathlib.Core.Path.{refl}
-use Rattle.answers.proofs.Taking.{bytes-refused, bytes-made, bytes-held}
+use Rattle.algebra.proofs.answer.Taking.{bytes-refused, bytes-made, bytes-held}
 use borrow.Author.Needs.{needs}
 use Rattle.algebra.proofs.write.Statement.{statement}
 use Rattle.algebra.proofs.write.Tie as tie

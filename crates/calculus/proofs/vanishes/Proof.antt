@@ -1,7 +1,7 @@
 -- By the product of coefficient and power. Assumes nothing.
 use mathlib.Core.Path.{ap, _∙_}
 use borrow.Author.Needs.{needs}
-use Rattle.complex.specs.Arith as complex
+use Rattle.numbers.specs.Complex.Arith as complex
 use Rattle.calculus.proofs.vanishes.Statement.{statement}
 use Rattle.calculus.proofs.vanishes.Tie as tie
 

@@ -6,17 +6,17 @@ use mathlib.Core.List.{List}
 use lib.Dec.{eqb}
 use lib.Ieee.{Float}
 use lib.ListN.{length}
-use Rattle.complex.specs.declared.Complex.{Complex}
-use Rattle.complex.specs.Arith as complex
+use Rattle.numbers.specs.declared.complex.Complex.{Complex}
+use Rattle.numbers.specs.Complex.Arith as complex
 use Rattle.cells.specs.declared.Entry.{Entry}
 use Rattle.limits.specs.declared.Refusal.the-variants.{TooComplex}
-use Rattle.trees.specs.Kinds as kinds
-use Rattle.trees.specs.Sums.{Sum, none, and}
-use Rattle.drafts.specs.declared.Said.{Said}
-use Rattle.drafts.specs.declared.Said.the-variants as said
-use Rattle.drafts.specs.Writing.{Written, refused, andThen}
-use Rattle.drafts.specs.Contract.Lying.{SaidAs}
-use Rattle.drafts.specs.Contract.Growing.{Ready}
+use Rattle.sums.specs.Tree.Kinds as kinds
+use Rattle.sums.specs.Tree.Sums.{Sum, none, and}
+use Rattle.writing.specs.declared.draft.Said.{Said}
+use Rattle.writing.specs.declared.draft.Said.the-variants as said
+use Rattle.writing.specs.Draft.Writing.{Written, refused, andThen}
+use Rattle.writing.specs.Draft.Contract.Lying.{SaidAs}
+use Rattle.writing.specs.Draft.Contract.Growing.{Ready}
 use Rattle.inverse.specs.Inverse.{Word, spell, low, ofQuadratic, ofPower}
 use Rattle.inverse.specs.declared.Others.{Others}
 use Rattle.inverse.specs.declared.Others.the-variants.{Nothing, Power, TooMuch}

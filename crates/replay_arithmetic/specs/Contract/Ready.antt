@@ -1,8 +1,8 @@
 -- Two operands that an operation may be run on.
 use Prim.Native.Nat.{ℕ, _*_, _≤_}
 use Rattle.limits.specs.Limits.{sumEntries}
-use Rattle.book_cells.specs.Book.{Book}
-use Rattle.book_adding.specs.Contract.Operands.{Source}
+use Rattle.cells.specs.Contract.Book.{Book}
+use Rattle.arithmetic.specs.Add.Contract.Operands.{Source}
 
 -- good sums lie in the book behind the places of a result: n cells, of which there are some, and m cells
 pub record Ready (b : Book) (n m : ℕ) : Type 0 where

@@ -7,20 +7,20 @@ use lib.Ieee.{Float, eq}
 use Rattle.numbers.specs.Constants.{euler}
 use Rattle.numbers.specs.Ops.{_⊕_, _⊖_}
 use Rattle.numbers.specs.Signs.{zero64, one64}
-use Rattle.complex.specs.declared.Complex.{Complex}
-use Rattle.complex.specs.Arith as complex
-use Rattle.complex.specs.Contract.Real.{Real}
-use Rattle.complex.proofs.Real.{real-negated}
-use Rattle.trees.specs.declared.Merge.{Merge}
-use Rattle.trees.specs.declared.Merge.the-variants.{Add, Take, Store}
+use Rattle.numbers.specs.declared.complex.Complex.{Complex}
+use Rattle.numbers.specs.Complex.Arith as complex
+use Rattle.numbers.specs.Complex.Contract.Real.{Real}
+use Rattle.numbers.proofs.complex.Real.{real-negated}
+use Rattle.sums.specs.declared.tree.Merge.{Merge}
+use Rattle.sums.specs.declared.tree.Merge.the-variants.{Add, Take, Store}
 use Rattle.limits.specs.declared.Refusal.the-variants.{TooComplex}
-use Rattle.trees.specs.Kinds as kinds
-use Rattle.trees.specs.Sums.{Sum, none, and, size, entry}
-use Rattle.trees.specs.Same.{sameSum}
-use Rattle.trees.specs.Map.{Outcome, sum, refused, Found, at, absent, formed, eachInto}
-use Rattle.terms.specs.Singles.{isX}
-use Rattle.terms.specs.Product.{product}
-use Rattle.terms.proofs.Steps.{never, sum-is, then-sum, unless-sum, either}
+use Rattle.sums.specs.Tree.Kinds as kinds
+use Rattle.sums.specs.Tree.Sums.{Sum, none, and, size, entry}
+use Rattle.sums.specs.Tree.Same.{sameSum}
+use Rattle.sums.specs.Tree.Map.{Outcome, sum, refused, Found, at, absent, formed, eachInto}
+use Rattle.arithmetic.specs.Singles.{isX}
+use Rattle.arithmetic.specs.Product.{product}
+use Rattle.arithmetic.proofs.Steps.{never, sum-is, then-sum, unless-sum, either}
 use Rattle.calculus.specs.declared.Ln.{Ln}
 use Rattle.calculus.specs.declared.Ln.the-variants.{Is, Other}
 use Rattle.calculus.specs.Derivative.{slope, vanishes, primeStep, foundThen, primeFrom, prime, byPrime, firstCoef, turnedTo, byLn, deriveX, deriveDiv, deriveExp, deriveBy, lnOf, deriveLog, deriveInto, orZero, derive}

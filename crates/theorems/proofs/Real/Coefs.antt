@@ -10,14 +10,14 @@ use Rattle.numbers.specs.Signs.{Zero, zero64, one64}
 use Rattle.numbers.proofs.Values.{bits-0}
 use Rattle.numbers.proofs.Zeros.{zero-of, mul-zero-left}
 use Rattle.numbers.proofs.Finite.{neg-finite, add-finite, sub-finite, mul-finite, div-finite}
-use Rattle.complex.specs.declared.Complex.{Complex}
-use Rattle.complex.specs.Arith as complex
-use Rattle.complex.specs.Contract.Real.{Real}
-use Rattle.complex.proofs.Real.{real-plus, real-minus, real-negated, real-times, real-timesReal, real-over, real-overReal}
-use Rattle.trees.specs.declared.Merge.{Merge}
-use Rattle.trees.specs.declared.Merge.the-variants.{Add, Take, Store}
-use Rattle.trees.specs.Map.{merged}
-use Rattle.terms.specs.Power.{rootOfOne}
+use Rattle.numbers.specs.declared.complex.Complex.{Complex}
+use Rattle.numbers.specs.Complex.Arith as complex
+use Rattle.numbers.specs.Complex.Contract.Real.{Real}
+use Rattle.numbers.proofs.complex.Real.{real-plus, real-minus, real-negated, real-times, real-timesReal, real-over, real-overReal}
+use Rattle.sums.specs.declared.tree.Merge.{Merge}
+use Rattle.sums.specs.declared.tree.Merge.the-variants.{Add, Take, Store}
+use Rattle.sums.specs.Tree.Map.{merged}
+use Rattle.arithmetic.specs.Power.{rootOfOne}
 
 -- real, where it is finite
 abbrev pub RealOnce : Complex → Type 0

@@ -4,20 +4,20 @@ use mathlib.Core.Bool.{Bool, true, false, _||_}
 use lib.Ieee.{binary64, ofBits}
 use Rattle.numbers.specs.Constants.{euler}
 use Rattle.numbers.specs.Signs.{zero64, one64}
-use Rattle.complex.specs.Arith as complex
-use Rattle.trees.specs.Kinds as kinds
-use Rattle.trees.specs.Sums.{Sum, none}
-use Rattle.trees.specs.Map.{sum}
-use Rattle.terms.specs.Singles.{constant}
-use Rattle.terms.specs.Power.{number}
-use Rattle.terms.proofs.Steps.{differ, sum-is}
+use Rattle.numbers.specs.Complex.Arith as complex
+use Rattle.sums.specs.Tree.Kinds as kinds
+use Rattle.sums.specs.Tree.Sums.{Sum, none}
+use Rattle.sums.specs.Tree.Map.{sum}
+use Rattle.arithmetic.specs.Singles.{constant}
+use Rattle.arithmetic.specs.Power.{number}
+use Rattle.arithmetic.proofs.Steps.{differ, sum-is}
 use Rattle.formats.specs.declared.record.Primitive.{Primitive}
 use Rattle.formats.specs.declared.record.Primitive.the-variants.{Identity, Pop, Dup, Flip, Neg, Not, Sqrt, Add, Sub, Mul, Div, Pow, Exp, Sin, Cos, Reciprocal, Complex, Max, SinH, CosH, Exp2, Exp10, Log, Ln, Log2, Log10, Over, Root, Unlisted}
 use Rattle.formats.specs.Tree as tree
-use Rattle.forms.specs.Forms.{ofOne, ofTwo}
-use Rattle.steps.specs.Steps.{isComplexPrimitive}
-use Rattle.bodies.specs.Reading.{done, readNodes}
-use Rattle.bodies.proofs.Keeps.{Keeping, read-keeps}
+use Rattle.primitives.specs.Forms.{ofOne, ofTwo}
+use Rattle.stack.specs.Steps.{isComplexPrimitive}
+use Rattle.modifiers.specs.Reading.{done, readNodes}
+use Rattle.modifiers.proofs.Keeps.{Keeping, read-keeps}
 use Rattle.theorems.specs.Reals.{RealSum}
 use Rattle.theorems.proofs.Real.Coefs.{real-is}
 use Rattle.theorems.proofs.Real.Terms.{none-real, single-real, constant-real, alone-real, neg-real, add-real, sub-real, product-real, quotient-real, pow-real, log-real}

@@ -12,26 +12,26 @@ use Rattle.numbers.specs.declared.Ordering.the-variants.{Less, Equal, Greater}
 use Rattle.numbers.specs.declared.SmallWhole.{SmallWhole}
 use Rattle.numbers.specs.declared.SmallWhole.the-variants.{Is, Other}
 use Rattle.numbers.proofs.Bools.{T-of}
-use Rattle.complex.specs.declared.Complex.{Complex}
-use Rattle.complex.specs.Arith as complex
-use Rattle.complex.specs.Contract.Real.{Real}
-use Rattle.complex.proofs.Real.{real-negated}
+use Rattle.numbers.specs.declared.complex.Complex.{Complex}
+use Rattle.numbers.specs.Complex.Arith as complex
+use Rattle.numbers.specs.Complex.Contract.Real.{Real}
+use Rattle.numbers.proofs.complex.Real.{real-negated}
 use Rattle.cells.specs.declared.Entry.{Entry}
-use Rattle.trees.specs.declared.Merge.{Merge}
-use Rattle.trees.specs.declared.Merge.the-variants.{Add, Store}
+use Rattle.sums.specs.declared.tree.Merge.{Merge}
+use Rattle.sums.specs.declared.tree.Merge.the-variants.{Add, Store}
 use Rattle.limits.specs.declared.Refusal.the-variants.{TooComplex, NeedsMath, BigPower}
-use Rattle.trees.specs.Kinds.{X, Div, Log, Exp}
-use Rattle.trees.specs.Sums.{Sum, none, and, size, entry}
-use Rattle.trees.specs.Order.{cmpTerm}
-use Rattle.trees.specs.Map.{byOrder, merged, coefIn, putIn, Outcome, sum, refused, Found, at, absent, andThenSum, unless, formed, eachInto}
-use Rattle.trees.proofs.Keeps.{putBy, formed-sum}
-use Rattle.terms.specs.Outcomes.{quotientCode, xByX, xByDiv, xByOther}
-use Rattle.terms.specs.Singles.{isOne, single, alone, constant, asConstant, isX, withCoef}
-use Rattle.terms.specs.Adding.{negSum, addSums, subSums}
-use Rattle.terms.specs.Product.{mulable, mulTerm, mulInto, product}
-use Rattle.terms.specs.Quotient.{xTo, allDivable, addTimes, divTerm, divBySeveral, quotient}
-use Rattle.terms.specs.Power.{raised, wholePower, rootable, unitCoefs, rootOfOne, rooted, power, byReal, isEuler, pow, log}
-use Rattle.terms.proofs.Steps.{never, sum-is, then-sum, unless-sum, either}
+use Rattle.sums.specs.Tree.Kinds.{X, Div, Log, Exp}
+use Rattle.sums.specs.Tree.Sums.{Sum, none, and, size, entry}
+use Rattle.sums.specs.Tree.Order.{cmpTerm}
+use Rattle.sums.specs.Tree.Map.{byOrder, merged, coefIn, putIn, Outcome, sum, refused, Found, at, absent, andThenSum, unless, formed, eachInto}
+use Rattle.sums.proofs.tree.Keeps.{putBy, formed-sum}
+use Rattle.arithmetic.specs.Outcomes.{quotientCode, xByX, xByDiv, xByOther}
+use Rattle.arithmetic.specs.Singles.{isOne, single, alone, constant, asConstant, isX, withCoef}
+use Rattle.arithmetic.specs.Adding.{negSum, addSums, subSums}
+use Rattle.arithmetic.specs.Product.{mulable, mulTerm, mulInto, product}
+use Rattle.arithmetic.specs.Quotient.{xTo, allDivable, addTimes, divTerm, divBySeveral, quotient}
+use Rattle.arithmetic.specs.Power.{raised, wholePower, rootable, unitCoefs, rootOfOne, rooted, power, byReal, isEuler, pow, log}
+use Rattle.arithmetic.proofs.Steps.{never, sum-is, then-sum, unless-sum, either}
 use Rattle.theorems.specs.Reals.{RealSum}
 use Rattle.theorems.proofs.Real.Coefs.{RealOnce, real-is, negated-real, times-real, over-real, merged-real, root-real}
 

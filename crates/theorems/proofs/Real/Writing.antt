@@ -10,22 +10,22 @@ use lib.Ieee.Scale.{finite}
 use Rattle.numbers.specs.Numbers.{belowEpsilon}
 use Rattle.numbers.specs.Signs.{±0, sign, Zero}
 use Rattle.numbers.proofs.Zeros.{zero-is}
-use Rattle.complex.specs.declared.Complex.{Complex}
-use Rattle.complex.specs.Arith as complex
-use Rattle.complex.specs.Contract.Real.{Real}
-use Rattle.trees.specs.Kinds as kinds
-use Rattle.trees.specs.Sums.{Sum, none, and}
-use Rattle.trees.specs.Good.{GoodEntry, Good}
-use Rattle.trees.specs.Map.{sum}
-use Rattle.terms.specs.Singles.{GoodSum}
+use Rattle.numbers.specs.declared.complex.Complex.{Complex}
+use Rattle.numbers.specs.Complex.Arith as complex
+use Rattle.numbers.specs.Complex.Contract.Real.{Real}
+use Rattle.sums.specs.Tree.Kinds as kinds
+use Rattle.sums.specs.Tree.Sums.{Sum, none, and}
+use Rattle.sums.specs.Tree.Good.{GoodEntry, Good}
+use Rattle.sums.specs.Tree.Map.{sum}
+use Rattle.arithmetic.specs.Singles.{GoodSum}
 use Rattle.formats.specs.Tree as tree
-use Rattle.drafts.specs.Writing.{append, one, Written, wrote, refused, andThen, numberRecord, ifCan, number}
-use Rattle.bodies.specs.Reading.{done, readNodes}
-use Rattle.bodies.proofs.Good.{read-good}
+use Rattle.writing.specs.Draft.Writing.{append, one, Written, wrote, refused, andThen, numberRecord, ifCan, number}
+use Rattle.modifiers.specs.Reading.{done, readNodes}
+use Rattle.modifiers.proofs.Good.{read-good}
 use Rattle.calculus.specs.Derivative.{derive}
 use Rattle.calculus.specs.Integral.{integrate}
 use Rattle.calculus.proofs.Good.{derive-good, integrate-good}
-use Rattle.writer.specs.ToNodes.{Form, constant, root, bare, square, power, form, isBare, isConstant, isEmpty, before, writePower, writeTerm, timesCoef, plus, turn, write, toNodes}
+use Rattle.writing.specs.ToNodes.{Form, constant, root, bare, square, power, form, isBare, isConstant, isEmpty, before, writePower, writeTerm, timesCoef, plus, turn, write, toNodes}
 use Rattle.theorems.specs.Reals.{RealSum}
 use Rattle.theorems.proofs.Real.Reading.{read-real}
 use Rattle.theorems.proofs.Real.Calculus.{derive-real, integrate-real}

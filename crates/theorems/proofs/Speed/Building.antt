@@ -11,11 +11,11 @@ use lib.Ieee.{Float}
 use lib.Ieee.Scale.{finite}
 use Rattle.numbers.specs.Signs.{zero64}
 use Rattle.numbers.specs.Ops.{_⊕_, _⊗_}
-use Rattle.trees.specs.Good.{isNumber}
+use Rattle.sums.specs.Tree.Good.{isNumber}
 use Rattle.formats.specs.declared.record.Primitive.the-variants as prim
 use Rattle.formats.specs.Tree.{Nodes, size}
-use Rattle.drafts.specs.Writing.{push, does, append, one, two, wrapped}
-use Rattle.drafts.proofs.Fine.{Fine, fine-more, fine-one, fine-append, fine-say, fine-wrapped, plain-does}
+use Rattle.writing.specs.Draft.Writing.{push, does, append, one, two, wrapped}
+use Rattle.writing.proofs.draft.Fine.{Fine, fine-more, fine-one, fine-append, fine-say, fine-wrapped, plain-does}
 use Rattle.theorems.specs.Value.{Exponent, Power, power, IsWholeOrHalf, termValue}
 use Rattle.theorems.specs.Records.{costOf}
 use Rattle.theorems.proofs.Speed.Steps.{Stop, or, or-join, bad, restate, identity-out, multiplies}

@@ -9,17 +9,17 @@ use lib.Ieee.{Float, fin, binary64, ofBits, toBits, eq, lt, add, mul, fits}
 use Rattle.numbers.specs.Constants.{two64}
 use Rattle.numbers.specs.Signs.{zero64, one64}
 use Rattle.numbers.specs.Numbers.{smallWhole, belowEpsilon}
-use Rattle.complex.specs.Arith as complex
+use Rattle.numbers.specs.Complex.Arith as complex
 use Rattle.limits.specs.declared.Refusal.the-variants.{NotFinite}
-use Rattle.trees.specs.Kinds as kinds
-use Rattle.trees.specs.Sums.{Sum, and, size as entries, len}
-use Rattle.trees.specs.Order.{cmpEach}
-use Rattle.trees.specs.Good.{Good}
+use Rattle.sums.specs.Tree.Kinds as kinds
+use Rattle.sums.specs.Tree.Sums.{Sum, and, size as entries, len}
+use Rattle.sums.specs.Tree.Order.{cmpEach}
+use Rattle.sums.specs.Tree.Good.{Good}
 use Rattle.formats.specs.Names.{kindOf, primitiveOf}
 use Rattle.formats.specs.Tree.{Nodes, size, count}
-use Rattle.drafts.specs.Writing.{append, Written, wrote, refused}
-use Rattle.writer.specs.ToNodes.{form, write, toNodes}
-use Rattle.writer.specs.Count.{cost, costs, recordsFor}
+use Rattle.writing.specs.Draft.Writing.{append, Written, wrote, refused}
+use Rattle.writing.specs.ToNodes.{form, write, toNodes}
+use Rattle.writing.specs.Count.{cost, costs, recordsFor}
 use Rattle.theorems.specs.Reals.{RealSum}
 use Rattle.running.specs.declared.RunAnswer.{RunAnswer}
 use Rattle.running.specs.declared.RunAnswer.the-variants.{Value, Refused}

@@ -15,7 +15,7 @@ use Rattle.numbers.specs.Signs.{zero64, one64}
 use Rattle.numbers.specs.Ops.{_⊕_, _⊗_}
 use Rattle.numbers.proofs.Bools.{bool-ext, and-true, T-of}
 use Rattle.numbers.proofs.Finite.{add-finite, mul-finite}
-use Rattle.radicals.specs.Root.{root}
+use Rattle.numbers.specs.Radical.Root.{root}
 use Rattle.running.specs.Primitives.{times}
 use Rattle.theorems.specs.Value.{Exponent, whole, half, Power, power, termValue, timesUnless, plusTerms, value}
 use Rattle.theorems.specs.Records.{costOf, isX}

@@ -10,14 +10,14 @@ use lib.ListN.{length}
 use lib.Ieee.{Float, lt}
 use Rattle.numbers.specs.Signs.{zero64}
 use Rattle.numbers.specs.Ops.{_⊕_, _⊗_}
-use Rattle.radicals.specs.Root.{root}
-use Rattle.trees.specs.Good.{isNumber}
+use Rattle.numbers.specs.Radical.Root.{root}
+use Rattle.sums.specs.Tree.Good.{isNumber}
 use Rattle.formats.specs.declared.record.Record.{Record}
 use Rattle.formats.specs.declared.record.Primitive.the-variants as prim
 use Rattle.formats.specs.Names.{kindOf}
 use Rattle.formats.specs.Tree.{Nodes, end, size, count}
-use Rattle.drafts.specs.Writing.{push, does, append, one, two, wrapped}
-use Rattle.drafts.proofs.Laws.{size-append, size-one, size-wrapped}
+use Rattle.writing.specs.Draft.Writing.{push, does, append, one, two, wrapped}
+use Rattle.writing.proofs.draft.Laws.{size-append, size-one, size-wrapped}
 use Rattle.running.specs.Running.{runs}
 use Rattle.theorems.proofs.Speed.Steps.{Stop, state, out, or, bad, unlessBelow, restate, both, then-done, push-out, dup-out, sqrt-out, Forms, adds, multiplies}
 

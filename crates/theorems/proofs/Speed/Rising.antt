@@ -15,14 +15,14 @@ use Rattle.numbers.specs.declared.Ordering.the-variants.{Less, Equal}
 use Rattle.numbers.proofs.Bools.{T-of}
 use Rattle.numbers.proofs.Order.{cmp-less, then-equal, lt-irreflexive, lt-transitive, lt-eq-left, lt-eq-right}
 use Rattle.numbers.proofs.Wholes.{means-lt, means-1, small-whole}
-use Rattle.complex.specs.declared.Complex.{Complex}
-use Rattle.complex.specs.Arith as complex
-use Rattle.trees.specs.Kinds as kinds
-use Rattle.trees.specs.Sums.{Sum, none, and, size, len, entry}
-use Rattle.trees.specs.Good.{isEmpty, Before, Good}
-use Rattle.trees.specs.Order.{cmpEach, cmpTerm}
-use Rattle.trees.proofs.Order.{Key, good-key, term-chain}
-use Rattle.book_sums.proofs.order.Walk.{GoodFirst, good-and}
+use Rattle.numbers.specs.declared.complex.Complex.{Complex}
+use Rattle.numbers.specs.Complex.Arith as complex
+use Rattle.sums.specs.Tree.Kinds as kinds
+use Rattle.sums.specs.Tree.Sums.{Sum, none, and, size, len, entry}
+use Rattle.sums.specs.Tree.Good.{isEmpty, Before, Good}
+use Rattle.sums.specs.Tree.Order.{cmpEach, cmpTerm}
+use Rattle.sums.proofs.tree.Order.{Key, good-key, term-chain}
+use Rattle.sums.proofs.order.Walk.{GoodFirst, good-and}
 use Rattle.theorems.specs.Value.{Exponent, whole, half, Power, IsWholeOrHalf, twice, Rising}
 use Rattle.theorems.proofs.Speed.Terms.{means-0, half-finite}
 use Rattle.theorems.proofs.Speed.Steps.{number-finite}

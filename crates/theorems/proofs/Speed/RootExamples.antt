@@ -7,9 +7,9 @@ use lib.Ieee.{Float, binary64, ofBits}
 use Rattle.numbers.specs.Constants.{half64, two64}
 use Rattle.numbers.specs.Signs.{zero64, one64}
 use Rattle.limits.specs.declared.Refusal.the-variants.{NeedsMath}
-use Rattle.trees.specs.Sums.{Sum}
-use Rattle.writer.specs.ToNodes.{toNodes}
-use Rattle.writer.specs.Count.{cost, costs, recordsFor}
+use Rattle.sums.specs.Tree.Sums.{Sum}
+use Rattle.writing.specs.ToNodes.{toNodes}
+use Rattle.writing.specs.Count.{cost, costs, recordsFor}
 use Rattle.running.specs.declared.RunAnswer.{RunAnswer}
 use Rattle.running.specs.declared.RunAnswer.the-variants.{Value, Refused}
 use Rattle.theorems.specs.Value as value

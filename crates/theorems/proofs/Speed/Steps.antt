@@ -16,15 +16,15 @@ use Rattle.numbers.specs.Signs.{zero64}
 use Rattle.numbers.specs.Ops.{_⊕_, _⊗_}
 use Rattle.numbers.specs.Numbers.{smallWhole}
 use Rattle.numbers.specs.declared.SmallWhole.the-variants.{Is}
-use Rattle.trees.specs.Good.{isNumber}
-use Rattle.radicals.specs.Root.{root}
+use Rattle.sums.specs.Tree.Good.{isNumber}
+use Rattle.numbers.specs.Radical.Root.{root}
 use Rattle.limits.specs.declared.Refusal.{Refusal}
 use Rattle.limits.specs.declared.Refusal.the-variants.{NeedsMath, NotFinite}
 use Rattle.formats.specs.declared.record.Record.{Record}
 use Rattle.formats.specs.declared.record.Primitive.the-variants as prim
 use Rattle.formats.specs.Names.{kindOf, primitiveOf}
 use Rattle.formats.specs.Tree.{Nodes, end, rec, size}
-use Rattle.drafts.specs.Writing.{push, does, append, one}
+use Rattle.writing.specs.Draft.Writing.{push, does, append, one}
 use Rattle.running.specs.Primitives.{times, power, rootUnless, squareRoot, went, ifFinite, leave, apply, wayOf, act}
 use Rattle.running.specs.Running.{Running, Out, done, refusedAt, andThen, settle, runBy, runs}
 use Rattle.theorems.specs.Places.{unlessFinite}

@@ -18,11 +18,11 @@ use Rattle.numbers.proofs.Bools.{and-true}
 use Rattle.numbers.proofs.Values.{bits-0}
 use Rattle.numbers.proofs.Zeros.{zero-of, zero-finite, zero-or-not, mul-zero-right, add-zeros, zero-plus}
 use Rattle.limits.specs.declared.Refusal.the-variants.{NeedsMath}
-use Rattle.trees.specs.Sums.{Sum, size as entries, entry}
-use Rattle.trees.specs.Kinds as kinds
-use Rattle.trees.specs.Good.{isNumber, Good}
-use Rattle.book_sums.proofs.order.Walk.{good-and}
-use Rattle.writer.specs.Count.{cost}
+use Rattle.sums.specs.Tree.Sums.{Sum, size as entries, entry}
+use Rattle.sums.specs.Tree.Kinds as kinds
+use Rattle.sums.specs.Tree.Good.{isNumber, Good}
+use Rattle.sums.proofs.order.Walk.{good-and}
+use Rattle.writing.specs.Count.{cost}
 use Rattle.theorems.specs.Value.{Exponent, whole, half, Power, power, Rising, termValue}
 use Rattle.theorems.specs.Records.{costOf, isX}
 use Rattle.theorems.specs.Places.{Formed, formed, inTerm, inSum, inAll, unlessFinite, firstNotFinite}

@@ -22,21 +22,21 @@ use Rattle.numbers.proofs.Bools.{bool-ext, T-of, and-true, and-false}
 use Rattle.numbers.proofs.Zeros.{zero-test}
 use Rattle.numbers.proofs.Order.{eq-symmetric, eq-transitive}
 use Rattle.numbers.proofs.Wholes.{means-eq, means-fin, means-1, means-whole, eq-means, small-whole}
-use Rattle.radicals.specs.Root.{root}
-use Rattle.complex.specs.declared.Complex.{Complex}
-use Rattle.complex.specs.Arith as complex
-use Rattle.complex.specs.Contract.Real.{Real}
-use Rattle.trees.specs.Kinds as kinds
-use Rattle.trees.specs.Good.{isNumber}
-use Rattle.trees.specs.Sums.{Sum, and}
+use Rattle.numbers.specs.Radical.Root.{root}
+use Rattle.numbers.specs.declared.complex.Complex.{Complex}
+use Rattle.numbers.specs.Complex.Arith as complex
+use Rattle.numbers.specs.Complex.Contract.Real.{Real}
+use Rattle.sums.specs.Tree.Kinds as kinds
+use Rattle.sums.specs.Tree.Good.{isNumber}
+use Rattle.sums.specs.Tree.Sums.{Sum, and}
 use Rattle.formats.specs.declared.record.Primitive.the-variants as prim
 use Rattle.formats.specs.Names.{choose}
 use Rattle.formats.specs.Tree.{Nodes, end, size}
-use Rattle.drafts.specs.Writing.{push, does, append, one, two, Written, andThen, canWrite}
-use Rattle.drafts.proofs.Laws.{append-end, append-join, size-append}
-use Rattle.drafts.proofs.Fine.{Fine, fine-more, fine-end, fine-append, fine-one, fine-two, plain-does, plain-push}
-use Rattle.writer.specs.ToNodes.{Form, form, isBare, isConstant, isEmpty, before, plus, writePower, timesCoef, write}
-use Rattle.writer.specs.Count.{cost}
+use Rattle.writing.specs.Draft.Writing.{push, does, append, one, two, Written, andThen, canWrite}
+use Rattle.writing.proofs.draft.Laws.{append-end, append-join, size-append}
+use Rattle.writing.proofs.draft.Fine.{Fine, fine-more, fine-end, fine-append, fine-one, fine-two, plain-does, plain-push}
+use Rattle.writing.specs.ToNodes.{Form, form, isBare, isConstant, isEmpty, before, plus, writePower, timesCoef, write}
+use Rattle.writing.specs.Count.{cost}
 use Rattle.running.specs.Primitives.{times}
 use Rattle.theorems.specs.Value.{Exponent, whole, half, IsWholeOrHalf, termValue, timesUnless}
 use Rattle.theorems.specs.Records.{formOf, costOf}

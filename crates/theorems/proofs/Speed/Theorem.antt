@@ -9,17 +9,17 @@ use lib.Dec.{T}
 use lib.Ieee.{Float}
 use lib.Ieee.Bits.{is-true}
 use lib.Ieee.Scale.{finite}
-use Rattle.trees.specs.Kinds as kinds
-use Rattle.trees.specs.Sums.{Sum, size as entries, entry}
-use Rattle.trees.specs.Good.{Good}
-use Rattle.book_sums.proofs.order.Walk.{good-and}
+use Rattle.sums.specs.Tree.Kinds as kinds
+use Rattle.sums.specs.Tree.Sums.{Sum, size as entries, entry}
+use Rattle.sums.specs.Tree.Good.{Good}
+use Rattle.sums.proofs.order.Walk.{good-and}
 use Rattle.formats.specs.Tree.{Nodes, size, encode}
 use Rattle.formats.proofs.record.Theorem.{parse-encode}
-use Rattle.drafts.specs.Writing.{wrote}
-use Rattle.drafts.proofs.Fine.{Fine, fine-good}
-use Rattle.writer.specs.Count as count
-use Rattle.writer.specs.Count.{Powers}
-use Rattle.writer.proofs.Count.{record-count}
+use Rattle.writing.specs.Draft.Writing.{wrote}
+use Rattle.writing.proofs.draft.Fine.{Fine, fine-good}
+use Rattle.writing.specs.Count as count
+use Rattle.writing.specs.Count.{Powers}
+use Rattle.writing.proofs.Count.{record-count}
 use Rattle.theorems.specs.Reals.{RealSum}
 use Rattle.running.specs.declared.RunAnswer.{RunAnswer}
 use Rattle.running.specs.Running.{ended, runNodes, runList}

@@ -12,19 +12,19 @@ use lib.Ieee.Scale.{finite}
 use Rattle.numbers.specs.Signs.{zero64, one64}
 use Rattle.numbers.specs.Ops.{_⊕_, _⊗_}
 use Rattle.numbers.proofs.Bools.{and-false}
-use Rattle.complex.specs.declared.Complex.{Complex}
-use Rattle.trees.specs.Kinds as kinds
-use Rattle.trees.specs.Sums.{Sum, and, size as entries, entry}
-use Rattle.trees.specs.Good.{isNumber, Good}
-use Rattle.book_sums.proofs.order.Walk.{GoodFirst, good-and}
+use Rattle.numbers.specs.declared.complex.Complex.{Complex}
+use Rattle.sums.specs.Tree.Kinds as kinds
+use Rattle.sums.specs.Tree.Sums.{Sum, and, size as entries, entry}
+use Rattle.sums.specs.Tree.Good.{isNumber, Good}
+use Rattle.sums.proofs.order.Walk.{GoodFirst, good-and}
 use Rattle.formats.specs.declared.record.Record.{Record}
 use Rattle.formats.specs.declared.record.Primitive.the-variants as prim
 use Rattle.formats.specs.Tree.{Nodes, end, rec, size}
-use Rattle.drafts.specs.Writing.{push, does, on, body, append, one, two, wrote}
-use Rattle.drafts.proofs.Laws.{size-append}
-use Rattle.drafts.proofs.Fine.{Fine, fine-more}
-use Rattle.writer.specs.ToNodes.{isBare, write}
-use Rattle.writer.specs.Count.{cost}
+use Rattle.writing.specs.Draft.Writing.{push, does, on, body, append, one, two, wrote}
+use Rattle.writing.proofs.draft.Laws.{size-append}
+use Rattle.writing.proofs.draft.Fine.{Fine, fine-more}
+use Rattle.writing.specs.ToNodes.{isBare, write}
+use Rattle.writing.specs.Count.{cost}
 use Rattle.running.specs.Primitives.{times}
 use Rattle.running.specs.Running.{runs}
 use Rattle.theorems.specs.Value.{Exponent, whole, half, Power, power, IsWholeOrHalf, twice, Rising, termValue, plusTerms, value}

@@ -8,11 +8,11 @@ use lib.Dec.{T}
 use lib.Ieee.{Float}
 use lib.Ieee.Scale.{finite}
 use Rattle.limits.specs.declared.Refusal.the-variants.{NeedsMath, NotFinite}
-use Rattle.trees.specs.Sums.{Sum}
+use Rattle.sums.specs.Tree.Sums.{Sum}
 use Rattle.formats.specs.Tree.{Nodes, size, encode}
-use Rattle.drafts.specs.Writing.{wrote}
-use Rattle.writer.specs.ToNodes.{toNodes}
-use Rattle.writer.specs.Count.{recordsFor}
+use Rattle.writing.specs.Draft.Writing.{wrote}
+use Rattle.writing.specs.ToNodes.{toNodes}
+use Rattle.writing.specs.Count.{recordsFor}
 use Rattle.running.specs.declared.RunAnswer.the-variants.{Value, Refused}
 use Rattle.running.specs.Running.{runNodes, runList}
 use Rattle.theorems.specs.Value.{Power, value}

@@ -4,7 +4,7 @@ use borrow.Author.Needs.{needs}
 use borrow.Author.Tests.{not-false}
 use mathlib.Core.Path.{_≡_, sym}
 use mathlib.Core.Bool.{true, false, true≢false}
-use Rattle.book_cells.specs.Contract.Moves.{over}
+use Rattle.cells.specs.Contract.Moves.{over}
 use Rattle.replay_arithmetic.proofs.arith.ready.Statement.{statement}
 use Rattle.replay_arithmetic.proofs.arith.ready.Tie as tie
 

@@ -3,9 +3,9 @@ use Prim.Native.Nat.{_+_, _≤_, _-_}
 use native.Mathlib.Omega.{arith}
 use borrow.Author.Needs.{needs}
 use lib.ListN.{length-set}
-use Rattle.book_cells.specs.Book.{book}
-use Rattle.book_cells.specs.Contract.Moves.{SameRoom}
-use Rattle.book_cells.proofs.Laws.{same-room-refl}
+use Rattle.cells.specs.Contract.Book.{book}
+use Rattle.cells.specs.Contract.Moves.{SameRoom}
+use Rattle.cells.proofs.Laws.{same-room-refl}
 use Rattle.replay_arithmetic.proofs.cases.lay.Statement.{statement}
 use Rattle.replay_arithmetic.proofs.cases.lay.Tie as tie
 

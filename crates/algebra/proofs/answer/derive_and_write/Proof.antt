@@ -1,0 +1,39 @@
+-- The derivative is written as a list, or its refusal is handed on. Assumes nothing.
+use Rattle.formats.specs.Tree.{recordsIn}
+use Rattle.algebra.specs.Answer.Making.{deriveAndWrite, write}
+use Rattle.algebra.proofs.answer.Giving.{then-refused, then-held, then-made}
+use borrow.Author.Needs.{needs}
+use Rattle.algebra.proofs.answer.derive_and_write.Statement.{statement}
+use Rattle.algebra.proofs.answer.derive_and_write.Tie as tie
+
+write-sum-requires : tie.Need-write-sum-requires
+write-sum-requires c κs =
+    let start = c .before .before .before .before .before .before .before .before .before .before .before .before .before .before .before .before .before .before .before in
+    let held = start .pre .0 .held in
+    then-held _ (start .args .w) _ (c .before .before .before .before .before .m .given .1) (c .before .before .before .before .before .before .before .before .before .before .before .before .expr-deriv .ensures .1 (held .0) (held .1))
+
+returns : tie.Need-returns
+unfolding deriveAndWrite
+returns c s l = then-refused recordsIn _ (c .before .before .before .before .before .before .before .before .before .before .before .before .before .before .before .args .w) _ (write (c .before .before .before .before .before .before .before .before .before .before .before .before .before .before .before .args .complex)) (c .before .before .before .before .before .before .before .before .before .before .before .before .before .before .before .args .out .now) (c .before .q .given .1) (c .before .before .before .before .before .before .before .before .expr-deriv .ensures .1 s l)
+
+returns-2 : tie.Need-returns-2
+unfolding deriveAndWrite
+returns-2 c s l = then-made recordsIn _ (c .before .before .before .before .before .before .before .before .before .before .before .before .before .before .before .before .before .before .before .before .before .before .args .w) _ (write (c .before .before .before .before .before .before .before .before .before .before .before .before .before .before .before .before .before .before .before .before .before .before .args .complex)) (c .before .before .before .before .before .before .before .before .m .given .1) (c .before .before .before .before .before .before .before .before .before .before .before .before .before .before .before .expr-deriv .ensures .1 s l) (c .before .before .write-sum .ensures)
+
+pub derive-and-write-spec : {M : Type 1} → statement M
+derive-and-write-spec =
+    tie.close
+    (tie.spec
+    (λ c κs. search needs)
+    (λ c. search needs)
+    (λ c. search needs)
+    write-sum-requires
+    (λ c. search needs)
+    (λ c. search needs)
+    (λ c. search needs)
+    returns
+    (λ c. search needs)
+    (λ c. search needs)
+    (λ c. search needs)
+    (λ c. search needs)
+    returns-2)

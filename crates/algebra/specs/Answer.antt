@@ -1,0 +1,3 @@
+-- The root of the definitions of algebra::answer.
+pub mod Promises
+pub mod Making

@@ -1,3 +1,0 @@
--- The root of answers' definitions.
-pub mod Promises
-pub mod Making

@@ -1,2 +1,0 @@
--- The root of arena's laws.
-pub mod Laws

@@ -1,2 +1,0 @@
--- The root of arena's definitions.
-pub mod Stack

@@ -1,1 +1,0 @@
-// What is asked of the sums on the stack and of those held: definitions and laws alone.

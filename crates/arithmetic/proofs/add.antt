@@ -1,0 +1,6 @@
+-- The root of the laws of arithmetic::add.
+pub mod Lying
+pub mod Folding
+pub mod Reading
+pub mod Negating
+pub mod Places

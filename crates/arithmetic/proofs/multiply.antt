@@ -1,0 +1,3 @@
+-- The root of the laws of arithmetic::multiply.
+pub mod Shapes
+pub mod Laws

@@ -1,0 +1,2 @@
+-- The root of the definitions of arithmetic::multiply.
+pub mod Contract

@@ -1,2 +1,0 @@
--- The root of book_adding's definitions.
-pub mod Contract

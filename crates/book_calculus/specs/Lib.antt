@@ -1,2 +1,0 @@
--- The root of book_calculus' definitions.
-pub mod Contract

@@ -1,3 +1,0 @@
--- The root of book_cells' laws.
-pub mod Laws
-pub mod Writes

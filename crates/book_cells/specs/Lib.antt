@@ -1,3 +1,0 @@
--- The root of book_cells' definitions.
-pub mod Book
-pub mod Contract

@@ -1,4 +1,0 @@
--- What contracts between own functions, or laws, cite, and no promise to a user.
-pub mod Fine
-pub mod Laid
-pub mod Steps

@@ -1,2 +1,0 @@
--- The root of book_entries' definitions.
-pub mod Contract

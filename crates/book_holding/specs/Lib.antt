@@ -1,2 +1,0 @@
--- The root of book_holding's definitions.
-pub mod Contract

@@ -1,2 +1,0 @@
--- The root of book_inverse's laws.
-pub mod Searching

@@ -1,2 +1,0 @@
--- The root of book_leaves' definitions.
-pub mod Contract

@@ -1,2 +1,0 @@
--- The root of book_powers' definitions.
-pub mod Contract

@@ -1,3 +1,0 @@
--- The root of book_primitives' laws.
-pub mod Constants
-pub mod Cases

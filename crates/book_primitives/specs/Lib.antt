@@ -1,1 +1,0 @@
--- The root of book_primitives' definitions.

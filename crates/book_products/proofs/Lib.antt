@@ -1,3 +1,0 @@
--- The root of book_products' laws.
-pub mod Shapes
-pub mod Laws

@@ -1,2 +1,0 @@
--- The root of book_products' definitions.
-pub mod Contract

@@ -1,2 +1,0 @@
--- The root of book_quotients' definitions.
-pub mod Contract

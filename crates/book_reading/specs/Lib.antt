@@ -1,2 +1,0 @@
--- The root of book_reading's definitions.
-pub mod Contract

@@ -1,2 +1,0 @@
--- The root of book_stack's definitions.
-pub mod Contract

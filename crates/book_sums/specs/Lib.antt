@@ -1,2 +1,0 @@
--- The root of book_sums' definitions.
-pub mod Contract

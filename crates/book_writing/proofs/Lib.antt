@@ -1,2 +1,0 @@
--- The root of book_writing's laws.
-pub mod Turning

@@ -1,0 +1,3 @@
+-- What contracts between own functions, or laws, cite, and no promise to a user.
+pub mod Book
+pub mod Moves

@@ -1,2 +1,0 @@
--- The root of complex's laws.
-pub mod Real

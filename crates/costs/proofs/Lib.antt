@@ -1,9 +1,0 @@
--- The root of costs' laws.
-pub mod Each
-pub mod Begins
-pub mod Most
-pub mod Exact
-pub mod Without
-pub mod Theorem
-pub mod Laws
-pub mod Examples

@@ -1,3 +1,0 @@
--- The root of drafts' definitions.
-pub mod Writing
-pub mod Contract

@@ -1,2 +1,0 @@
--- The root of entries' laws.
-pub mod Codes

@@ -1,2 +1,0 @@
--- The root of forms' definitions.
-pub mod Forms

@@ -1,2 +1,0 @@
--- The root of holds' laws.
-pub mod Laws

@@ -1,2 +1,0 @@
--- The root of holds' definitions.
-pub mod Holding

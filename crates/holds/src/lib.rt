@@ -1,1 +1,0 @@
-// What modifiers do to the stack around their bodies: definitions and laws alone.

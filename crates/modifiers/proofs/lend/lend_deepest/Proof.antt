@@ -1,0 +1,80 @@
+-- `modifiers::lend_deepest` meets its contract: the deepest c of the sums held lie from v on, and are copied down to the stack's end. Assumes nothing.
+use Prim.Native.Nat.{_+_, _-_, _≤_}
+use native.Mathlib.Omega.{arith}
+use borrow.Author.Needs.{needs}
+use Rattle.stack.specs.Contract.Arena.{Arena, arena}
+use Rattle.stack.specs.declared.slots.Deep.{Deep}
+use Rattle.stack.specs.declared.slots.Deep.the-variants.{From, Short}
+use Rattle.modifiers.specs.Holding.{deepest}
+use Rattle.modifiers.proofs.hold.Moves.{Found, found-is, found-for, search-held, lowest-at, lowest-within, sink-asks, lent-never, lent-fits, lent-full}
+use Rattle.modifiers.proofs.lend.lend_deepest.Statement.{statement}
+use Rattle.modifiers.proofs.lend.lend_deepest.Tie as tie
+
+abbrev entry : tie.Start → Arena
+entry s = arena (s .args .kinds) (s .args .insides) (s .args .numbers) (s .args .sizes)
+
+-- what the search found of the sums held
+abbrev Sought : tie.Start → Deep → Type 0
+Sought s r = Found (entry s) (s .args .v) (s .args .v + s .args .m) (s .args .k - s .args .c) r
+
+abbrev start : tie.After-d → tie.Start
+start c = c .before .before .before .before .before .before .before .before
+
+found : (c : tie.After-d) → Sought (start c) (From (c .d .given .0 .0))
+found c =
+    let s = start c in
+    let r = From (c .d .given .0 .0) in
+    let e = c .before .before .measure .ensures in
+    found-for (entry s) (s .args .v) (s .args .v + s .args .m) r (c .before .before .before .less .ensures) (found-is (entry s) (s .args .v) (s .args .v + s .args .m) (c .before .before .before .less .result) (c .d .given .1) e)
+
+missed : (c : tie.After-enum-told) → Sought (c .before .before .before .before .before .before .before .before) Short
+missed c =
+    let s = c .before .before .before .before .before .before .before .before in
+    found-for (entry s) (s .args .v) (s .args .v + s .args .m) Short (c .before .before .before .less .ensures) (found-is (entry s) (s .args .v) (s .args .v + s .args .m) (c .before .before .before .less .result) (c .enum-told .given .1) (c .before .before .measure .ensures))
+
+abbrev Within : tie.After-d → Type 0
+Within c = let s = start c in (s .args .v ≤ c .d .given .0 .0) × (s .args .v + (c .d .given .0 .0 - s .args .v) ≤ s .args .v + s .args .m)
+
+within : (c : tie.After-d) → Within c
+within c = let s = start c in lowest-within (s .args .k - s .args .c) (c .d .given .0 .0) (s .pre .2 .0) (found c) (s .pre .2 .1)
+
+returns-3 : tie.Need-returns-3
+returns-3 c ss up len =
+    let d = c .before .before .before .before .before .before .before .before .before .before .before .before .before .before in
+    let s = start d in
+    let w = d .d .given .0 .0 in
+    let room = within d .1 in
+    let few = s .pre .1 in
+    lent-fits (s .args .at) (w - s .args .v) (deepest (s .args .c) ss) (s .pre .0) (omega arith) (lowest-at (s .args .k) (s .args .c) w ss (found d) len up) (c .before .before .before .before .before .before .before .before .before .before .before .before .if1 .left) (c .before .before .before .before .before .before .before .sink .ensures)
+
+pub lend-deepest-spec : {M : Type 1} → statement M
+lend-deepest-spec =
+    tie.close
+    (tie.spec
+    (λ c. search needs)
+    (λ c κs. search needs)
+    (λ c κs. let s = c .before .before .before .before .before in search-held (s .args .v) (s .args .v + s .args .m) (s .pre .2 .0) (s .pre .0) (s .pre .1) (s .pre .2 .1))
+    (λ c. search needs)
+    (λ c. search needs)
+    (λ c. search needs)
+    (λ c ss up len. let s = c .before .before .before .before .before .before .before .before in absurd (lent-never (s .args .k) (s .args .c) ss (missed c) len up))
+    (λ c. within (c .before) .0)
+    (λ c. search needs)
+    (λ c. search needs)
+    (λ c ss up len.
+    let d = c .before .before in
+    let s = start d in
+    let w = d .d .given .0 .0 in
+    lent-full (s .args .at) (w - s .args .v) (deepest (s .args .c) ss) (s .pre .0) (lowest-at (s .args .k) (s .args .c) w ss (found d) len up) (c .if1 .taken))
+    (λ c κs.
+    let d = c .before .before .before .before .before .before in
+    let s = start d in
+    let room = within d .1 in
+    let few = s .pre .1 in
+    sink-asks (d .d .given .0 .0 - s .args .v) (s .pre .0) (omega arith))
+    (λ c. search needs)
+    (λ c. search needs)
+    (λ c. search needs)
+    (λ c. search needs)
+    (λ c. search needs)
+    returns-3)

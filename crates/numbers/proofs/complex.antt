@@ -1,0 +1,2 @@
+-- The root of the laws of numbers::complex.
+pub mod Real

@@ -1,0 +1,3 @@
+-- The root of the definitions of numbers::radical.
+pub mod Root
+pub mod Contract

@@ -1,0 +1,8 @@
+-- The root of the laws of powers::raise.
+pub mod Down
+pub mod Roots
+pub mod Rooting
+pub mod Turns
+pub mod Whole
+pub mod Reals
+pub mod Constants

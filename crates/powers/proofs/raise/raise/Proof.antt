@@ -1,0 +1,53 @@
+-- `powers::raise::raise` meets its contract: no product is a copy. Assumes nothing.
+use Prim.Native.Nat.{_+_}
+use native.Mathlib.Omega.{arith}
+use borrow.Author.Needs.{needs}
+use mathlib.Core.Path.{_≡_, ap, _∙_}
+use Rattle.cells.specs.Contract.Book.{Book, book}
+use Rattle.cells.proofs.Laws.{room-less, kept-wider, copied-kept}
+use Rattle.arithmetic.proofs.Agree.{raised-none}
+use Rattle.arithmetic.specs.Power.{raised}
+use Rattle.sums.proofs.order.Walk.{lies-copied}
+use Rattle.arithmetic.proofs.add.Lying.{apart-copy, agree-done}
+use Rattle.arithmetic.proofs.add.Places.{apart-result, room-result}
+use Rattle.powers.proofs.raise.raise.Statement.{statement}
+use Rattle.powers.proofs.raise.raise.Tie as tie
+
+-- the book with the base copied
+abbrev B′ : tie.After-copy-within → Book
+B′ c = let last = c .copy-within .last in book (last .0) (last .1 .0) (last .1 .1 .0)
+
+abbrev copied : tie.After-numbers → tie.After-copy-within
+copied c = c .before .before .before .before .before
+
+pub raise-spec : {M : Type 1} → statement M
+raise-spec =
+    tie.close
+    (tie.spec
+    -- none
+    (λ c κs.
+    let st = c .before .before .before .before .before .before in
+    let pre = st .pre in
+    (pre .0 .held .1 .room, room-less {n = st .args .w + (64 + 64)} (omega (arith, pre .0 .few)) (pre .1), apart-copy (apart-result (pre .0 .apart))))
+    (λ c. copied c .copy-within .ensures .long .kinds)
+    (λ c. copied c .copy-within .ensures .long .insides)
+    (λ c. copied c .copy-within .ensures .long .numbers)
+    (λ c.
+    let copy = copied c in
+    let test = copy .before .before .before .before in
+    let st = test .before .before .before in
+    let pre = st .pre in (
+      kept-wider (omega arith) (omega (arith, pre .0 .few)) (copied-kept (copy .copy-within .ensures)),
+      λ s ls.
+          agree-done (B′ copy) (st .args .w) (st .args .n) _ s (ap (λ m. raised m s s) (test .if1 .taken) ∙ raised-none s s) (pre .0 .few)
+          (lies-copied (copy .copy-within .ensures) (room-less {n = st .args .w + (64 + 64)} (omega (arith, pre .0 .few)) (pre .1)) ls),
+    ))
+    -- some
+    (λ c κs.
+    let test = c .before .before .before in
+    let pre = test .before .before .before .pre in
+    (omega (arith, test .if1 .left), pre .0, pre .1))
+    (λ c. search needs)
+    (λ c. search needs)
+    (λ c. search needs)
+    (λ c. c .before .before .before .before .before .multiply .ensures))

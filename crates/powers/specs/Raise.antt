@@ -1,0 +1,2 @@
+-- The root of the definitions of powers::raise.
+pub mod Contract

@@ -1,0 +1,2 @@
+pub mod divide;
+pub mod raise;

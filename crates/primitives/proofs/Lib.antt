@@ -1,0 +1,3 @@
+-- The root of the laws of primitives.
+pub mod Constants
+pub mod Cases

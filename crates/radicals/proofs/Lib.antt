@@ -1,9 +1,0 @@
--- The root of radicals' laws.
-pub mod Squares
-pub mod Counting
-pub mod Nearest
-pub mod Patterns
-pub mod Scaling
-pub mod Function
-pub mod Laws
-pub mod Examples

@@ -1,3 +1,0 @@
--- The root of radicals' definitions.
-pub mod Root
-pub mod Contract

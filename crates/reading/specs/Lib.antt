@@ -1,0 +1,3 @@
+-- The root of the definitions of reading.
+pub mod Contract
+pub mod Cost

@@ -1,0 +1,105 @@
+// A list read on a stack that starts with x: one sum must be left.
+use cells::Entry;
+use limits::HANDLED_NEEDED;
+use limits::LIST_LEVELS;
+use limits::Refusal;
+use numbers::complex::Complex;
+use stack::slots::ARENA;
+use stack::slots::WORKING;
+use stack::state::AlgebraEnv;
+use stack::state::Ran;
+ghost use mathlib.Core.Path.{_≡_};
+ghost use Rattle.formats.specs.Tree.{parse};
+ghost use Rattle.formats.specs.Rules.{verdict};
+ghost use Rattle.formats.specs.declared.record.Verdict.the-variants.{Good};
+ghost use Rattle.stack.specs.State.{State, went};
+ghost use Rattle.modifiers.specs.Reading.{start, ended, readNodes};
+ghost use Rattle.cells.specs.Contract.Book.{entering, leaving};
+ghost use Rattle.stack.specs.Contract.Arena.{arena, arenaIn, arenaOut, Space, places};
+ghost use Rattle.stack.specs.Contract.Agree.{Stands, Ready};
+ghost use Rattle.reading.specs.Contract.Data.{DataAs};
+
+// What reading gives: a sum of so many entries, with the complex flag, or a refusal with its place; and whether what was read counts as handled.
+pub enum AlgebraData {
+    Sum(usize, bool, bool),
+    Refused(Refusal, usize, bool),
+}
+
+// The stack starts with x.
+fn begin_with_x(
+    kinds: &mut [u8],
+    insides: &mut [u8],
+    numbers: &mut [[u64; 3]],
+    sizes: &mut [u8],
+) -> AlgebraEnv
+    requires { ⌜ Space (arena kinds insides numbers sizes) places ⌝ }
+    ensures { λ r. ⌜ Ready (arenaOut kinds insides numbers sizes) places r × Stands (arenaOut kinds insides numbers sizes) places r start ⌝ }
+{
+    let x = Entry {
+        kind: sums::tree::X,
+        inside: 0,
+        num: 1.0,
+        coef: Complex::ONE,
+    };
+    cells::store(kinds, insides, numbers, WORKING, x);
+    sizes[WORKING] = 1;
+    AlgebraEnv {
+        used: WORKING + 1,
+        handled: 0,
+        complex: false,
+    }
+}
+
+// One sum must be left.
+fn last_of(
+    kinds: &[u8],
+    insides: &[u8],
+    numbers: &[[u64; 3]],
+    sizes: &[u8],
+    env: AlgebraEnv,
+) -> AlgebraData
+    requires { ⌜ Ready (arena kinds insides numbers sizes) places env ⌝ }
+    ensures { λ r. ⌜ ((st : State) → Stands (arenaIn kinds insides numbers sizes) places env st → DataAs r (entering kinds insides numbers) (ended (went st))) ⌝ }
+{
+    let many = HANDLED_NEEDED <= env.handled;
+    let handled = many | stack::slots::any_complex(kinds, insides, numbers, sizes, env.used);
+    if env.used == WORKING {
+        return AlgebraData::Refused(Refusal::NoOutput, 0, handled);
+    }
+    let n = stack::slots::top_size(sizes, WORKING, env.used);
+    if WORKING + n != env.used {
+        return AlgebraData::Refused(Refusal::TooManyOutputs, 0, handled);
+    }
+    AlgebraData::Sum(n, env.complex, handled)
+}
+
+// Reads a list that keeps the rules: the sum lies behind the working places.
+pub fn nodes_expr(
+    list: &[u8],
+    kinds: &mut [u8],
+    insides: &mut [u8],
+    numbers: &mut [[u64; 3]],
+    sizes: &mut [u8],
+) -> AlgebraData
+    requires { ⌜ (verdict (now list) ≡ Good) × Space (arena kinds insides numbers sizes) places ⌝ }
+    ensures { λ r. ⌜ DataAs r (leaving kinds insides numbers) (readNodes (parse (now (list .entry)))) ⌝ }
+{
+    let env = begin_with_x(kinds, insides, numbers, sizes);
+    let n = formats::record::count_records(list);
+    let ran = crate::walk::walk(
+        list,
+        0,
+        n,
+        kinds,
+        insides,
+        numbers,
+        sizes,
+        ARENA,
+        env,
+        LIST_LEVELS,
+    );
+    match ran {
+        Ran::Stopped(q, at, b) => AlgebraData::Refused(q, at, b),
+        Ran::Went(end) => last_of(kinds, insides, numbers, sizes, end),
+    }
+}

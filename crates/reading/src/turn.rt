@@ -1,0 +1,114 @@
+// A record that has no inside, with what is counted of it, and a record that is refused as it is.
+use formats::record::Kind;
+use formats::record::KindFound;
+use formats::record::Record;
+use limits::HANDLED_NEEDED;
+use limits::Refusal;
+use stack::state::AlgebraEnv;
+use stack::state::Ran;
+use stack::state::Stepped;
+ghost use mathlib.Core.Path.{_≡_};
+ghost use mathlib.Core.Bool.{_||_, cond};
+ghost use mathlib.Core.List.{List};
+ghost use Prim.Native.Nat.{suc, _-_, _≤_, min};
+ghost use lib.Dec.{leb};
+ghost use lib.ListN.{length};
+ghost use Rattle.limits.specs.Limits.{handledNeeded};
+ghost use Rattle.sums.specs.Tree.Sums.{Sum};
+ghost use Rattle.formats.specs.Names.{kindOf};
+ghost use Rattle.formats.specs.declared.record.KindFound.the-variants.{Known};
+ghost use Rattle.stack.specs.Stack.{anyComplex};
+ghost use Rattle.stack.specs.Steps.{leafStep};
+ghost use Rattle.stack.specs.Contract.Arena.{arena, arenaIn, arenaOut, working, places};
+ghost use Rattle.stack.specs.Contract.Stacked.{Stacked};
+ghost use Rattle.stack.specs.Contract.Agree.{Ready, Does};
+ghost use Rattle.stack.specs.Contract.Acting.{handledBy};
+ghost use Rattle.reading.specs.Contract.Quick.{isQuick};
+
+// Whether a record is a push of a number or a primitive: most are, and their step needs no state but the stack's end and what was handled.
+pub fn is_quick(kind: u8) -> bool
+    ensures { λ r. ⌜ r ≡ isQuick (kindOf kind) ⌝ }
+{
+    match formats::record::kind_of(kind) {
+        KindFound::Known(k) => quick_kind(k),
+        KindFound::Unknown => false,
+    }
+}
+
+fn quick_kind(k: Kind) -> bool
+    ensures { λ r. ⌜ r ≡ isQuick (Known k) ⌝ }
+{
+    match k {
+        Kind::RealPush => true,
+        Kind::ComplexPush => true,
+        Kind::Primitive => true,
+        Kind::ArrayPush => false,
+        Kind::OtherPush => false,
+        Kind::Modifier => false,
+        Kind::Body => false,
+        Kind::Run => false,
+        Kind::CustomInverse => false,
+        Kind::Obverse => false,
+        Kind::NoNormal => false,
+        Kind::UnderMarker => false,
+        Kind::AnythingElse => false,
+    }
+}
+
+// How many are handled after a record was run. The table is not asked where no more are counted.
+pub fn counted(r: Record, handled: usize) -> usize
+    ensures { λ n. ⌜ n ≡ cond (handledBy r (kindOf (r .kind))) (min handledNeeded (suc handled)) handled ⌝ }
+{
+    if handled == HANDLED_NEEDED {
+        return handled;
+    }
+    stack::leaf::count(handled, stack::leaf::counts(r))
+}
+
+// A refusal at a place.
+pub fn refuse(
+    q: Refusal,
+    at: usize,
+    kinds: &[u8],
+    insides: &[u8],
+    numbers: &[[u64; 3]],
+    sizes: &[u8],
+    env: AlgebraEnv,
+) -> Ran
+    requires { ⌜ (env .used ≤ length (now sizes)) × ((ss : List Sum) × Stacked (arena kinds insides numbers sizes) working (env .used) ss) ⌝ }
+    ensures { λ r. ⌜ ((ss : List Sum) → Stacked (arenaIn kinds insides numbers sizes) working (env .used) ss → r ≡ Ran.Stopped q at (leb handledNeeded (env .handled) || anyComplex ss)) ⌝ }
+{
+    match stack::state::halt(q, kinds, insides, numbers, sizes, env.used, env.handled) {
+        Stepped::Went(_) => Ran::Went(env),
+        Stepped::Stopped(r, b) => Ran::Stopped(r, at, b),
+    }
+}
+
+// A record that has no inside.
+pub fn read_leaf(
+    r: Record,
+    at: usize,
+    kinds: &mut [u8],
+    insides: &mut [u8],
+    numbers: &mut [[u64; 3]],
+    sizes: &mut [u8],
+    v: usize,
+    env: AlgebraEnv,
+) -> Ran
+    requires { ⌜ Ready (arena kinds insides numbers sizes) v env ⌝ }
+    ensures { λ e. ⌜ Does (arenaIn kinds insides numbers sizes) (arenaOut kinds insides numbers sizes) v env e (λ st. leafStep at r (kindOf (r .kind)) (places - v) st) ⌝ }
+{
+    let used = env.used;
+    let handled = env.handled;
+    match stack::leaf::leaf(r, kinds, insides, numbers, sizes, v, used, handled) {
+        Stepped::Stopped(q, b) => Ran::Stopped(q, at, b),
+        Stepped::Went(then) => {
+            let more = counted(r, handled);
+            Ran::Went(AlgebraEnv {
+                used: then,
+                handled: more,
+                complex: env.complex | stack::leaf::flags(r),
+            })
+        }
+    }
+}

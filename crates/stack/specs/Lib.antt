@@ -1,0 +1,5 @@
+-- The root of the definitions of stack.
+pub mod Stack
+pub mod State
+pub mod Steps
+pub mod Contract

@@ -1,3 +1,0 @@
--- What the proofs of several crates share.
-pub mod Laws
-pub mod Forming

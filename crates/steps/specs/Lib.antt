@@ -1,3 +1,0 @@
--- The root of steps' definitions.
-pub mod State
-pub mod Steps

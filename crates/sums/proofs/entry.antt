@@ -1,0 +1,2 @@
+-- The root of the laws of sums::entry.
+pub mod Codes

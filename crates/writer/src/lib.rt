@@ -1,1 +1,0 @@
-// The list that a sum is written as: definitions and laws alone.

@@ -1,0 +1,3 @@
+-- The root of the definitions of writing::draft.
+pub mod Writing
+pub mod Contract
