@@ -14,8 +14,8 @@
  * were. Input and output must not overlap.
  *
  * The functions keep no state, allocate nothing and may be called from several threads at once. The
- * most stack that a call took of the lists that were tried: 100,100 bytes where records lie inside few
- * others, 212,700 at the deepest there is, 128 levels (x86-64; tests/stack measures it). Have half a MiB.
+ * most stack that a call took of the lists that were tried: 87,700 bytes where records lie inside few
+ * others, 122,400 at the deepest there is, 128 levels (x86-64; tests/stack measures it). Have half a MiB.
  */
 #ifndef UPLINK_H
 #define UPLINK_H
@@ -145,8 +145,8 @@ struct uplink_cost_answer {
 
 /* A limit for uplink_cost, for programs without a reason for another. A list without Both never comes
  * near it: it has at most 2,048 records, and each is run at most once. So many steps take less than a
- * second where the sums are small, and hours at worst, where every other step is a power of a sum of 64
- * terms (README.md, Lists from strangers). Who has less time sets a limit of 10,000: minutes at worst. */
+ * second where the sums are small, and an hour at worst, where every other step is a power of a sum of 64
+ * terms (README.md, Lists from strangers). Who has less time sets a limit of 10,000: a minute at worst. */
 #define UPLINK_STEPS_RECOMMENDED 1000000
 
 /* From a list to the sum that it stands for. */

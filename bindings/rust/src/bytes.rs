@@ -23,7 +23,7 @@ use crate::{ffi, Refusal, Refused, ENTRY_BYTES, RECORD_BYTES};
 /// The largest cost that is told: it stands for itself and for everything above it.
 pub const MOST_STEPS: u64 = u64::MAX;
 /// A limit for the cost of a list, for programs without a reason for another. A list without Both never comes near it; so many steps take less than a
-/// second where the sums are small, and hours at worst. The repository's README tells more (Lists from strangers).
+/// second where the sums are small, and an hour at worst. The repository's README tells more (Lists from strangers).
 pub const STEPS_RECOMMENDED: u64 = 1_000_000;
 
 /// A sum that was read.

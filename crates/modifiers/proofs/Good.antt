@@ -13,9 +13,11 @@ use Rattle.sums.specs.Tree.Good.{Good}
 use Rattle.sums.specs.Tree.Map.{sum}
 use Rattle.arithmetic.specs.Singles.{GoodSum, single}
 use Rattle.arithmetic.proofs.Steps.{sum-is}
-use Rattle.arithmetic.proofs.Goodness.{x-head, none-good, fits-bits, good-xTo, good-one, good-alone, good-over, good-neg, good-not, good-sqrt, good-add, good-sub, good-product, good-quotient, good-pow, good-exp, good-reciprocal, good-complex, good-exp2, good-exp10, good-log, good-ln, good-log2, good-log10}
+use Rattle.arithmetic.proofs.Goodness.{x-head, none-good, fits-bits, good-xTo, good-one, good-alone, good-over, good-neg, good-not, good-sqrt, good-add, good-sub, good-product}
+use Rattle.arithmetic.proofs.Goodness.{good-quotient, good-pow, good-exp, good-reciprocal, good-complex, good-exp2, good-exp10, good-log, good-ln, good-log2, good-log10}
 use Rattle.formats.specs.declared.record.Primitive.{Primitive}
-use Rattle.formats.specs.declared.record.Primitive.the-variants.{Identity, Pop, Dup, Flip, Neg, Not, Sqrt, Add, Sub, Mul, Div, Pow, Exp, Sin, Cos, Reciprocal, Complex, Max, SinH, CosH, Exp2, Exp10, Log, Ln, Log2, Log10, Over, Root, Unlisted}
+use Rattle.formats.specs.declared.record.Primitive.the-variants.{Identity, Pop, Dup, Flip, Neg, Not, Sqrt, Add, Sub, Mul, Div, Pow, Exp, Sin, Cos, Reciprocal, Complex, Max, SinH}
+use Rattle.formats.specs.declared.record.Primitive.the-variants.{CosH, Exp2, Exp10, Log, Ln, Log2, Log10, Over, Root, Unlisted}
 use Rattle.formats.specs.Tree as tree
 use Rattle.primitives.specs.Forms.{ofOne, ofTwo}
 use Rattle.stack.specs.Steps.{constantOf}
@@ -25,7 +27,8 @@ use Rattle.modifiers.proofs.Keeps.{Keeping, read-keeps}
 -- a push that forms a sum forms a good one
 pub constant-good : (re im : ℕ) {s : Sum} → constantOf re im ≡ sum s → GoodSum s
 constant-good re im e =
-    good-alone (x-head (size none) zero64 (complex.complex (ofBits binary64 re) (ofBits binary64 im)) (ofBits-fits binary64 0) (record { re = ofBits-fits binary64 re; im = ofBits-fits binary64 im })) none-good e
+    good-alone (x-head (size none) zero64 (complex.complex (ofBits binary64 re) (ofBits binary64 im)) (ofBits-fits binary64 0)
+    (record { re = ofBits-fits binary64 re; im = ofBits-fits binary64 im })) none-good e
 
 -- what a primitive forms of a good sum is good
 pub one-good : (p : Primitive) {a s : Sum} → GoodSum a → ofOne p a ≡ sum s → GoodSum s

@@ -282,7 +282,8 @@ module _ (P : Bool → Sum → Type 0) (keeps : Keeping P) where
       (lend-after P at h (deepest (f .args) ss) st′ (each-deepest P (st′ .complex) (f .args) ss (each-rises c (st′ .complex) ss (λ z. r′ (r z)) e)) k′)
       (a .0 h)))
 
-  one-body : (at : ℕ) (fs : List Runner) (st : State) (k : Runner → Walked) → AllKeep P fs → ((f : Runner) → Keeps P (f .run) → After P (st .complex) (k f)) → After P (st .complex) (oneBody at fs st k)
+  one-body : (at : ℕ) (fs : List Runner) (st : State) (k : Runner → Walked) → AllKeep P fs → ((f : Runner) → Keeps P (f .run) → After P (st .complex) (k f))
+      → After P (st .complex) (oneBody at fs st k)
   one-body at [] st k a y = tt
   one-body at (f ∷ []) st k a y = y f (a .0)
   one-body at (f ∷ g ∷ fs) st k a y = tt

@@ -25,7 +25,7 @@ use Rattle.modifiers.specs.Holding.{deepest, backTo, holding, dropping, 
 use Rattle.modifiers.specs.Modifiers.{Runner, oneBody, twoBodies, modifier}
 use Rattle.modifiers.specs.Reading.{runners}
 use Rattle.modifiers.specs.Contract.Walks.{walkOf}
-use Rattle.modifiers.specs.Contract.Plans.{wayOf, heldBy, lentBy, begin, planBy, twice, planned, modified, Follows, UsedAs}
+use Rattle.modifiers.specs.Contract.Plans.{wayOf, heldBy, lentBy, begin, planBy, twice, planned, modified, AtMostOne, Follows, UsedAs}
 use Rattle.modifiers.specs.declared.Plan.{Plan}
 use Rattle.modifiers.specs.declared.Use.{Use}
 use Rattle.modifiers.specs.declared.Use.the-variants.{Refused, Bodies}
@@ -267,9 +267,9 @@ args-by Bracket n a b e = refl
 args-by Fork n a b e = refl
 args-by Unlisted n a b e = refl
 
--- the stretches of a plan
-module _ (s : List ℕ) (a b e n left : ℕ) (x : Stretch s a b true left) (y : Stretch s b e true left) (z : Stretch s e e true left) where
-  first-by : (m : Modifier) → Stretch s (planBy m n a b e .from) (planBy m n a b e .to) true left
+-- what holds of every stretch that a plan may have
+module _ (P : ℕ → ℕ → Type 0) (a b e n : ℕ) (x : P a b) (y : P b e) (z : P e e) where
+  first-by : (m : Modifier) → P (planBy m n a b e .from) (planBy m n a b e .to)
   first-by Dip = x
   first-by Gap = x
   first-by On = x
@@ -279,7 +279,7 @@ module _ (s : List ℕ) (a b e n left : ℕ) (x : Stretch s a b true left) (y : 
   first-by Fork = x
   first-by Unlisted = x
 
-  then-by : (m : Modifier) → Stretch s (planBy m n a b e .again) (planBy m n a b e .until) true left
+  then-by : (m : Modifier) → P (planBy m n a b e .again) (planBy m n a b e .until)
   then-by Dip = z
   then-by Gap = z
   then-by On = z
@@ -332,13 +332,28 @@ module _ (s : List ℕ) (at : ℕ) (r : Record) (left : ℕ) (t : Stretch s (at 
   follows-by (inl (w, c)) = (one-all s a e left t c .0, same-one w c)
   follows-by (inr (w, c)) = (two-all s a e left t c .0, same-two w c)
 
+  second-one : UsedAs Bodies s at r → AtMostOne s (nextOf s a) e
+  second-one (inl (w, c)) l = let o = one-all s a e left t c in absurd (omega (arith, l, o .1))
+  second-one (inr (w, c)) l = two-all s a e left t c .2
+
   pub plan-follows : UsedAs Bodies s at r → (a < e) × Follows s at r left plan
   plan-follows u =
       let f = follows-by u in
       let x = stretch-first s a e true left t (f .0) in
       let y = stretch-after s a e true left t (f .0) in
       let z = stretch-end s a e left t in
-      (f .0, record { first = first-by s a (nextOf s a) e (recAt s a .args) left x y z m; then = then-by s a (nextOf s a) e (recAt s a .args) left x y z m; same = λ h st. rw (args-by m (recAt s a .args) a (nextOf s a) e) (f .1 h st) })
+      let n = recAt s a .args in
+      let Of : ℕ → ℕ → Type 0 = λ i j. Stretch s i j true left in
+      let one : (i : ℕ) → AtMostOne s i i = λ i l. absurd (omega arith) in (
+        f .0,
+        record {
+          first = first-by Of a (nextOf s a) e n x y z m;
+          then = then-by Of a (nextOf s a) e n x y z m;
+          first-one = first-by (AtMostOne s) a (nextOf s a) e n (λ l. refl) (second-one u) (one e) m;
+          then-one = then-by (AtMostOne s) a (nextOf s a) e n (λ l. refl) (second-one u) (one e) m;
+          same = λ h st. rw (args-by m n a (nextOf s a) e) (f .1 h st);
+        },
+      )
 
 -- there is a first body
 pub bodies-some : (s : List ℕ) (at : ℕ) (r : Record) → UsedAs Bodies s at r → at + 1 < at + 1 + r .inside

@@ -30,7 +30,8 @@ pub fn lend_deepest(
     env: AlgebraEnv,
 ) -> Ran
     requires { ⌜ Ready (arena kinds insides numbers sizes) v env × (v + m ≤ places) × ((ss : List Sum) × Stacked (arena kinds insides numbers sizes) v (v + m) ss × (length ss ≡ k)) ⌝ }
-    ensures { λ r. ⌜ ((ss : List Sum) → Stacked (arenaIn kinds insides numbers sizes) v (v + m) ss → length ss ≡ k → Does (arenaIn kinds insides numbers sizes) (arenaOut kinds insides numbers sizes) v env r (λ st. lend at (places - v) (deepest c ss) st)) ⌝ }
+    ensures { λ r. ⌜ ((ss : List Sum) → Stacked (arenaIn kinds insides numbers sizes) v (v + m) ss → length ss ≡ k → Does (arenaIn kinds insides numbers sizes)
+        (arenaOut kinds insides numbers sizes) v env r (λ st. lend at (places - v) (deepest c ss) st)) ⌝ }
 {
     let used = env.used;
     let d = stack::slots::measure(sizes, v, v + m, crate::hold::less(k, c));

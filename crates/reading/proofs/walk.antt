@@ -1,2 +1,3 @@
 -- The laws of walks in the arena.
+pub mod Flat
 pub mod Laws

@@ -1,7 +1,6 @@
 // A list read on a stack that starts with x: one sum must be left.
 use cells::Entry;
 use limits::HANDLED_NEEDED;
-use limits::LIST_LEVELS;
 use limits::Refusal;
 use numbers::complex::Complex;
 use stack::slots::ARENA;
@@ -86,18 +85,7 @@ pub fn nodes_expr(
 {
     let env = begin_with_x(kinds, insides, numbers, sizes);
     let n = formats::record::count_records(list);
-    let ran = crate::walk::walk(
-        list,
-        0,
-        n,
-        kinds,
-        insides,
-        numbers,
-        sizes,
-        ARENA,
-        env,
-        LIST_LEVELS,
-    );
+    let ran = crate::walk::walk(list, 0, n, kinds, insides, numbers, sizes, ARENA, env);
     match ran {
         Ran::Stopped(q, at, b) => AlgebraData::Refused(q, at, b),
         Ran::Went(end) => last_of(kinds, insides, numbers, sizes, end),

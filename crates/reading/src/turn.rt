@@ -4,6 +4,7 @@ use formats::record::KindFound;
 use formats::record::Record;
 use limits::HANDLED_NEEDED;
 use limits::Refusal;
+use modifiers::Inside;
 use stack::state::AlgebraEnv;
 use stack::state::Ran;
 use stack::state::Stepped;
@@ -18,12 +19,13 @@ ghost use Rattle.sums.specs.Tree.Sums.{Sum};
 ghost use Rattle.formats.specs.Names.{kindOf};
 ghost use Rattle.formats.specs.declared.record.KindFound.the-variants.{Known};
 ghost use Rattle.stack.specs.Stack.{anyComplex};
+ghost use Rattle.modifiers.specs.Reading.{insideOf};
 ghost use Rattle.stack.specs.Steps.{leafStep};
 ghost use Rattle.stack.specs.Contract.Arena.{arena, arenaIn, arenaOut, working, places};
 ghost use Rattle.stack.specs.Contract.Stacked.{Stacked};
 ghost use Rattle.stack.specs.Contract.Agree.{Ready, Does};
 ghost use Rattle.stack.specs.Contract.Acting.{handledBy};
-ghost use Rattle.reading.specs.Contract.Quick.{isQuick};
+ghost use Rattle.reading.specs.Contract.Quick.{isQuick, hasNodes};
 
 // Whether a record is a push of a number or a primitive: most are, and their step needs no state but the stack's end and what was handled.
 pub fn is_quick(kind: u8) -> bool
@@ -32,6 +34,17 @@ pub fn is_quick(kind: u8) -> bool
     match formats::record::kind_of(kind) {
         KindFound::Known(k) => quick_kind(k),
         KindFound::Unknown => false,
+    }
+}
+
+// Whether what is inside a record is nodes that are run in turn. They stand right behind it, and what comes after it behind them.
+pub fn has_nodes(kind: u8) -> bool
+    ensures { λ r. ⌜ r ≡ hasNodes (insideOf (kindOf kind)) ⌝ }
+{
+    match modifiers::inside_of(kind) {
+        Inside::Nodes => true,
+        Inside::Nothing => false,
+        Inside::Bodies => false,
     }
 }
 

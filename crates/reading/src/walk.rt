@@ -1,6 +1,6 @@
-// Records run on a stack of sums. A body runs by a call of the function on itself, with a level less.
+// Records run on a stack of sums. A body runs by a call of the function on itself: what lies inside a record has a level less.
+use formats::record::Kind;
 use formats::record::Record;
-use modifiers::Inside;
 use modifiers::Plan;
 use modifiers::Use;
 use modifiers::hold::Begun;
@@ -8,19 +8,19 @@ use stack::state::AlgebraEnv;
 use stack::state::Ran;
 use stack::state::Stepped;
 ghost use mathlib.Core.Path.{_≡_};
-ghost use mathlib.Core.Bool.{Bool};
+ghost use mathlib.Core.Bool.{Bool, false};
 ghost use Prim.Native.Nat.{_+_, _-_};
 ghost use Rattle.formats.specs.Tree.{forest};
-ghost use Rattle.formats.specs.Contract.Walk.{Stretch};
-ghost use Rattle.formats.specs.Names.{modifierOf};
+ghost use Rattle.formats.specs.Names.{kindOf, modifierOf};
 ghost use Rattle.formats.specs.declared.record.Modifier.the-variants.{Fork};
 ghost use Rattle.modifiers.specs.declared.Use.the-variants.{Bodies};
-ghost use Rattle.modifiers.specs.Reading.{runners, stepOf};
+ghost use Rattle.modifiers.specs.Reading.{runners, insideOf, stepOf};
 ghost use Rattle.modifiers.specs.Contract.Walks.{walkOf};
 ghost use Rattle.modifiers.specs.Contract.Plans.{modified, UsedAs};
 ghost use Rattle.stack.specs.Contract.Arena.{arena, arenaIn, arenaOut, places};
 ghost use Rattle.stack.specs.Contract.Agree.{Ready, Does};
-ghost use Rattle.reading.specs.Contract.Runs.{Inner, Bodily, Planned, Round, Rounds, Many, Forks};
+ghost use Rattle.reading.specs.Contract.Quick.{hasNodes};
+ghost use Rattle.reading.specs.Contract.Runs.{Keeps, Single, Inner, Bodily, Planned, Round, Rounds, Many, Forks};
 
 fn wide(x: u8) -> usize
     ensures { λ r. ⌜ r ≡ x ⌝ }
@@ -28,7 +28,7 @@ fn wide(x: u8) -> usize
     x as usize
 }
 
-// Runs the records from `from` up to `to` in turn. What is held lies in the arena from v on.
+// Runs the records from `from` up to `to` in turn. What is held lies in the arena from v on. Nodes inside a record stand right behind it, so the walk goes on with them.
 pub fn walk(
     list: &[u8],
     from: usize,
@@ -39,9 +39,8 @@ pub fn walk(
     sizes: &mut [u8],
     v: usize,
     env: AlgebraEnv,
-    left: usize,
 ) -> Ran
-    requires { ⌜ Ready (arena kinds insides numbers sizes) v env × ((b : Bool) × Stretch (now list) from to b left) ⌝ }
+    requires { ⌜ Ready (arena kinds insides numbers sizes) v env × ((b : Bool) × Keeps (now list) from to b × Single (now list) from to b) ⌝ }
     ensures { λ r. ⌜ Does (arenaIn kinds insides numbers sizes) (arenaOut kinds insides numbers sizes) v env r (λ st. walkOf (now (list .entry)) from to (places - v) st) ⌝ }
 {
     let mut at = from;
@@ -61,12 +60,16 @@ pub fn walk(
             at = next;
             continue;
         }
+        if crate::turn::has_nodes(r.kind) {
+            at = at + 1;
+            continue;
+        }
         let cur = AlgebraEnv {
             used,
             handled,
             complex,
         };
-        let ran = step(list, at, r, kinds, insides, numbers, sizes, v, cur, left);
+        let ran = step(list, at, r, kinds, insides, numbers, sizes, v, cur);
         let Ran::Went(then) = ran else {
             return ran;
         };
@@ -82,7 +85,7 @@ pub fn walk(
     })
 }
 
-// Runs one record.
+// Runs one record that has no nodes inside.
 fn step(
     list: &[u8],
     at: usize,
@@ -93,27 +96,15 @@ fn step(
     sizes: &mut [u8],
     v: usize,
     env: AlgebraEnv,
-    left: usize,
 ) -> Ran
-    requires { ⌜ Ready (arena kinds insides numbers sizes) v env × Inner (now list) at r left ⌝ }
-    ensures { λ o. ⌜ Does (arenaIn kinds insides numbers sizes) (arenaOut kinds insides numbers sizes) v env o (λ st. stepOf at r (runners (at + 1) (forest (now (list .entry)) (at + 1) (at + 1 + r .inside))) (places - v) st) ⌝ }
+    requires { ⌜ Ready (arena kinds insides numbers sizes) v env × Inner (now list) at r × (hasNodes (insideOf (kindOf (r .kind))) ≡ false) ⌝ }
+    ensures { λ o. ⌜ Does (arenaIn kinds insides numbers sizes) (arenaOut kinds insides numbers sizes) v env o
+        (λ st. stepOf at r (runners (at + 1) (forest (now (list .entry)) (at + 1) (at + 1 + r .inside))) (places - v) st) ⌝ }
 {
-    match modifiers::inside_of(r.kind) {
-        Inside::Nothing => crate::turn::read_leaf(r, at, kinds, insides, numbers, sizes, v, env),
-        Inside::Nodes => walk(
-            list,
-            at + 1,
-            at + 1 + r.inside as usize,
-            kinds,
-            insides,
-            numbers,
-            sizes,
-            v,
-            env,
-            left - 1,
-        ),
-        Inside::Bodies => modify(list, at, r, kinds, insides, numbers, sizes, v, env, left),
+    if formats::record::is_a(r.kind, Kind::Modifier) {
+        return modify(list, at, r, kinds, insides, numbers, sizes, v, env);
     }
+    crate::turn::read_leaf(r, at, kinds, insides, numbers, sizes, v, env)
 }
 
 // Runs a modifier.
@@ -127,15 +118,14 @@ fn modify(
     sizes: &mut [u8],
     v: usize,
     env: AlgebraEnv,
-    left: usize,
 ) -> Ran
-    requires { ⌜ Ready (arena kinds insides numbers sizes) v env × Bodily (now list) (at + 1) (at + 1 + r .inside) left ⌝ }
+    requires { ⌜ Ready (arena kinds insides numbers sizes) v env × Bodily (now list) (at + 1) (at + 1 + r .inside) ⌝ }
     ensures { λ o. ⌜ Does (arenaIn kinds insides numbers sizes) (arenaOut kinds insides numbers sizes) v env o (λ st. modified (now (list .entry)) at r (places - v) st) ⌝ }
 {
     match modifiers::use_of(list, at, r) {
         Use::Refused(q) => crate::turn::refuse(q, at, kinds, insides, numbers, sizes, env),
-        Use::Bodies => with_bodies(list, at, r, kinds, insides, numbers, sizes, v, env, left),
-        Use::Forks => fork(list, at, r, kinds, insides, numbers, sizes, v, env, left),
+        Use::Bodies => with_bodies(list, at, r, kinds, insides, numbers, sizes, v, env),
+        Use::Forks => fork(list, at, r, kinds, insides, numbers, sizes, v, env),
     }
 }
 
@@ -150,27 +140,15 @@ fn with_bodies(
     sizes: &mut [u8],
     v: usize,
     env: AlgebraEnv,
-    left: usize,
 ) -> Ran
-    requires { ⌜ Ready (arena kinds insides numbers sizes) v env × Bodily (now list) (at + 1) (at + 1 + r .inside) left × UsedAs Bodies (now list) at r ⌝ }
+    requires { ⌜ Ready (arena kinds insides numbers sizes) v env × Bodily (now list) (at + 1) (at + 1 + r .inside) × UsedAs Bodies (now list) at r ⌝ }
     ensures { λ o. ⌜ Does (arenaIn kinds insides numbers sizes) (arenaOut kinds insides numbers sizes) v env o (λ st. modified (now (list .entry)) at r (places - v) st) ⌝ }
 {
     let p = modifiers::plan_of(list, at, r);
     let begun = modifiers::begin::begin(r.code, p.args, at, kinds, insides, numbers, sizes, v, env);
     match begun {
         Begun::Halted(q, place, b) => Ran::Stopped(q, place, b),
-        Begun::Held(cur, held) => around(
-            list,
-            p,
-            held,
-            kinds,
-            insides,
-            numbers,
-            sizes,
-            v,
-            cur,
-            left,
-        ),
+        Begun::Held(cur, held) => around(list, p, held, kinds, insides, numbers, sizes, v, cur),
     }
 }
 
@@ -185,24 +163,12 @@ fn around(
     sizes: &mut [u8],
     v: usize,
     env: AlgebraEnv,
-    left: usize,
 ) -> Ran
-    requires { ⌜ Round (arena kinds insides numbers sizes) v held env × Planned (now list) p left ⌝ }
+    requires { ⌜ Round (arena kinds insides numbers sizes) v held env × Planned (now list) p ⌝ }
     ensures { λ o. ⌜ Rounds (arenaIn kinds insides numbers sizes) (arenaOut kinds insides numbers sizes) v held env o (now (list .entry)) p ⌝ }
 {
     let low = v - held;
-    let ran = walk(
-        list,
-        p.from,
-        p.to,
-        kinds,
-        insides,
-        numbers,
-        sizes,
-        low,
-        env,
-        left - 1,
-    );
+    let ran = walk(list, p.from, p.to, kinds, insides, numbers, sizes, low, env);
     let Ran::Went(cur) = ran else {
         return ran;
     };
@@ -217,7 +183,6 @@ fn around(
         sizes,
         v,
         back,
-        left - 1,
     )
 }
 
@@ -232,9 +197,8 @@ fn fork(
     sizes: &mut [u8],
     v: usize,
     env: AlgebraEnv,
-    left: usize,
 ) -> Ran
-    requires { ⌜ Ready (arena kinds insides numbers sizes) v env × Bodily (now list) (at + 1) (at + 1 + r .inside) left × (modifierOf (r .code) ≡ Fork) ⌝ }
+    requires { ⌜ Ready (arena kinds insides numbers sizes) v env × Bodily (now list) (at + 1) (at + 1 + r .inside) × (modifierOf (r .code) ≡ Fork) ⌝ }
     ensures { λ o. ⌜ Does (arenaIn kinds insides numbers sizes) (arenaOut kinds insides numbers sizes) v env o (λ st. modified (now (list .entry)) at r (places - v) st) ⌝ }
 {
     let from = at + 1;
@@ -246,7 +210,6 @@ fn fork(
         Begun::Held(cur, held) => fork_each(
             list,
             at,
-            from,
             to,
             k,
             held,
@@ -256,7 +219,6 @@ fn fork(
             sizes,
             v - held,
             cur,
-            left,
         ),
     }
 }
@@ -265,7 +227,6 @@ fn fork(
 fn fork_each(
     list: &[u8],
     at: usize,
-    from: usize,
     to: usize,
     k: usize,
     m: usize,
@@ -275,11 +236,11 @@ fn fork_each(
     sizes: &mut [u8],
     v: usize,
     env: AlgebraEnv,
-    left: usize,
 ) -> Ran
-    requires { ⌜ Ready (arena kinds insides numbers sizes) v env × Bodily (now list) from to left × Many (arena kinds insides numbers sizes) v m k ⌝ }
-    ensures { λ o. ⌜ Forks (arenaIn kinds insides numbers sizes) (arenaOut kinds insides numbers sizes) v m k env o (now (list .entry)) at from to ⌝ }
+    requires { ⌜ Ready (arena kinds insides numbers sizes) v env × Bodily (now list) (at + 1) to × Many (arena kinds insides numbers sizes) v m k ⌝ }
+    ensures { λ o. ⌜ Forks (arenaIn kinds insides numbers sizes) (arenaOut kinds insides numbers sizes) v m k env o (now (list .entry)) at (at + 1) to ⌝ }
 {
+    let from = at + 1;
     let mut i = formats::record::count_nodes(list, from, to);
     let mut cur = env;
     while 0 < i {
@@ -311,7 +272,6 @@ fn fork_each(
             sizes,
             v,
             ready,
-            left - 1,
         );
         let Ran::Went(then) = ran else {
             return ran;

@@ -14,7 +14,8 @@ use Rattle.modifiers.specs.declared.hold.Begun.{Begun}
 use Rattle.modifiers.specs.declared.begin.Manner.{Manner}
 use Rattle.modifiers.specs.declared.begin.Manner.the-variants.{Drops, Copies, Holds}
 
-pub begins-held : {a b : Arena} {v k c : ℕ} {env : AlgebraEnv} {r : Begun} (at n : ℕ) (m : Modifier) → k ≡ heldBy m n → c ≡ lentBy m → Begins a b v env r (λ st f. holding at k c (1152 - v) st f) → Begins a b v env r (λ st f. holding at (heldBy m n) (lentBy m) (1152 - v) st f)
+pub begins-held : {a b : Arena} {v k c : ℕ} {env : AlgebraEnv} {r : Begun} (at n : ℕ) (m : Modifier) → k ≡ heldBy m n → c ≡ lentBy m
+    → Begins a b v env r (λ st f. holding at k c (1152 - v) st f) → Begins a b v env r (λ st f. holding at (heldBy m n) (lentBy m) (1152 - v) st f)
 begins-held at n m p q g = rw (← p) (rw (← q) g)
 
 module _ {a b : Arena} {v : ℕ} {env : AlgebraEnv} {r : Begun} (at n : ℕ) where

@@ -16,7 +16,8 @@ use Rattle.stack.specs.Contract.Stacked.{Stacked, Sized, sizesOf, deep}
 use Rattle.stack.specs.Contract.Blocks.{Raised, Sunk}
 use Rattle.stack.specs.declared.slots.Deep.{Deep}
 use Rattle.stack.specs.declared.slots.Deep.the-variants.{From, Short}
-use Rattle.stack.proofs.slots.Laws.{space-less, space-same, outside-refl, outside-trans, outside-wider, stacked-none, stacked-total, stacked-le, stacked-sized, stacked-moved, stacked-join, stacked-above, stacked-raised, stacked-sunk, deep-from, deep-few}
+use Rattle.stack.proofs.slots.Laws.{space-less, space-same, outside-refl, outside-trans, outside-wider, stacked-none, stacked-total, stacked-le, stacked-sized, stacked-moved}
+use Rattle.stack.proofs.slots.Laws.{stacked-join, stacked-above, stacked-raised, stacked-sunk, deep-from, deep-few}
 use Rattle.stack.specs.State.{State, Walked, went, stopped, andThen, withStack, taking, lend}
 use Rattle.stack.specs.Contract.Agree.{Stands, Ready, Agree, Does}
 use Rattle.stack.specs.declared.state.AlgebraEnv.{AlgebraEnv}
@@ -66,7 +67,8 @@ search-asks ready =
     let room = ready .space .sizes in
     (omega arith, (sizesOf (ready .some .0 .stack), stacked-sized (ready .some .1 .stack)))
 
-pub search-held : {a : Arena} {v : ℕ} {env : AlgebraEnv} (lo hi : ℕ) (ss : List Sum) → Ready a v env → hi ≤ 1152 → Stacked a lo hi ss → (hi ≤ length (a .sizes)) × ((ns : List ℕ) × Sized (a .sizes) lo hi ns)
+pub search-held : {a : Arena} {v : ℕ} {env : AlgebraEnv} (lo hi : ℕ) (ss : List Sum) → Ready a v env → hi ≤ 1152 → Stacked a lo hi ss
+    → (hi ≤ length (a .sizes)) × ((ns : List ℕ) × Sized (a .sizes) lo hi ns)
 search-held lo hi ss ready few st = let room = ready .space .sizes in (omega arith, (sizesOf ss, stacked-sized st))
 
 pub raise-asks : {a : Arena} {v : ℕ} {env : AlgebraEnv} (k w : ℕ) → Ready a v env → Found a 128 (env .used) k (From w) → (w ≤ env .used) × Space a (env .used + (v - env .used))
@@ -77,7 +79,8 @@ raise-asks k w ready found =
     (cut k w (ready .some .0 .stack) found (s .stack) .high, space-less (omega arith) (ready .space))
 
 -- the same of the top k
-pub search-top : {a : Arena} {v : ℕ} {env : AlgebraEnv} (k w : ℕ) → Ready a v env → Found a 128 (env .used) k (From w) → (env .used ≤ length (a .sizes)) × ((ns : List ℕ) × Sized (a .sizes) w (env .used) ns)
+pub search-top : {a : Arena} {v : ℕ} {env : AlgebraEnv} (k w : ℕ) → Ready a v env → Found a 128 (env .used) k (From w)
+    → (env .used ≤ length (a .sizes)) × ((ns : List ℕ) × Sized (a .sizes) w (env .used) ns)
 search-top {env = env} k w ready found =
     let s = ready .some .1 in
     let below = s .below in
@@ -86,17 +89,21 @@ search-top {env = env} k w ready found =
 
 -- ---- held
 
-halted : (a : Arena) (v at : ℕ) (env : AlgebraEnv) (G : State → (List Sum → State → Walked) → Walked) (r : Begun) → r ≡ Halted TooManyVariables at (leb 2 (env .handled)) → ((st : State) → Stands a v env st → (f : List Sum → State → Walked) → G st f ≡ stopped TooManyVariables at (leb 2 (env .handled))) → Begins a a v env r G
+halted : (a : Arena) (v at : ℕ) (env : AlgebraEnv) (G : State → (List Sum → State → Walked) → Walked) (r : Begun) → r ≡ Halted TooManyVariables at (leb 2 (env .handled))
+    → ((st : State) → Stands a v env st → (f : List Sum → State → Walked) → G st f ≡ stopped TooManyVariables at (leb 2 (env .handled))) → Begins a a v env r G
 halted a v at env G r e h = subst (λ (x : Begun). Begins a a v env x G) (sym e) (record { kept = outside-refl a 0 v; begins = h })
 
 -- there are fewer than k
-short : {a : Arena} {v : ℕ} {env : AlgebraEnv} (at k : ℕ) → Found a 128 (env .used) k Short → (st : State) → Stands a v env st → (f : List Sum → State → Walked) → taking at k st f ≡ stopped TooManyVariables at (leb 2 (env .handled))
+short : {a : Arena} {v : ℕ} {env : AlgebraEnv} (at k : ℕ) → Found a 128 (env .used) k Short → (st : State) → Stands a v env st → (f : List Sum → State → Walked)
+    → taking at k st f ≡ stopped TooManyVariables at (leb 2 (env .handled))
 short at k found st s f = taking-short at k st f (too-few k (st .stack) found (s .stack)) ∙ ap (λ (n : ℕ). stopped TooManyVariables at (leb 2 n)) (sym (s .handled))
 
-pub held-short : {a : Arena} {v : ℕ} {env : AlgebraEnv} (at k : ℕ) (r : Begun) → r ≡ Halted TooManyVariables at (leb 2 (env .handled)) → Found a 128 (env .used) k Short → Begins a a v env r (λ st f. taking at k st f)
+pub held-short : {a : Arena} {v : ℕ} {env : AlgebraEnv} (at k : ℕ) (r : Begun) → r ≡ Halted TooManyVariables at (leb 2 (env .handled)) → Found a 128 (env .used) k Short
+    → Begins a a v env r (λ st f. taking at k st f)
 held-short {a} {v} {env} at k r e found = halted a v at env (λ st f. taking at k st f) r e (short at k found)
 
-pub held-under : {a a′ : Arena} {v : ℕ} {env : AlgebraEnv} (at k w : ℕ) → Ready a v env → Found a 128 (env .used) k (From w) → Raised a a′ w (env .used) (v - env .used) → Begins a a′ v env (Held (upTo w env) (env .used - w)) (λ st f. taking at k st f)
+pub held-under : {a a′ : Arena} {v : ℕ} {env : AlgebraEnv} (at k w : ℕ) → Ready a v env → Found a 128 (env .used) k (From w) → Raised a a′ w (env .used) (v - env .used)
+    → Begins a a′ v env (Held (upTo w env) (env .used - w)) (λ st f. taking at k st f)
 held-under {a} {a′} {v} {env} at k w ready found moved =
     let below = ready .some .1 .below in
     let within = ready .within in
@@ -119,12 +126,14 @@ held-under {a} {a′} {v} {env} at k w ready found moved =
     }
 
 -- the top is taken off and nothing held
-pub dropped-short : {a : Arena} {v : ℕ} {env : AlgebraEnv} (at : ℕ) (r : Begun) → r ≡ Halted TooManyVariables at (leb 2 (env .handled)) → Found a 128 (env .used) 1 Short → Begins a a v env r (λ st f. dropping at st f)
+pub dropped-short : {a : Arena} {v : ℕ} {env : AlgebraEnv} (at : ℕ) (r : Begun) → r ≡ Halted TooManyVariables at (leb 2 (env .handled)) → Found a 128 (env .used) 1 Short
+    → Begins a a v env r (λ st f. dropping at st f)
 dropped-short {a} {v} {env} at r e found = halted a v at env (λ st f. dropping at st f) r e (λ st s f. short at 1 found st s (λ ss st′. f [] st′))
 
 -- ---- nothing is held, and the state is st
 
-nothing-held : {a : Arena} {v : ℕ} {env : AlgebraEnv} {G : (List Sum → State → Walked) → Walked} (st : State) → Stands a v env st → ((f : List Sum → State → Walked) → G f ≡ f [] st) → Holds a v 0 env G
+nothing-held : {a : Arena} {v : ℕ} {env : AlgebraEnv} {G : (List Sum → State → Walked) → Walked} (st : State) → Stands a v env st → ((f : List Sum → State → Walked) → G f ≡ f [] st)
+    → Holds a v 0 env G
 unfolding total
 nothing-held {a} {v} st s same = record {
   sums = [];
@@ -143,7 +152,8 @@ dropped {a} {v} {env} at w found = record {
       let c = cut 1 w (st .stack) found (s .stack) in
       let high = c .high in
       let below = s .below in
-      nothing-held (withStack (drop 1 (st .stack)) st) (record { stack = c .rest; below = omega arith; handled = s .handled; complex = s .complex }) (λ f. taking-some at 1 st (λ ss st′. f [] st′) (c .enough));
+      nothing-held (withStack (drop 1 (st .stack)) st) (record { stack = c .rest; below = omega arith; handled = s .handled; complex = s .complex })
+      (λ f. taking-some at 1 st (λ ss st′. f [] st′) (c .enough));
 }
 
 -- ---- lent
@@ -179,7 +189,8 @@ agree-stopped : (a : Arena) (v : ℕ) {x : Walked} (q : Refusal) (at : ℕ) → 
 agree-stopped a v q at e = subst (λ (y : Walked). Agree (Stopped q at false) a v y) (sym e) (record { refusal = refl; place = refl; handled = refl })
 
 -- n cells with the sums ds are there; they go on the stack if there is room
-pub lent-fits : {a a′ : Arena} {v : ℕ} {env : AlgebraEnv} (at n : ℕ) (ds : List Sum) → Ready a v env → v + n ≤ 1152 → Stacked a v (v + n) ds → env .used + n ≤ v → Sunk a a′ v (env .used) n → Does a a′ v env (Went (upTo (env .used + n) env)) (λ st. lend at (1152 - v) ds st)
+pub lent-fits : {a a′ : Arena} {v : ℕ} {env : AlgebraEnv} (at n : ℕ) (ds : List Sum) → Ready a v env → v + n ≤ 1152 → Stacked a v (v + n) ds → env .used + n ≤ v → Sunk a a′ v (env .used) n
+    → Does a a′ v env (Went (upTo (env .used + n) env)) (λ st. lend at (1152 - v) ds st)
 lent-fits {a} {a′} {v} {env} at n ds ready room low fits moved =
     let within = ready .within in
     let cells = stacked-total low in
@@ -189,10 +200,12 @@ lent-fits {a} {a′} {v} {env} at n ds ready room low fits moved =
           let below = s .below in
           let taken = stacked-total (s .stack) in
           let both = stacked-sunk moved low (s .stack) (space-less (omega arith) (ready .space)) below in
-          agree-went (withStack (ds ++ st .stack) st) (lend-fits at (1152 - v) ds st (omega arith)) (record { stack = stacked-join (both .0) (both .1); below = fits; handled = s .handled; complex = s .complex });
+          agree-went (withStack (ds ++ st .stack) st) (lend-fits at (1152 - v) ds st (omega arith))
+          (record { stack = stacked-join (both .0) (both .1); below = fits; handled = s .handled; complex = s .complex });
     }
 
-pub lent-full : {a : Arena} {v : ℕ} {env : AlgebraEnv} (at n : ℕ) (ds : List Sum) → Ready a v env → Stacked a v (v + n) ds → v < env .used + n → Does a a v env (Stopped NoRoom at false) (λ st. lend at (1152 - v) ds st)
+pub lent-full : {a : Arena} {v : ℕ} {env : AlgebraEnv} (at n : ℕ) (ds : List Sum) → Ready a v env → Stacked a v (v + n) ds → v < env .used + n
+    → Does a a v env (Stopped NoRoom at false) (λ st. lend at (1152 - v) ds st)
 lent-full {a} {v} {env} at n ds ready low full =
     let within = ready .within in
     let cells = stacked-total low in
@@ -212,7 +225,8 @@ pub begins-is : {a a′ : Arena} {v : ℕ} {env : AlgebraEnv} {r r′ : Begun} {
 begins-is {a} {a′} {v} {env} {G = G} e b = subst (λ (r : Begun). Begins a a′ v env r G) e b
 
 -- nothing was held, so nothing is lent
-pub not-held : {a a′ : Arena} {v : ℕ} {env : AlgebraEnv} {r : Begun} (at k c : ℕ) (q : Refusal) (p : ℕ) (b : Bool) → r ≡ Halted q p b → Begins a a′ v env r (λ st f. taking at k st f) → Begins a a′ v env r (λ st f. holding at k c (1152 - v) st f)
+pub not-held : {a a′ : Arena} {v : ℕ} {env : AlgebraEnv} {r : Begun} (at k c : ℕ) (q : Refusal) (p : ℕ) (b : Bool) → r ≡ Halted q p b → Begins a a′ v env r (λ st f. taking at k st f)
+    → Begins a a′ v env r (λ st f. holding at k c (1152 - v) st f)
 not-held {v = v} at k c q p b e h =
     let t = begins-is e h in
     begins-is (sym e) (record { kept = t .kept; begins = λ st s f. t .begins st s (λ ss st′. andThen (lend at (1152 - v + total ss) (deepest c ss) st′) (λ st″. f ss st″)) })
@@ -220,7 +234,8 @@ not-held {v = v} at k c q p b e h =
 pub held-few : {a a′ : Arena} {v m : ℕ} {env e : AlgebraEnv} {G : State → (List Sum → State → Walked) → Walked} → Ready a v env → Begins a a′ v env (Held e m) G → m ≤ v
 held-few ready b = b .begins (ready .some .0) (ready .some .1) .few
 
-pub lend-asks : {a a′ : Arena} {v m : ℕ} {env e : AlgebraEnv} (at k : ℕ) → Ready a v env → Begins a a′ v env (Held e m) (λ st f. taking at k st f) → Ready a′ (v - m) e × (v - m + m ≤ 1152) × ((ss : List Sum) × Stacked a′ (v - m) (v - m + m) ss × (length ss ≡ k))
+pub lend-asks : {a a′ : Arena} {v m : ℕ} {env e : AlgebraEnv} (at k : ℕ) → Ready a v env → Begins a a′ v env (Held e m) (λ st f. taking at k st f)
+    → Ready a′ (v - m) e × (v - m + m ≤ 1152) × ((ss : List Sum) × Stacked a′ (v - m) (v - m + m) ss × (length ss ≡ k))
 lend-asks at k ready b =
     let within = ready .within in
     let h = b .begins (ready .some .0) (ready .some .1) in
@@ -228,7 +243,8 @@ lend-asks at k ready b =
     (ready-held ready (b .kept) h, omega arith, (h .sums, stacked-at refl (omega arith) (h .held), holds-count at k (ready .some .0) h))
 
 -- one state, after what was lent
-lent-as : {a : Arena} {v m : ℕ} {G : (List Sum → State → Walked) → Walked} (r : Ran) (x : Walked) (ss : List Sum) → Agree r a (v - m) x → Stacked a (v - m) v ss → total ss ≡ m → m ≤ v → ((f : List Sum → State → Walked) → G f ≡ andThen x (λ st. f ss st)) → BegunAs (asBegun m r) a v G
+lent-as : {a : Arena} {v m : ℕ} {G : (List Sum → State → Walked) → Walked} (r : Ran) (x : Walked) (ss : List Sum) → Agree r a (v - m) x → Stacked a (v - m) v ss → total ss ≡ m → m ≤ v
+    → ((f : List Sum → State → Walked) → G f ≡ andThen x (λ st. f ss st)) → BegunAs (asBegun m r) a v G
 lent-as (Went g) (went st) ss agree held cells few same = record { sums = ss; state = st; held = held; cells = cells; few = few; stands = agree; same = same }
 lent-as (Went g) (stopped q at b) ss agree held cells few same = absurd agree
 lent-as (Stopped q at b) (went st) ss agree held cells few same = absurd agree
@@ -237,7 +253,9 @@ lent-as (Stopped q at b) (stopped q′ at′ b′) ss agree held cells few same 
     same-stop : {q q′ : Refusal} {at at′ : ℕ} {b b′ : Bool} → q ≡ q′ → at ≡ at′ → b ≡ b′ → stopped q at b ≡ stopped q′ at′ b′
     same-stop p e h = cc
 
-then-lent : {a a′ a″ : Arena} {v m : ℕ} {env e : AlgebraEnv} (at k c : ℕ) (r : Ran) → Ready a v env → Begins a a′ v env (Held e m) (λ st f. taking at k st f) → ((ss : List Sum) → Stacked a′ (v - m) (v - m + m) ss → length ss ≡ k → Does a′ a″ (v - m) e r (λ st. lend at (1152 - (v - m)) (deepest c ss) st)) → Begins a a″ v env (asBegun m r) (λ st f. holding at k c (1152 - v) st f)
+then-lent : {a a′ a″ : Arena} {v m : ℕ} {env e : AlgebraEnv} (at k c : ℕ) (r : Ran) → Ready a v env → Begins a a′ v env (Held e m) (λ st f. taking at k st f)
+    → ((ss : List Sum) → Stacked a′ (v - m) (v - m + m) ss → length ss ≡ k → Does a′ a″ (v - m) e r (λ st. lend at (1152 - (v - m)) (deepest c ss) st))
+    → Begins a a″ v env (asBegun m r) (λ st f. holding at k c (1152 - v) st f)
 then-lent {v = v} {m = m} at k c r ready b does =
     let within = ready .within in
     let asks = lend-asks at k ready b in
@@ -250,10 +268,13 @@ then-lent {v = v} {m = m} at k c r ready b does =
           let cells = h .cells in
           let d = does (h .sums) (stacked-at refl (omega arith) (h .held)) (holds-count at k st h) in
           lent-as r (lend at (1152 - (v - m)) (deepest c (h .sums)) (h .state)) (h .sums) (d .agrees (h .state) (h .stands)) (stacked-above kept (omega arith) (h .held)) cells few
-          (λ f. h .same (λ ss st′. andThen (lend at (1152 - v + total ss) (deepest c ss) st′) (λ st″. f ss st″)) ∙ ap (λ (n : ℕ). andThen (lend at n (deepest c (h .sums)) (h .state)) (λ st″. f (h .sums) st″)) (omega arith));
+          (λ f. h .same (λ ss st′. andThen (lend at (1152 - v + total ss) (deepest c ss) st′) (λ st″. f ss st″)) ∙ ap
+          (λ (n : ℕ). andThen (lend at n (deepest c (h .sums)) (h .state)) (λ st″. f (h .sums) st″)) (omega arith));
     }
 
-pub held-and-lent : {a a′ a″ : Arena} {v m : ℕ} {env e : AlgebraEnv} (at k c : ℕ) (r r′ : Ran) → r ≡ r′ → Ready a v env → Begins a a′ v env (Held e m) (λ st f. taking at k st f) → ((ss : List Sum) → Stacked a′ (v - m) (v - m + m) ss → length ss ≡ k → Does a′ a″ (v - m) e r (λ st. lend at (1152 - (v - m)) (deepest c ss) st)) → Begins a a″ v env (asBegun m r′) (λ st f. holding at k c (1152 - v) st f)
+pub held-and-lent : {a a′ a″ : Arena} {v m : ℕ} {env e : AlgebraEnv} (at k c : ℕ) (r r′ : Ran) → r ≡ r′ → Ready a v env → Begins a a′ v env (Held e m) (λ st f. taking at k st f)
+    → ((ss : List Sum) → Stacked a′ (v - m) (v - m + m) ss → length ss ≡ k → Does a′ a″ (v - m) e r (λ st. lend at (1152 - (v - m)) (deepest c ss) st))
+    → Begins a a″ v env (asBegun m r′) (λ st f. holding at k c (1152 - v) st f)
 held-and-lent {m = m} at k c r r′ is ready b does = begins-is (ap (asBegun m) is) (then-lent at k c r ready b does)
 
 -- ---- a copy put below
@@ -271,7 +292,8 @@ copied-full {a} {v} {env} w n at ready full =
           ap (λ (o : Walked). andThen o (λ st′. f [] st′)) (lend-full at (1152 - v) (ss ++ ds) st (omega arith));
     }
 
-pub copied-fits : {a b c : Arena} {v : ℕ} {env : AlgebraEnv} (w n at : ℕ) → Ready a v env → w + n ≤ env .used → env .used + n ≤ v → Raised a b w (env .used) n → Sunk b c (w + n) w n → CopiesBelow a c w n at v env (Held (upTo (env .used + n) env) 0)
+pub copied-fits : {a b c : Arena} {v : ℕ} {env : AlgebraEnv} (w n at : ℕ) → Ready a v env → w + n ≤ env .used → env .used + n ≤ v → Raised a b w (env .used) n → Sunk b c (w + n) w n
+    → CopiesBelow a c w n at v env (Held (upTo (env .used + n) env) 0)
 copied-fits {a} {b} {c} {v} {env} w n at ready inside fits up down =
     let within = ready .within in
     let room = space-same (up .outside .long) (ready .space) in
@@ -308,7 +330,8 @@ copied-asks k w u ready found next =
     let s = ready .some .1 in
     lowest-within (k - 1) u (take k (ready .some .0 .stack)) next (cut k w (ready .some .0 .stack) found (s .stack) .top)
 
-pub copied : {a a′ : Arena} {v : ℕ} {env : AlgebraEnv} (at k w u : ℕ) (r : Begun) → Found a 128 (env .used) k (From w) → Found a w (env .used) (k - 1) (From u) → CopiesBelow a a′ w (u - w) at v env r → Begins a a′ v env r (λ st f. copying at k (1152 - v) st f)
+pub copied : {a a′ : Arena} {v : ℕ} {env : AlgebraEnv} (at k w u : ℕ) (r : Begun) → Found a 128 (env .used) k (From w) → Found a w (env .used) (k - 1) (From u)
+    → CopiesBelow a a′ w (u - w) at v env r → Begins a a′ v env r (λ st f. copying at k (1152 - v) st f)
 copied {a} {a′} {v} {env} at k w u r found next did = record {
   kept = did .kept;
   begins = λ st s.
@@ -318,11 +341,14 @@ copied {a} {a′} {v} {env} at k w u r found next did = record {
       let one = deepest-one k w u (st .stack) found next (s .stack) in
       let low = stacked-le one in
       begun-same a′ v r (λ f. taking-some at k st (λ ss st′. andThen (lend at (1152 - v) (ss ++ deepest 1 ss) st′) (λ st″. f [] st″)) (c .enough))
-      (did .copies (take k (st .stack)) (deepest 1 (take k (st .stack))) (withStack (drop k (st .stack)) st) (c .top) (stacked-at refl (omega arith) one) (record { stack = c .rest; below = omega arith; handled = s .handled; complex = s .complex }));
+      (did .copies (take k (st .stack)) (deepest 1 (take k (st .stack))) (withStack (drop k (st .stack)) st) (c .top) (stacked-at refl (omega arith) one)
+      (record { stack = c .rest; below = omega arith; handled = s .handled; complex = s .complex }));
 }
 
-pub copied-short : {a : Arena} {v : ℕ} {env : AlgebraEnv} (at k : ℕ) (r : Begun) → r ≡ Halted TooManyVariables at (leb 2 (env .handled)) → Found a 128 (env .used) k Short → Begins a a v env r (λ st f. copying at k (1152 - v) st f)
-copied-short {a} {v} {env} at k r e found = halted a v at env (λ st f. copying at k (1152 - v) st f) r e (λ st s f. short at k found st s (λ ss st′. andThen (lend at (1152 - v) (ss ++ deepest 1 ss) st′) (λ st″. f [] st″)))
+pub copied-short : {a : Arena} {v : ℕ} {env : AlgebraEnv} (at k : ℕ) (r : Begun) → r ≡ Halted TooManyVariables at (leb 2 (env .handled)) → Found a 128 (env .used) k Short
+    → Begins a a v env r (λ st f. copying at k (1152 - v) st f)
+copied-short {a} {v} {env} at k r e found = halted a v at env (λ st f. copying at k (1152 - v) st f) r e
+    (λ st s f. short at k found st s (λ ss st′. andThen (lend at (1152 - v) (ss ++ deepest 1 ss) st′) (λ st″. f [] st″)))
 
 pub copied-never : {a : Arena} {lo hi : ℕ} (k w : ℕ) (ss : List Sum) → Found a lo hi k (From w) → Found a w hi (k - 1) Short → Stacked a lo hi ss → ⊥
 copied-never k w ss found next st = let c = cut k w ss found st in lent-never k 1 (take k ss) next (length-take-le k ss (c .enough)) (c .top)

@@ -48,4 +48,5 @@ place-of-spec =
     (λ c. omega (arith))
     (λ c. omega arith)
     again
-    (λ c. let a = c .before .before .before .args in same-place (λ k. placeOf (a .list .now) (a .from) k) (c .before .loop .at) (a .i) (c .before .loop .j) (c .before .loop .inv .1) (omega (arith, c .before .loop .inv .0))))
+    (λ c. let a = c .before .before .before .args in same-place (λ k. placeOf (a .list .now) (a .from) k) (c .before .loop .at) (a .i) (c .before .loop .j) (c .before .loop .inv .1)
+    (omega (arith, c .before .loop .inv .0))))

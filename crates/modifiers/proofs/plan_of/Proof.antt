@@ -13,9 +13,13 @@ room c κs =
 
 returns : tie.Need-returns
 returns c left t =
-    let b = c .before .before .before .before in
+    let after-modifier-of = c .before .before in
+    let after-before = after-modifier-of .before in
+    let place = after-before .before in
+    let b = place in
     let a = b .before .before .before .args in
-    plan-made (a .list .now) (a .at) (a .r) (b .record-at .result) (c .before .before .modifier-of .result) (c .before .wide .result) left (c .plan-by .result) (c .plan-by .ensures) (c .before .before .modifier-of .ensures) (c .before .wide .ensures) (b .record-at .ensures .0) (b .before .before .before .pre .1) t
+    plan-made (a .list .now) (a .at) (a .r) (b .record-at .result) (after-modifier-of .modifier-of .result) (c .before .wide .result) left (c .plan-by .result) (c .plan-by .ensures)
+    (after-modifier-of .modifier-of .ensures) (c .before .wide .ensures) (b .record-at .ensures .0) (b .before .before .before .pre .1) t
 
 pub plan-of-spec : {M : Type 1} → statement M
 plan-of-spec =

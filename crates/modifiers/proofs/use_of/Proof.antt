@@ -31,9 +31,11 @@ use-of-spec =
     (λ c. search needs)
     (λ c.
     let b = c .before .before .before in
-    use-one _ _ _ (b .before .before .count-nodes .result) (b .before .before .count-nodes .ensures) _ (way-is (b .way-of .ensures) (b .before .modifier-of .ensures) (c .before .enum-told .given .1)) (c .counted .ensures))
+    use-one _ _ _ (b .before .before .count-nodes .result) (b .before .before .count-nodes .ensures) _
+    (way-is (b .way-of .ensures) (b .before .modifier-of .ensures) (c .before .enum-told .given .1)) (c .counted .ensures))
     (λ c.
     let b = c .before .before .before in
-    use-two _ _ _ (b .before .before .count-nodes .result) (b .before .before .count-nodes .ensures) _ (way-is (b .way-of .ensures) (b .before .modifier-of .ensures) (c .before .enum-told2 .given .1)) (c .counted2 .ensures))
+    use-two _ _ _ (b .before .before .count-nodes .result) (b .before .before .count-nodes .ensures) _
+    (way-is (b .way-of .ensures) (b .before .modifier-of .ensures) (c .before .enum-told2 .given .1)) (c .counted2 .ensures))
     (λ c. let b = c .before .before in is-fork _ (way-is (b .way-of .ensures) (b .before .modifier-of .ensures) (c .enum-told3 .given .1)))
     (λ c h st. let b = c .before .before in not-listed _ (way-is (b .way-of .ensures) (b .before .modifier-of .ensures) (c .enum-told4 .given .1)) _ _ h st))

@@ -41,7 +41,8 @@ upTo u env = record { used = u; handled = env .handled; complex = env .complex }
 -- of the sums from w up to the stack's end those of the lowest n cells are put below them once more
 pub record CopiesBelow (a a′ : Arena) (w n at v : ℕ) (env : AlgebraEnv) (r : Begun) : Type 0 where
   pub kept : Outside a a′ 0 v
-  pub copies : (ss ds : List Sum) (st : State) → Stacked a w (env .used) ss → Stacked a w (w + n) ds → Stands a v (upTo w env) st → BegunAs r a′ v (λ f. andThen (lend at (places - v) (ss ++ ds) st) (λ st′. f [] st′))
+  pub copies : (ss ds : List Sum) (st : State) → Stacked a w (env .used) ss → Stacked a w (w + n) ds → Stands a v (upTo w env) st
+      → BegunAs r a′ v (λ f. andThen (lend at (places - v) (ss ++ ds) st) (λ st′. f [] st′))
 
 -- sums of m cells that were held from v on are on the stack again
 pub record PutsBack (a a′ : Arena) (v m : ℕ) (env r : AlgebraEnv) : Type 0 where

@@ -1,5 +1,5 @@
 -- What a modifier does, in the order in which the code does it, named for the contracts of the functions that do it.
-use Prim.Native.Nat.{ℕ, _+_}
+use Prim.Native.Nat.{ℕ, _+_, _<_}
 use mathlib.Core.Path.{_≡_}
 use mathlib.Core.Bool.{true}
 use mathlib.Core.Logic.{_⊎_}
@@ -10,7 +10,7 @@ use Rattle.formats.specs.declared.record.Modifier.{Modifier}
 use Rattle.formats.specs.declared.record.Modifier.the-variants.{Dip, Gap, On, By, Both, Bracket, Fork, Unlisted}
 use Rattle.formats.specs.declared.record.Record.{Record}
 use Rattle.formats.specs.Names.{modifierOf}
-use Rattle.formats.specs.Tree.{forest, count}
+use Rattle.formats.specs.Tree.{forest, count, nextOf}
 use Rattle.formats.specs.Contract.Walk.{Stretch}
 use Rattle.stack.specs.State.{State, Walked, andThen, stop}
 use Rattle.modifiers.specs.Holding.{backTo, holding, dropping, copying}
@@ -90,10 +90,16 @@ modified s at r h st = modifier at (modifierOf (r .code)) (runners (at + 1) (for
 abbrev pub planned : List ℕ → Plan → ℕ → List Sum → State → Walked
 planned s p h ss st = andThen (walkOf s (p .from) (p .to) (h + total ss) st) (λ st′. walkOf s (p .again) (p .until) h (backTo ss st′))
 
--- a plan that a modifier follows: both stretches are of bodies
+-- there is at most one node from a up to e
+abbrev pub AtMostOne : List ℕ → ℕ → ℕ → Type 0
+AtMostOne s a e = a < e → nextOf s a ≡ e
+
+-- a plan that a modifier follows: both stretches are of bodies, and of at most one
 pub record Follows (s : List ℕ) (at : ℕ) (r : Record) (left : ℕ) (p : Plan) : Type 0 where
   pub first : Stretch s (p .from) (p .to) true left
   pub then : Stretch s (p .again) (p .until) true left
+  pub first-one : AtMostOne s (p .from) (p .to)
+  pub then-one : AtMostOne s (p .again) (p .until)
   pub same : (h : ℕ) (st : State) → modified s at r h st ≡ begin (modifierOf (r .code)) (p .args) at h st (planned s p h)
 
 abbrev pub UsedAs : Use → List ℕ → ℕ → Record → Type 0

@@ -95,7 +95,8 @@ x-ready {b} {b′} z s p =
 -- ---- the end
 
 -- what an answer says whether it counts as handled
-pub handled-is : {a : Arena} {v : ℕ} {env : AlgebraEnv} {st : State} {c : Bool} → Stands a v env st → ((ss : List Sum) → Stacked a 128 (env .used) ss → c ≡ anyComplex ss) → leb 2 (env .handled) || c ≡ isHandled st
+pub handled-is : {a : Arena} {v : ℕ} {env : AlgebraEnv} {st : State} {c : Bool} → Stands a v env st → ((ss : List Sum) → Stacked a 128 (env .used) ss → c ≡ anyComplex ss)
+    → leb 2 (env .handled) || c ≡ isHandled st
 handled-is s f = rw (s .handled) (rw (f _ (s .stack)) refl)
 
 -- the stack is empty

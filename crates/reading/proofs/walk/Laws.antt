@@ -20,7 +20,7 @@ use Rattle.formats.specs.Rules.{isA}
 use Rattle.formats.proofs.record.Names.{kind-found}
 use Rattle.formats.specs.declared.record.Modifier.the-variants.{Fork}
 use Rattle.formats.specs.Names.{kindOf, modifierOf}
-use Rattle.formats.specs.Tree.{forest, recAt, nextOf, count}
+use Rattle.formats.specs.Tree.{forest, height, recAt, nextOf, count}
 use Rattle.formats.specs.Contract.Walk.{Stretch}
 use Rattle.formats.proofs.record.Walk.{stretch-count, stretch-after, stretch-levels, stretch-inside, stretch-next}
 use Rattle.stack.specs.Contract.Arena.{Arena}
@@ -36,7 +36,7 @@ use Rattle.stack.specs.declared.state.Ran.the-variants.{Went, Stopped}
 use Rattle.modifiers.specs.Holding.{deepest, backTo}
 use Rattle.modifiers.specs.Contract.Begins.{Holds, Begins, PutsBack}
 use Rattle.modifiers.specs.declared.hold.Begun.the-variants.{Held, Halted}
-use Rattle.modifiers.specs.Modifiers.{Runner, runAll, most, forked, modifier}
+use Rattle.modifiers.specs.Modifiers.{Runner, most, forked, modifier}
 use Rattle.modifiers.specs.Reading.{runners, stepOf, insideOf, byInside}
 use Rattle.modifiers.specs.Contract.Walks.{walkOf, placeOf}
 use Rattle.modifiers.specs.Contract.Plans.{begin, planned, modified, Follows, UsedAs}
@@ -47,7 +47,16 @@ use Rattle.stack.specs.Steps.{leafStep}
 use Rattle.modifiers.specs.declared.Plan.{Plan}
 use Rattle.modifiers.proofs.Runs.{runnerAt, runners-split, walk-step, runners-none, stretch-first, place-next, place-stretch, place-on, some}
 use Rattle.modifiers.proofs.Plans.{first-run, none-left, then-same}
-use Rattle.reading.specs.Contract.Runs.{Inner, Bodily, Round, Rounds, Many, Forks}
+use Rattle.reading.specs.Contract.Runs.{Keeps, Single, Inner, Bodily, Round, Rounds, Many, Forks}
+
+-- ---- stretches
+
+-- a stretch keeps the rules, whatever is known of its levels
+pub keeps : {s : List ℕ} {a e : ℕ} {b : Bool} {levels : ℕ} → Stretch s a e b levels → Keeps s a e b
+keeps t = record { order = t .order; room = t .room; few = t .few; ok = t .ok; low = omega arith }
+
+pub never : false ≡ true → ⊥
+never e = let z : _≡_ {A = ℕ} 0 1 = cc in omega arith
 
 -- ---- one step after another
 
@@ -75,7 +84,12 @@ going-ready y g =
     let w = g .goes (y .some .0) (y .some .1) in
     record { space = space-same (g .kept .long) (y .space); within = y .within; some = (w .0, w .1) }
 
-pub going-step : {a b c : Arena} {v : ℕ} {env cur nxt : AlgebraEnv} {F G S H : State → Walked} → Going a b v env cur F G → Does b c v cur (Went nxt) S → ((st : State) → G st ≡ andThen (S st) H) → Going a c v env nxt F H
+-- what is left may be said otherwise
+pub going-same : {a b : Arena} {v : ℕ} {env cur : AlgebraEnv} {F G H : State → Walked} → Going a b v env cur F G → ((st : State) → G st ≡ H st) → Going a b v env cur F H
+going-same g e = record { kept = g .kept; goes = λ st s. let x = g .goes st s in (x .0, x .1, x .2 ∙ e (x .0)) }
+
+pub going-step : {a b c : Arena} {v : ℕ} {env cur nxt : AlgebraEnv} {F G S H : State → Walked} → Going a b v env cur F G → Does b c v cur (Went nxt) S
+    → ((st : State) → G st ≡ andThen (S st) H) → Going a c v env nxt F H
 going-step {a} {b} {c} {v} {env} {cur} {nxt} {F} {G} {S} {H} g d e =
     record {
       kept = outside-trans (g .kept) (d .kept);
@@ -86,7 +100,8 @@ going-step {a} {b} {c} {v} {env} {cur} {nxt} {F} {G} {S} {H} g d e =
           (y .0, y .2, x .2 ∙ e (x .0) ∙ ap (λ w. andThen w H) (y .1));
     }
 
-pub going-stop : {a b c : Arena} {v : ℕ} {env cur : AlgebraEnv} {q : Refusal} {p : ℕ} {z : Bool} {F G S : State → Walked} (H : State → Walked) → Going a b v env cur F G → Does b c v cur (Stopped q p z) S → ((st : State) → G st ≡ andThen (S st) H) → Does a c v env (Stopped q p z) F
+pub going-stop : {a b c : Arena} {v : ℕ} {env cur : AlgebraEnv} {q : Refusal} {p : ℕ} {z : Bool} {F G S : State → Walked} (H : State → Walked) → Going a b v env cur F G
+    → Does b c v cur (Stopped q p z) S → ((st : State) → G st ≡ andThen (S st) H) → Does a c v env (Stopped q p z) F
 going-stop {a} {b} {c} {v} {env} {cur} {q} {p} {z} {F} {G} {S} H g d e =
     record {
       kept = outside-trans (g .kept) (d .kept);
@@ -182,7 +197,8 @@ module _ {a : Arena} {v m : ℕ} {env : AlgebraEnv} (s : List ℕ) (p : Plan) (y
 
 module _ {a b : Arena} {v : ℕ} {env : AlgebraEnv} {s : List ℕ} {at left : ℕ} {r : Record} {p : Plan} (f : Follows s at r left p) where
   -- it refuses before its first body
-  pub plan-stop : {q : Refusal} {place : ℕ} {z : Bool} → Begins a b v env (Halted q place z) (λ st g. begin (modifierOf (r .code)) (p .args) at (1152 - v) st g) → Does a b v env (Stopped q place z) (λ st. modified s at r (1152 - v) st)
+  pub plan-stop : {q : Refusal} {place : ℕ} {z : Bool} → Begins a b v env (Halted q place z) (λ st g. begin (modifierOf (r .code)) (p .args) at (1152 - v) st g)
+      → Does a b v env (Stopped q place z) (λ st. modified s at r (1152 - v) st)
   plan-stop e = record { kept = e .kept; agrees = λ st t. agree-stopped b v _ (f .same (1152 - v) st ∙ e .begins st t (planned s p (1152 - v))) }
 
   module _ {cur : AlgebraEnv} {m : ℕ} (e : Begins a b v env (Held cur m) (λ st g. begin (modifierOf (r .code)) (p .args) at (1152 - v) st g)) where
@@ -227,7 +243,8 @@ took-many at k st ss st′ e = go (leb k (length (st .stack))) refl (e (λ xs x.
 
 -- a body refuses, and so does the Fork
 pub forked-stops : (s : List ℕ) (at h from to : ℕ) (ss : List Sum) (st : State) (b : Bool) (left : ℕ) → Stretch s from to b left → (i : ℕ) → i ≤ count (forest s from to)
-    → {q : Refusal} {p : ℕ} {z : Bool} → forked at h ss (runners (placeOf s from i) (forest s (placeOf s from i) to)) st ≡ stopped q p z → forked at h ss (runners from (forest s from to)) st ≡ stopped q p z
+    → {q : Refusal} {p : ℕ} {z : Bool} → forked at h ss (runners (placeOf s from i) (forest s (placeOf s from i) to)) st ≡ stopped q p z → forked at h ss (runners from (forest s from to)) st
+    ≡ stopped q p z
 unfolding placeOf forked
 forked-stops s at h from to ss st b left t zero l e = e
 forked-stops s at h from to ss st b left t (suc i) l e =
@@ -248,7 +265,8 @@ fork-is : (s : List ℕ) (at : ℕ) (r : Record) (k h : ℕ) (st : State) → mo
 unfolding modifier
 fork-is s at r k h st e q = rw e (rw q refl)
 
-module _ {a b : Arena} {v : ℕ} {env : AlgebraEnv} (s : List ℕ) (at : ℕ) (r : Record) (k : ℕ) (e : modifierOf (r .code) ≡ Fork) (q : k ≡ most (runners (at + 1) (forest s (at + 1) (at + 1 + r .inside)))) where
+module _ {a b : Arena} {v : ℕ} {env : AlgebraEnv} (s : List ℕ) (at : ℕ) (r : Record) (k : ℕ) (e : modifierOf (r .code) ≡ Fork)
+    (q : k ≡ most (runners (at + 1) (forest s (at + 1) (at + 1 + r .inside)))) where
   -- too few sums
   pub fork-stop : {z : Refusal} {place : ℕ} {x : Bool} → Begins a b v env (Halted z place x) (λ st f. taking at k st f) → Does a b v env (Stopped z place x) (λ st. modified s at r (1152 - v) st)
   fork-stop g = record { kept = g .kept; agrees = λ st t. agree-stopped b v _ (fork-is s at r k (1152 - v) st e q ∙ g .begins st t _) }
@@ -329,7 +347,8 @@ module _ {a : Arena} {v m k : ℕ} {env : AlgebraEnv} (s : List ℕ) (at from to
 
       forked-one : (ss : List Sum) (st : State)
           → forked at (1152 - v) ss (runners p (forest s p to)) st
-          ≡ andThen (forked at (1152 - v) ss (runners (placeOf s from (suc i)) (forest s (placeOf s from (suc i)) to)) st) (λ st′. andThen (lend at (1152 - v) (deepest (recAt s p .args) ss) st′) (λ st″. walkOf s p (nextOf s p) (1152 - v) st″))
+          ≡ andThen (forked at (1152 - v) ss (runners (placeOf s from (suc i)) (forest s (placeOf s from (suc i)) to)) st)
+          (λ st′. andThen (lend at (1152 - v) (deepest (recAt s p .args) ss) st′) (λ st″. walkOf s p (nextOf s p) (1152 - v) st″))
       unfolding forked
       forked-one ss st =
           rw (place-next s from i)
@@ -337,7 +356,8 @@ module _ {a : Arena} {v m k : ℕ} {env : AlgebraEnv} (s : List ℕ) (at from to
           (then-same (forked at (1152 - v) ss (runners (nextOf s p) (forest s (nextOf s p) to)) st) _ _
           (λ st′. then-same (lend at (1152 - v) (deepest (recAt s p .args) ss) st′) _ _ (λ st″. sym (first-run s p to left (at-i .0) (at-i .1) (1152 - v) st″)))))
 
-      module _ {c : Arena} {o : Ran} (n : Many a v m k) (d : (ss : List Sum) → Stacked b v (v + m) ss → length ss ≡ k → Does b c v cur o (λ st. lend at (1152 - v) (deepest (recAt s p .args) ss) st)) where
+      module _ {c : Arena} {o : Ran} (n : Many a v m k) (d : (ss : List Sum) → Stacked b v (v + m) ss → length ss ≡ k → Does b c v cur o
+          (λ st. lend at (1152 - v) (deepest (recAt s p .args) ss) st)) where
         lent-kept : Outside b c 0 v
         lent-kept = d (n .held .0) (stacked-above (g .kept) (omega arith) (n .held .1)) (n .held .2) .kept
 
@@ -346,7 +366,8 @@ module _ {a : Arena} {v m k : ℕ} {env : AlgebraEnv} (s : List ℕ) (at from to
 
       -- there is no room for the copies
       pub lend-stop : {c : Arena} {q : Refusal} {place : ℕ} {z : Bool} (n : Many a v m k)
-          → ((ss : List Sum) → Stacked b v (v + m) ss → length ss ≡ k → Does b c v cur (Stopped q place z) (λ st. lend at (1152 - v) (deepest (recAt s p .args) ss) st)) → Forks a c v m k env (Stopped q place z) s at from to
+          → ((ss : List Sum) → Stacked b v (v + m) ss → length ss ≡ k → Does b c v cur (Stopped q place z) (λ st. lend at (1152 - v) (deepest (recAt s p .args) ss) st)) → Forks a c v m k env
+          (Stopped q place z) s at from to
       lend-stop {c} {q} {place} {z} n d =
           record {
             kept = outside-trans (g .kept) (lent-kept n d);
@@ -360,7 +381,8 @@ module _ {a : Arena} {v m k : ℕ} {env : AlgebraEnv} (s : List ℕ) (at from to
                       let e = stopped-of c v (lend at (1152 - v) (deepest (recAt s p .args) ss) (w .0)) (lent n d ss h x .agrees (w .0) (w .1)) in
                       agree-stopped c v _
                       (forked-stops s at (1152 - v) from to ss st true left t i (omega arith)
-                      (forked-one ss st ∙ ap (λ f. andThen f (λ st′. andThen (lend at (1152 - v) (deepest (recAt s p .args) ss) st′) (λ st″. walkOf s p (nextOf s p) (1152 - v) st″))) (w .2) ∙ then-stops (λ st″. walkOf s p (nextOf s p) (1152 - v) st″) e));
+                      (forked-one ss st ∙ ap (λ f. andThen f (λ st′. andThen (lend at (1152 - v) (deepest (recAt s p .args) ss) st′) (λ st″. walkOf s p (nextOf s p) (1152 - v) st″))) (w .2)
+                      ∙ then-stops (λ st″. walkOf s p (nextOf s p) (1152 - v) st″) e));
                 };
           }
 
@@ -369,7 +391,8 @@ module _ {a : Arena} {v m k : ℕ} {env : AlgebraEnv} (s : List ℕ) (at from to
         pub lend-ready : Ready a v env → Ready c v ready
         lend-ready y =
             let x = forking-ready y n g in
-            let u = went-of (lend at (1152 - v) (deepest (recAt s p .args) (x .1 .held .0)) (x .0 .some .0)) (d (x .1 .held .0) (x .1 .held .1) (x .1 .held .2) .agrees (x .0 .some .0) (x .0 .some .1)) in
+            let u = went-of (lend at (1152 - v) (deepest (recAt s p .args) (x .1 .held .0)) (x .0 .some .0))
+            (d (x .1 .held .0) (x .1 .held .1) (x .1 .held .2) .agrees (x .0 .some .0) (x .0 .some .1)) in
             record { space = space-same (lent-kept n d .long) (x .0 .space); within = y .within; some = (u .0, u .2) }
 
         -- what the body did
@@ -385,7 +408,8 @@ module _ {a : Arena} {v m k : ℕ} {env : AlgebraEnv} (s : List ℕ) (at from to
                   ∙ ap (λ z. andThen z (λ st″. walkOf s p (nextOf s p) (1152 - v) st″)) (u .1),
             )
 
-        pub body-stop : {e : Arena} {q : Refusal} {place : ℕ} {z : Bool} → Does c e v ready (Stopped q place z) (λ st. walkOf s p (nextOf s p) (1152 - v) st) → Forks a e v m k env (Stopped q place z) s at from to
+        pub body-stop : {e : Arena} {q : Refusal} {place : ℕ} {z : Bool} → Does c e v ready (Stopped q place z) (λ st. walkOf s p (nextOf s p) (1152 - v) st)
+            → Forks a e v m k env (Stopped q place z) s at from to
         body-stop {e} f =
             record {
               kept = outside-trans (g .kept) (outside-trans (lent-kept n d) (f .kept));
@@ -412,8 +436,12 @@ module _ {a : Arena} {v m k : ℕ} {env : AlgebraEnv} (s : List ℕ) (at from to
             }
 
 -- what a step asks of the record that was read
-pub inner-of : (s : List ℕ) (at to : ℕ) (b : Bool) (left : ℕ) (r : Record) → Stretch s at to b left → at < to → r ≡ recAt s at → Inner s at r left
-inner-of s at to b left r t l e = rw e (record { levels = stretch-levels s at to b left t l; inside = stretch-inside s at to b left t l })
+pub inner-of : (s : List ℕ) (at to : ℕ) (b : Bool) (left : ℕ) (r : Record) → Stretch s at to b left → at < to → r ≡ recAt s at → Inner s at r
+inner-of s at to b left r t l e = rw e (keeps (stretch-inside s at to b left t l))
+
+-- it is lower than the stretch
+pub inner-low : (s : List ℕ) (at to : ℕ) (b : Bool) (left : ℕ) (r : Record) → Stretch s at to b left → at < to → r ≡ recAt s at → height (forest s (at + 1) (at + 1 + r .inside)) < left
+inner-low s at to b left r t l e = rw e (omega (arith, stretch-levels s at to b left t l, stretch-inside s at to b left t l .low))
 
 -- ---- what a match told
 
@@ -436,7 +464,9 @@ pub used-told : {u u′ : Use} (s : List ℕ) (at : ℕ) (r : Record) → u ≡ 
 used-told s at r e d = subst (λ x. UsedAs x s at r) e d
 
 -- a modifier that refuses before anything
-pub halt-does : {a : Arena} {v : ℕ} {env : AlgebraEnv} {r : Ran} {q : Refusal} {at : ℕ} {F : ℕ → State → Walked} → ((ss : List Sum) → Stacked a 128 (env .used) ss → r ≡ Stopped q at (leb 2 (env .handled) || anyComplex ss)) → ((h : ℕ) (st : State) → F h st ≡ stop at q st) → Does a a v env r (λ st. F (1152 - v) st)
+pub halt-does : {a : Arena} {v : ℕ} {env : AlgebraEnv} {r : Ran} {q : Refusal} {at : ℕ} {F : ℕ → State → Walked}
+    → ((ss : List Sum) → Stacked a 128 (env .used) ss → r ≡ Stopped q at (leb 2 (env .handled) || anyComplex ss)) → ((h : ℕ) (st : State) → F h st ≡ stop at q st)
+    → Does a a v env r (λ st. F (1152 - v) st)
 halt-does {a} {v} {env} {r} {q} {at} {F} e f =
     record {
       kept = outside-refl a 0 v;
@@ -456,9 +486,6 @@ module _ (at : ℕ) (r : Record) (fs : List Runner) {x : Inside} (p : x ≡ insi
 
     pub step-leaf : x ≡ inside.Nothing → Does a b v env o (λ st. leafStep at r (kindOf (r .kind)) (1152 - v) st) → Does a b v env o (λ st. stepOf at r fs (1152 - v) st)
     step-leaf q d = does-step inside.Nothing q d
-
-    pub step-nodes : x ≡ inside.Nodes → Does a b v env o (λ st. runAll fs (1152 - v) st) → Does a b v env o (λ st. stepOf at r fs (1152 - v) st)
-    step-nodes q d = does-step inside.Nodes q d
 
     pub step-bodies : x ≡ inside.Bodies → Does a b v env o (λ st. modifier at (modifierOf (r .code)) fs (1152 - v) st) → Does a b v env o (λ st. stepOf at r fs (1152 - v) st)
     step-bodies q d = does-step inside.Bodies q d
@@ -483,8 +510,8 @@ modifier-only Unknown e = let z : _≡_ {A = ℕ} 0 1 = cc in absurd (omega arit
 is-modifier : (r : Record) {x : Inside} → x ≡ insideOf (kindOf (r .kind)) → x ≡ inside.Bodies → isA r kind.Modifier ≡ true
 is-modifier r p q = rw (← kind-found (r .kind) kind.Modifier (modifier-only (kindOf (r .kind)) (sym p ∙ q))) refl
 
-pub bodily-of : (s : List ℕ) (at : ℕ) (r : Record) (left : ℕ) {x : Inside} → x ≡ insideOf (kindOf (r .kind)) → x ≡ inside.Bodies → Inner s at r left → Bodily s (at + 1) (at + 1 + r .inside) left
-bodily-of s at r left p q t = record { levels = t .levels; inside = subst (λ b. Stretch s (at + 1) (at + 1 + r .inside) b (left - 1)) (is-modifier r p q) (t .inside) }
+pub bodily-of : (s : List ℕ) (at : ℕ) (r : Record) {x : Inside} → x ≡ insideOf (kindOf (r .kind)) → x ≡ inside.Bodies → Inner s at r → Bodily s (at + 1) (at + 1 + r .inside)
+bodily-of s at r p q t = subst (λ b. Keeps s (at + 1) (at + 1 + r .inside) b) (is-modifier r p q) t
 
 -- what is asked for when a stack is looked at
 pub halt-asks : {a : Arena} {v : ℕ} {env : AlgebraEnv} → Ready a v env → (env .used ≤ length (a .sizes)) × ((ss : List Sum) × Stacked a 128 (env .used) ss)
@@ -492,7 +519,8 @@ halt-asks y = (omega (arith, y .space .sizes, y .within, y .some .1 .below), (y 
 
 -- ---- a turn over the bodies of a Fork, in the words of the code
 
-module _ {a b : Arena} {v m k : ℕ} {env cur : AlgebraEnv} (s : List ℕ) (at from to left i : ℕ) (t : Stretch s from to true left) (pos : 0 < i) (top : i ≤ count (forest s from to)) (g : Forking a b v m k env cur s at from to i) where
+module _ {a b : Arena} {v m k : ℕ} {env cur : AlgebraEnv} (s : List ℕ) (at from to left i : ℕ) (t : Stretch s from to true left) (pos : 0 < i)
+    (top : i ≤ count (forest s from to)) (g : Forking a b v m k env cur s at from to i) where
   again : Forking a b v m k env cur s at from to (suc (i - 1))
   again = let e : i ≡ suc (i - 1) = omega arith in subst (λ j. Forking a b v m k env cur s at from to j) e g
 
@@ -535,12 +563,36 @@ module _ (s : List ℕ) (at to : ℕ) (b : Bool) (left : ℕ) (r : Record) (t : 
   walk-rest = rw e (stretch-after s at to b left t l)
 
 -- the start and the end of a Fork's bodies
-pub forking-begin : {a : Arena} {v m k : ℕ} {env : AlgebraEnv} (s : List ℕ) (at from to left : ℕ) {i : ℕ} → Stretch s from to true left → i ≡ count (forest s from to) → Forking a a v m k env env s at from to i
+pub forking-begin : {a : Arena} {v m k : ℕ} {env : AlgebraEnv} (s : List ℕ) (at from to left : ℕ) {i : ℕ} → Stretch s from to true left → i ≡ count (forest s from to)
+    → Forking a a v m k env env s at from to i
 forking-begin s at from to left t e = rw e (forking-start s at from to left t)
 
-pub forking-done : {a b : Arena} {v m k : ℕ} {env cur : AlgebraEnv} (s : List ℕ) (at from to left : ℕ) {i : ℕ} → Stretch s from to true left → i ≡ 0 → Forking a b v m k env cur s at from to i → Forks a b v m k env (Went cur) s at from to
+pub forking-done : {a b : Arena} {v m k : ℕ} {env cur : AlgebraEnv} (s : List ℕ) (at from to left : ℕ) {i : ℕ} → Stretch s from to true left → i ≡ 0
+    → Forking a b v m k env cur s at from to i → Forks a b v m k env (Went cur) s at from to
 forking-done {a} {b} {v} {m} {k} {env} {cur} s at from to left t e g = forking-end s at from to left t (subst (λ j. Forking a b v m k env cur s at from to j) e g)
 
 -- the body before the i-th is there
 pub turn-room : (s : List ℕ) (from to left i place : ℕ) → Stretch s from to true left → 0 < i → i ≤ count (forest s from to) → place ≡ placeOf s from (i - 1) → (place < to) × (24 * to ≤ length s)
 turn-room s from to left i place t l h p = rw p (let w = place-on s from to (i - 1) (true, left, t) (omega arith) in (w .0, w .1))
+
+-- ---- a turn of the walk
+
+-- the record r stands at the first place of a stretch
+pub record Turn (s : List ℕ) (at to : ℕ) (b : Bool) (left : ℕ) (r : Record) : Type 0 where
+  pub next : at + 1 + r .inside ≤ to
+  pub rest : Stretch s (at + 1 + r .inside) to b left
+  pub one : Single s (at + 1 + r .inside) to b
+  pub inside : Inner s at r
+  pub low : height (forest s (at + 1) (at + 1 + r .inside)) < left
+  pub on : (h : ℕ) (st : State) → walkOf s at to h st ≡ andThen (stepOf at r (runners (at + 1) (forest s (at + 1) (at + 1 + r .inside))) h st) (λ st′. walkOf s (at + 1 + r .inside) to h st′)
+
+pub turn : (s : List ℕ) (at to : ℕ) (b : Bool) (left : ℕ) (r : Record) → Stretch s at to b left → Single s at to b → at < to → r ≡ recAt s at → Turn s at to b left r
+turn s at to b left r t one l e =
+    record {
+      next = walk-next s at to b left r t l e;
+      rest = walk-rest s at to b left r t l e;
+      one = λ q m. let ends = one q l in let same = ap (λ (x : Record). x .inside) e in absurd (omega (arith, m, ends, same));
+      inside = inner-of s at to b left r t l e;
+      low = inner-low s at to b left r t l e;
+      on = walk-on s at to b left r t l e;
+    }

@@ -1,13 +1,13 @@
 -- What the functions that call each other ask for and do.
-use Prim.Native.Nat.{ℕ, _+_, _-_, _≤_, _<_}
+use Prim.Native.Nat.{ℕ, _+_, _-_, _≤_}
 use mathlib.Core.Path.{_≡_}
-use mathlib.Core.Bool.{true}
+use mathlib.Core.Bool.{Bool, true}
 use mathlib.Core.List.{List}
 use lib.ListN.{length}
 use Rattle.sums.specs.Tree.Sums.{Sum}
 use Rattle.formats.specs.declared.record.Record.{Record}
 use Rattle.formats.specs.declared.record.Kind.the-variants.{Modifier}
-use Rattle.formats.specs.Tree.{forest}
+use Rattle.formats.specs.Tree.{forest, height}
 use Rattle.formats.specs.Rules.{isA}
 use Rattle.formats.specs.Contract.Walk.{Stretch}
 use Rattle.stack.specs.Contract.Arena.{Arena, places}
@@ -19,24 +19,31 @@ use Rattle.stack.specs.declared.state.AlgebraEnv.{AlgebraEnv}
 use Rattle.stack.specs.declared.state.Ran.{Ran}
 use Rattle.modifiers.specs.Modifiers.{forked}
 use Rattle.modifiers.specs.Reading.{runners}
-use Rattle.modifiers.specs.Contract.Plans.{planned}
+use Rattle.modifiers.specs.Contract.Plans.{planned, AtMostOne}
 use Rattle.modifiers.specs.declared.Plan.{Plan}
 
--- the record r at a place, with what is inside it
-pub record Inner (s : List ℕ) (at : ℕ) (r : Record) (left : ℕ) : Type 0 where
-  pub levels : 0 < left
-  pub inside : Stretch s (at + 1) (at + 1 + r .inside) (isA r Modifier) (left - 1)
+-- the records from a up to e keep the rules, and are bodies where b says so
+abbrev pub Keeps : List ℕ → ℕ → ℕ → Bool → Type 0
+Keeps s a e b = Stretch s a e b (height (forest s a e))
+
+-- of bodies there is at most one
+abbrev pub Single : List ℕ → ℕ → ℕ → Bool → Type 0
+Single s a e b = b ≡ true → AtMostOne s a e
+
+-- what is inside the record r at a place
+abbrev pub Inner : List ℕ → ℕ → Record → Type 0
+Inner s at r = Keeps s (at + 1) (at + 1 + r .inside) (isA r Modifier)
 
 -- bodies from a up to e
-pub record Bodily (s : List ℕ) (a e left : ℕ) : Type 0 where
-  pub levels : 0 < left
-  pub inside : Stretch s a e true (left - 1)
+abbrev pub Bodily : List ℕ → ℕ → ℕ → Type 0
+Bodily s a e = Keeps s a e true
 
 -- both stretches of a plan
-pub record Planned (s : List ℕ) (p : Plan) (left : ℕ) : Type 0 where
-  pub levels : 0 < left
-  pub first : Stretch s (p .from) (p .to) true (left - 1)
-  pub then : Stretch s (p .again) (p .until) true (left - 1)
+pub record Planned (s : List ℕ) (p : Plan) : Type 0 where
+  pub first : Bodily s (p .from) (p .to)
+  pub then : Bodily s (p .again) (p .until)
+  pub first-one : AtMostOne s (p .from) (p .to)
+  pub then-one : AtMostOne s (p .again) (p .until)
 
 -- sums of m cells are held just below v, and a state stands
 pub record Round (a : Arena) (v m : ℕ) (env : AlgebraEnv) : Type 0 where

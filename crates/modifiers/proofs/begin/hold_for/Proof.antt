@@ -5,7 +5,13 @@ use Rattle.modifiers.proofs.begin.hold_for.Statement.{statement}
 use Rattle.modifiers.proofs.begin.hold_for.Tie as tie
 
 returns : tie.Need-returns
-returns c = begins-held (c .before .before .before .before .before .before .before .before .before .before .before .before .before .before .before .before .before .args .at) (c .before .before .before .before .before .before .before .before .before .before .before .before .before .before .before .before .before .args .n) (c .before .before .before .before .before .before .before .before .before .before .before .before .before .before .before .before .before .args .m) (c .before .before .before .before .before .before .before .before .before .before .before .before .before .held-by .ensures) (c .before .before .before .before .before .before .before .before .before .before .before .before .lent-by .ensures) (c .before .before .before .before .before .before .before .hold-and-lend .ensures)
+returns c =
+    let after-hold-and-lend = c .before .before .before .before .before .before .before in
+    let after-lent-by = after-hold-and-lend .before .before .before .before .before in
+    let after-held-by = after-lent-by .before in
+    let start = after-held-by .before .before .before .before in
+    let args = start .args in
+    begins-held (args .at) (args .n) (args .m) (after-held-by .held-by .ensures) (after-lent-by .lent-by .ensures) (after-hold-and-lend .hold-and-lend .ensures)
 
 pub hold-for-spec : {M : Type 1} → statement M
 hold-for-spec =

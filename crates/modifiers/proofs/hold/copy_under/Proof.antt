@@ -23,22 +23,33 @@ cut c = c .before .before .before .before .before .before
 -- all but the deepest of them begin at u
 next : (c : tie.After-e) → (let d = cut c in let s = start d in Found (entry s) (d .d .given .0 .0) (s .args .env .used) (s .args .k - 1) (From (c .e .given .0 .0)))
 next c =
+    let after-measure2 = c .before .before in
+    let after-less = after-measure2 .before in
     let d = cut c in
     let s = start d in
-    found-for (entry s) (d .d .given .0 .0) (s .args .env .used) (From (c .e .given .0 .0)) (c .before .before .before .less .ensures) (found-is (entry s) (d .d .given .0 .0) (s .args .env .used) (c .before .before .before .less .result) (c .e .given .1) (c .before .before .measure2 .ensures))
+    found-for (entry s) (d .d .given .0 .0) (s .args .env .used) (From (c .e .given .0 .0)) (after-less .less .ensures)
+    (found-is (entry s) (d .d .given .0 .0) (s .args .env .used) (after-less .less .result) (c .e .given .1) (after-measure2 .measure2 .ensures))
 
 missed : (c : tie.After-enum-told2) → (let d = c .before .before .before .before .before .before in let s = start d in Found (entry s) (d .d .given .0 .0) (s .args .env .used) (s .args .k - 1) Short)
 missed c =
-    let d = c .before .before .before .before .before .before in
+    let after-measure2 = c .before .before in
+    let after-less = after-measure2 .before in
+    let after-before = after-less .before .before in
+    let place = after-before .before in
+    let d = place in
     let s = start d in
-    found-for (entry s) (d .d .given .0 .0) (s .args .env .used) Short (c .before .before .before .less .ensures) (found-is (entry s) (d .d .given .0 .0) (s .args .env .used) (c .before .before .before .less .result) (c .enum-told2 .given .1) (c .before .before .measure2 .ensures))
+    found-for (entry s) (d .d .given .0 .0) (s .args .env .used) Short (after-less .less .ensures)
+    (found-is (entry s) (d .d .given .0 .0) (s .args .env .used) (after-less .less .result) (c .enum-told2 .given .1) (after-measure2 .measure2 .ensures))
 
 returns-3 : tie.Need-returns-3
 returns-3 c =
-    let e = c .before .before .before .before .before .before .before .before .before .before .before .before .before in
+    let after-copy-below = c .before .before .before .before .before .before .before in
+    let after-before = after-copy-below .before .before .before .before .before in
+    let place = after-before .before in
+    let e = place in
     let d = cut e in
     let s = start d in
-    copied (s .args .at) (s .args .k) (d .d .given .0 .0) (e .e .given .0 .0) (c .before .before .before .before .before .before .before .copy-below .result) (found d) (next e) (c .before .before .before .before .before .before .before .copy-below .ensures)
+    copied (s .args .at) (s .args .k) (d .d .given .0 .0) (e .e .given .0 .0) (after-copy-below .copy-below .result) (found d) (next e) (after-copy-below .copy-below .ensures)
 
 pub copy-under-spec : {M : Type 1} → statement M
 copy-under-spec =
@@ -49,16 +60,19 @@ copy-under-spec =
     (λ c. search needs)
     (λ c κs. search needs)
     (λ c. search needs)
-    (λ c. let s = c .before .before .before .before .before .before .before .before in copied-short (s .args .at) (s .args .k) (c .too-few .result) (c .too-few .ensures) (found-is (entry s) 128 (s .args .env .used) (s .args .k) (c .before .enum-told .given .1) (c .before .before .before .measure .ensures)))
+    (λ c. let s = c .before .before .before .before .before .before .before .before in copied-short (s .args .at) (s .args .k) (c .too-few .result) (c .too-few .ensures)
+    (found-is (entry s) 128 (s .args .env .used) (s .args .k) (c .before .enum-told .given .1) (c .before .before .before .measure .ensures)))
     (λ c κs. search needs)
     (λ c κs. let d = c .before .before .before in search-top (start d .args .k) (d .d .given .0 .0) (start d .pre) (found d))
     (λ c. search needs)
     (λ c. search needs)
     (λ c κs. search needs)
     (λ c. search needs)
-    (λ c. let d = c .before .before .before .before .before .before .before in let s = start d in absurd (copied-never (s .args .k) (d .d .given .0 .0) (s .pre .some .0 .stack) (found d) (missed (c .before)) (s .pre .some .1 .stack)))
+    (λ c. let d = c .before .before .before .before .before .before .before in let s = start d in absurd
+    (copied-never (s .args .k) (d .d .given .0 .0) (s .pre .some .0 .stack) (found d) (missed (c .before)) (s .pre .some .1 .stack)))
     (λ c. let e = c .before in let d = cut e in copied-asks (start d .args .k) (d .d .given .0 .0) (e .e .given .0 .0) (start d .pre) (found d) (next e) .0)
-    (λ c κs. let e = c .before .before .before .before .before in let d = cut e in (start d .pre, copied-asks (start d .args .k) (d .d .given .0 .0) (e .e .given .0 .0) (start d .pre) (found d) (next e) .1))
+    (λ c κs. let e = c .before .before .before .before .before in let d = cut e in
+    (start d .pre, copied-asks (start d .args .k) (d .d .given .0 .0) (e .e .given .0 .0) (start d .pre) (found d) (next e) .1))
     (λ c. returns-3 c .kept .long .cells .kinds)
     (λ c. returns-3 c .kept .long .cells .insides)
     (λ c. returns-3 c .kept .long .cells .numbers)

@@ -18,8 +18,12 @@ found c = let s = start c in found-is (entry s) 128 (s .args .env .used) (s .arg
 
 returns : tie.Need-returns
 returns c =
-    let s = c .before .before .before .before .before .before .before .before in
-    held-short (s .args .at) (s .args .k) (c .too-few .result) (c .too-few .ensures) (found-is (entry s) 128 (s .args .env .used) (s .args .k) (c .before .enum-told .given .1) (c .before .before .before .measure .ensures))
+    let after-measure = c .before .before .before in
+    let after-before = after-measure .before .before .before .before in
+    let place = after-before .before in
+    let s = place in
+    held-short (s .args .at) (s .args .k) (c .too-few .result) (c .too-few .ensures)
+    (found-is (entry s) 128 (s .args .env .used) (s .args .k) (c .before .enum-told .given .1) (after-measure .measure .ensures))
 
 returns-2 : tie.Need-returns-2
 returns-2 c =
@@ -39,7 +43,8 @@ hold-spec =
     returns
     (λ c. search needs)
     (λ c κs. let d = c .before .before .before .before .before in raise-asks (start d .args .k) (d .d .given .0 .0) (start d .pre) (found d))
-    (λ c. let d = c .before .before .before .before .before .before .before .before .before .before .before .before .before in raise-asks (start d .args .k) (d .d .given .0 .0) (start d .pre) (found d) .0)
+    (λ c. let d = c .before .before .before .before .before .before .before .before .before .before .before .before .before in raise-asks (start d .args .k) (d .d .given .0 .0)
+    (start d .pre) (found d) .0)
     (λ c. returns-2 c .kept .long .cells .kinds)
     (λ c. returns-2 c .kept .long .cells .insides)
     (λ c. returns-2 c .kept .long .cells .numbers)

@@ -22,15 +22,22 @@ start c = c .before .before .before .before .before .before .before .before
 
 found : (c : tie.After-d) → Sought (start c) (From (c .d .given .0 .0))
 found c =
+    let after-measure = c .before .before in
+    let after-less = after-measure .before in
     let s = start c in
     let r = From (c .d .given .0 .0) in
-    let e = c .before .before .measure .ensures in
-    found-for (entry s) (s .args .v) (s .args .v + s .args .m) r (c .before .before .before .less .ensures) (found-is (entry s) (s .args .v) (s .args .v + s .args .m) (c .before .before .before .less .result) (c .d .given .1) e)
+    let e = after-measure .measure .ensures in
+    found-for (entry s) (s .args .v) (s .args .v + s .args .m) r (after-less .less .ensures) (found-is (entry s) (s .args .v) (s .args .v + s .args .m) (after-less .less .result) (c .d .given .1) e)
 
 missed : (c : tie.After-enum-told) → Sought (c .before .before .before .before .before .before .before .before) Short
 missed c =
-    let s = c .before .before .before .before .before .before .before .before in
-    found-for (entry s) (s .args .v) (s .args .v + s .args .m) Short (c .before .before .before .less .ensures) (found-is (entry s) (s .args .v) (s .args .v + s .args .m) (c .before .before .before .less .result) (c .enum-told .given .1) (c .before .before .measure .ensures))
+    let after-measure = c .before .before in
+    let after-less = after-measure .before in
+    let after-before = after-less .before .before .before .before in
+    let place = after-before .before in
+    let s = place in
+    found-for (entry s) (s .args .v) (s .args .v + s .args .m) Short (after-less .less .ensures)
+    (found-is (entry s) (s .args .v) (s .args .v + s .args .m) (after-less .less .result) (c .enum-told .given .1) (after-measure .measure .ensures))
 
 abbrev Within : tie.After-d → Type 0
 Within c = let s = start c in (s .args .v ≤ c .d .given .0 .0) × (s .args .v + (c .d .given .0 .0 - s .args .v) ≤ s .args .v + s .args .m)
@@ -40,12 +47,17 @@ within c = let s = start c in lowest-within (s .args .k - s .args .c) (c .d .giv
 
 returns-3 : tie.Need-returns-3
 returns-3 c ss up len =
-    let d = c .before .before .before .before .before .before .before .before .before .before .before .before .before .before in
+    let after-sink = c .before .before .before .before .before .before .before in
+    let after-if1 = after-sink .before .before .before .before .before in
+    let after-before = after-if1 .before in
+    let place = after-before .before in
+    let d = place in
     let s = start d in
     let w = d .d .given .0 .0 in
     let room = within d .1 in
     let few = s .pre .1 in
-    lent-fits (s .args .at) (w - s .args .v) (deepest (s .args .c) ss) (s .pre .0) (omega arith) (lowest-at (s .args .k) (s .args .c) w ss (found d) len up) (c .before .before .before .before .before .before .before .before .before .before .before .before .if1 .left) (c .before .before .before .before .before .before .before .sink .ensures)
+    lent-fits (s .args .at) (w - s .args .v) (deepest (s .args .c) ss) (s .pre .0) (omega arith) (lowest-at (s .args .k) (s .args .c) w ss (found d) len up) (after-if1 .if1 .left)
+    (after-sink .sink .ensures)
 
 pub lend-deepest-spec : {M : Type 1} → statement M
 lend-deepest-spec =

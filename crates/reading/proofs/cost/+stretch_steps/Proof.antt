@@ -98,7 +98,8 @@ pub +stretch-steps-spec : {M : Type 1} → statement M
     let a = c .before .before .before .before .before .before .before .before .before .args in
     let r = c .before .before .before .before .before .record-at in (
       (l .inv .0 .0, turn-after (a .list .now) (l .at) (a .to) (l .inv .0 .0) (a .left) (l .inv .0 .1) (omega arith) (r .result) (r .ensures .0)),
-      turn-steps (a .list .now) (l .at) (a .to) (l .inv .0 .0) (a .left) (l .inv .0 .1) (omega arith) (r .result) (r .ensures .0) (costOf (forest (a .list .now) (a .from) (a .to))) (l .steps) (c .before .before .before .inside-times .result) (c .before .before .stretch-steps .result) (c .before .own-steps .result) (c .add-steps .result)
+      turn-steps (a .list .now) (l .at) (a .to) (l .inv .0 .0) (a .left) (l .inv .0 .1) (omega arith) (r .result) (r .ensures .0) (costOf (forest (a .list .now) (a .from) (a .to)))
+          (l .steps) (c .before .before .before .inside-times .result) (c .before .before .stretch-steps .result) (c .before .own-steps .result) (c .add-steps .result)
           (c .before .before .before .inside-times .ensures) (c .before .before .stretch-steps .ensures) (c .before .own-steps .ensures) (c .add-steps .ensures) (l .inv .1),
       omega (arith, c .add-steps .ensures),
     ))

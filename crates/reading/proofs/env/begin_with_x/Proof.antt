@@ -10,7 +10,10 @@ store-requires : tie.Need-store-requires
 store-requires c κs = (room-less {n = 1152} (omega arith) (c .before .before .before .before .before .before .pre .cells), x-plain)
 
 returns : tie.Need-returns
-returns c = x-ready (c .before .before .before .before .before .before .before .before .before .before .before .before .args .sizes .now) (c .before .before .before .before .before .before .before .before .before .before .before .before .pre) (c .before .before .before .before .before .store .ensures)
+returns c =
+    let after-store = c .before .before .before .before .before in
+    let start = after-store .before .before .before .before .before .before .before in
+    x-ready (start .args .sizes .now) (start .pre) (after-store .store .ensures)
 
 pub begin-with-x-spec : {M : Type 1} → statement M
 begin-with-x-spec =

@@ -19,15 +19,26 @@ top-size-requires c κs =
     (omega arith, omega arith)
 
 add-if2 : tie.Need-add-if2
-add-if2 c = let few = top-few (c .before .before .before .before .before .before .before .before .pre) (some-used (c .before .before .before .before .before .before .before .before .pre) (c .before .if1 .left)) (c .top-size .ensures) in omega arith
+add-if2 c =
+    let start = c .before .before .before .before .before .before .before .before in
+    let few = top-few (start .pre) (some-used (start .pre) (c .before .if1 .left)) (c .top-size .ensures) in omega arith
 
 returns-2 : tie.Need-returns-2
 returns-2 c st s =
-    last-many _ st (st .stack) (s .stack) (some-used (c .before .before .before .before .before .before .before .before .before .before .pre) (c .before .before .before .if1 .left)) (c .before .before .top-size .ensures) (c .if2 .taken) (handled-is s (c .before .before .before .before .before .any-complex .ensures))
+    let after-top-size = c .before .before in
+    let after-if1 = after-top-size .before in
+    let after-any-complex = after-if1 .before .before in
+    let start = after-any-complex .before .before .before .before .before in
+    last-many _ st (st .stack) (s .stack) (some-used (start .pre) (after-if1 .if1 .left)) (after-top-size .top-size .ensures) (c .if2 .taken) (handled-is s (after-any-complex .any-complex .ensures))
 
 returns-3 : tie.Need-returns-3
 returns-3 c st s =
-    last-one st (st .stack) (s .stack) (some-used (c .before .before .before .before .before .before .before .before .before .before .pre) (c .before .before .before .if1 .left)) (c .before .before .top-size .ensures) (omega arith) (s .complex) (handled-is s (c .before .before .before .before .before .any-complex .ensures))
+    let after-top-size = c .before .before in
+    let after-if1 = after-top-size .before in
+    let after-any-complex = after-if1 .before .before in
+    let start = after-any-complex .before .before .before .before .before in
+    last-one st (st .stack) (s .stack) (some-used (start .pre) (after-if1 .if1 .left)) (after-top-size .top-size .ensures) (omega arith) (s .complex)
+    (handled-is s (after-any-complex .any-complex .ensures))
 
 pub last-of-spec : {M : Type 1} → statement M
 last-of-spec =

@@ -1,6 +1,6 @@
 -- The stack starts with x; the whole list is walked, and one sum must be left. Assumes nothing.
 use mathlib.Core.Bool.{false}
-use Rattle.reading.proofs.walk.Laws.{does-told}
+use Rattle.reading.proofs.walk.Laws.{does-told, keeps, never}
 use Rattle.reading.proofs.env.Ends.{all-records, read-stop, read-ready, read-went}
 use borrow.Author.Needs.{needs}
 use Rattle.reading.proofs.env.nodes_expr.Statement.{statement}
@@ -8,24 +8,44 @@ use Rattle.reading.proofs.env.nodes_expr.Tie as tie
 
 walk-requires : tie.Need-walk-requires
 walk-requires c κs =
-    let s = c .before .before .before .before .before .before .before .before .before .before .before .before .before .before .before .before .before .before .before .before .before in
-    (c .before .before .before .before .before .before .before .before .before .before .before .before .begin-with-x .ensures .0, (false, all-records (s .args .list .now) (c .before .before .before .before .count-records .ensures) (s .pre .0)))
+    let after-count-records = c .before .before .before .before in
+    let after-begin-with-x = after-count-records .before .before .before .before .before .before .before .before in
+    let after-before = after-begin-with-x .before .before .before .before .before .before .before .before in
+    let place = after-before .before in
+    let s = place in
+    (after-begin-with-x .begin-with-x .ensures .0, (false, keeps (all-records (s .args .list .now) (after-count-records .count-records .ensures) (s .pre .0)), λ e. absurd (never e)))
 
 last-of-requires : tie.Need-last-of-requires
 last-of-requires c κs =
-    let s = c .before .before .before .before .before .before .before .before .before .before .before .before .before .before .before .before .before .before .before .before .before .before .before .before .before .before .before .before .before .before .before .before .before .before .before .before in
-    let x = c .before .before .before .before .before .before .before .before .before .before .before .before .before .before .before .before .before .before .before .before .before .before .before .before .before .before .before .begin-with-x .ensures in
-    read-ready (s .args .list .now) (c .before .before .before .before .before .before .before .before .before .before .before .before .before .before .before .before .before .before .before .count-records .ensures) (x .1) (does-told (c .before .before .before .before .before .ran2 .given .1) (c .before .before .before .before .before .before .before .before .before .before .before .before .before .before .walk .ensures)) (x .0)
+    let after-ran2 = c .before .before .before .before .before in
+    let after-walk = after-ran2 .before .before .before .before .before .before .before .before .before in
+    let after-count-records = after-walk .before .before .before .before .before in
+    let after-begin-with-x = after-count-records .before .before .before .before .before .before .before .before in
+    let after-before = after-begin-with-x .before .before .before .before .before .before .before .before in
+    let place = after-before .before in
+    let s = place in
+    let x = after-begin-with-x .begin-with-x .ensures in
+    read-ready (s .args .list .now) (after-count-records .count-records .ensures) (x .1) (does-told (after-ran2 .ran2 .given .1) (after-walk .walk .ensures)) (x .0)
 
 returns : tie.Need-returns
 returns c =
-    let x = c .before .before .before .before .before .before .before .before .before .before .before .before .before .before .before .before .before .before .before .before .before .before .before .begin-with-x .ensures in
-    read-stop (c .before .before .before .before .before .before .before .before .before .before .before .before .before .before .before .before .before .before .before .before .before .before .before .before .before .before .before .before .before .before .before .before .args .list .now) (c .before .before .before .before .before .before .before .before .before .before .before .before .before .before .before .count-records .ensures) (x .1) _ (does-told (c .before .ran .given .1) (c .before .before .before .before .before .before .before .before .before .before .walk .ensures))
+    let after-walk = c .before .before .before .before .before .before .before .before .before .before in
+    let after-count-records = after-walk .before .before .before .before .before in
+    let after-begin-with-x = after-count-records .before .before .before .before .before .before .before .before in
+    let start = after-begin-with-x .before .before .before .before .before .before .before .before .before in
+    let x = after-begin-with-x .begin-with-x .ensures in
+    read-stop (start .args .list .now) (after-count-records .count-records .ensures) (x .1) _ (does-told (c .before .ran .given .1) (after-walk .walk .ensures))
 
 returns-2 : tie.Need-returns-2
 returns-2 c =
-    let x = c .before .before .before .before .before .before .before .before .before .before .before .before .before .before .before .before .before .before .before .before .before .before .before .before .before .before .before .before .begin-with-x .ensures in
-    read-went (c .before .before .before .before .before .before .before .before .before .before .before .before .before .before .before .before .before .before .before .before .before .before .before .before .before .before .before .before .before .before .before .before .before .before .before .before .before .args .list .now) (c .before .before .before .before .before .before .before .before .before .before .before .before .before .before .before .before .before .before .before .before .count-records .ensures) (x .1) (does-told (c .before .before .before .before .before .before .ran2 .given .1) (c .before .before .before .before .before .before .before .before .before .before .before .before .before .before .before .walk .ensures)) (c .last-of .result) _ (c .last-of .ensures)
+    let after-ran2 = c .before .before .before .before .before .before in
+    let after-walk = after-ran2 .before .before .before .before .before .before .before .before .before in
+    let after-count-records = after-walk .before .before .before .before .before in
+    let after-begin-with-x = after-count-records .before .before .before .before .before .before .before .before in
+    let start = after-begin-with-x .before .before .before .before .before .before .before .before .before in
+    let x = after-begin-with-x .begin-with-x .ensures in
+    read-went (start .args .list .now) (after-count-records .count-records .ensures) (x .1) (does-told (after-ran2 .ran2 .given .1) (after-walk .walk .ensures)) (c .last-of .result) _
+    (c .last-of .ensures)
 
 pub nodes-expr-spec : {M : Type 1} → statement M
 nodes-expr-spec =

@@ -12,13 +12,20 @@ leaf-requires c κs = prepared (c .before .before .before .before .before .befor
 
 returns : tie.Need-returns
 returns c =
-    let x = c .before .before .before .before .before .before .before .before .before .before .before .before .before .before .before .before .before .before .args in
-    leaf-stopped _ (x .at) (x .r) (kindOf (x .r .kind)) (1152 - x .v) (x .env .complex) (c .before .before .before .before .before .before .before .before .before .before .leaf .ensures (x .at)) (c .before .q .given .1)
+    let after-leaf = c .before .before .before .before .before .before .before .before .before .before in
+    let start = after-leaf .before .before .before .before .before .before .before .before in
+    let x = start .args in
+    leaf-stopped _ (x .at) (x .r) (kindOf (x .r .kind)) (1152 - x .v) (x .env .complex) (after-leaf .leaf .ensures (x .at)) (c .before .q .given .1)
 
 returns-2 : tie.Need-returns-2
 returns-2 c =
-    let x = c .before .before .before .before .before .before .before .before .before .before .before .before .before .before .before .before .before .before .before .before .before .args in
-    leaf-went _ (x .at) (x .r) (kindOf (x .r .kind)) (1152 - x .v) (x .env .complex) (c .before .before .before .before .before .before .before .before .before .before .before .before .before .leaf .ensures (x .at)) (c .before .before .before .before .then .given .1) refl (c .before .before .counted .ensures) (c .before .flags .ensures)
+    let after-counted = c .before .before in
+    let after-then = after-counted .before .before in
+    let after-leaf = after-then .before .before .before .before .before .before .before .before .before in
+    let start = after-leaf .before .before .before .before .before .before .before .before in
+    let x = start .args in
+    leaf-went _ (x .at) (x .r) (kindOf (x .r .kind)) (1152 - x .v) (x .env .complex) (after-leaf .leaf .ensures (x .at)) (after-then .then .given .1) refl (after-counted .counted .ensures)
+    (c .before .flags .ensures)
 
 pub read-leaf-spec : {M : Type 1} → statement M
 read-leaf-spec =
