@@ -28,12 +28,14 @@ module _ (room : List ℕ → ℕ) (x : Read) (f : Bool → Sum → Made) (d : A
   pub after-refused : {q : Refusal} {at : ℕ} {h : Bool} (out : List ℕ) → d ≡ gave.Refused q at h → DataAs d b x → Gives room (afterRead x f) out out (answer.Refused q at)
   after-refused {q} {at} out e g = rw (gave-refused x d b e g) (gives-refusal room q at out)
 
-  pub after-made : {n : ℕ} {c h : Bool} {out out′ : List ℕ} {r : Answer} → d ≡ gave.Sum n c h → DataAs d b x → ((s : Sum) → Lies b 128 (128 + n) 4 s → Gives room (f c s) out out′ r) → Gives room (afterRead x f) out out′ r
+  pub after-made : {n : ℕ} {c h : Bool} {out out′ : List ℕ} {r : Answer} → d ≡ gave.Sum n c h → DataAs d b x → ((s : Sum) → Lies b 128 (128 + n) 4 s → Gives room (f c s) out out′ r)
+      → Gives room (afterRead x f) out out′ r
   after-made e g k = let w = gave-sum x d b e g in rw (w .is) (k (w .s) (w .lies))
 
 -- ---- the inverse
 
-pub inverse-refused : {q : Refusal} {at : ℕ} {h : Bool} {r : Answer} (x : Read) (d : AlgebraData) (b : Book) (out : List ℕ) → d ≡ gave.Refused q at h → DataAs d b x → r ≡ answered (inverseOf (reading.refusedAt q at h)) 0 → Gives recordsIn (inverseOf x) out out r
+pub inverse-refused : {q : Refusal} {at : ℕ} {h : Bool} {r : Answer} (x : Read) (d : AlgebraData) (b : Book) (out : List ℕ) → d ≡ gave.Refused q at h → DataAs d b x
+    → r ≡ answered (inverseOf (reading.refusedAt q at h)) 0 → Gives recordsIn (inverseOf x) out out r
 inverse-refused {q} {at} {h} x d b out e g k = rw (gave-refused x d b e g) (rw k (quiet h))
   where
     by-number : (n : Bool) → Gives recordsIn (cond n (refusedAt NotHandled 0) (refusedAt q at)) out out (answered (cond n (refusedAt NotHandled 0) (refusedAt q at)) 0)
@@ -44,7 +46,8 @@ inverse-refused {q} {at} {h} x d b out e g k = rw (gave-refused x d b e g) (rw k
     quiet true = gives-refusal recordsIn q at out
     quiet false = by-number (leb (refusalNo q) 9)
 
-pub inverse-made : {n : ℕ} {c h : Bool} {out out′ : List ℕ} {r : Answer} (x : Read) (d : AlgebraData) (b : Book) → d ≡ gave.Sum n c h → DataAs d b x → ((s : Sum) → Lies b 128 (128 + n) 4 s → Gives recordsIn (inverseOf (done s c h)) out out′ r) → Gives recordsIn (inverseOf x) out out′ r
+pub inverse-made : {n : ℕ} {c h : Bool} {out out′ : List ℕ} {r : Answer} (x : Read) (d : AlgebraData) (b : Book) → d ≡ gave.Sum n c h → DataAs d b x
+    → ((s : Sum) → Lies b 128 (128 + n) 4 s → Gives recordsIn (inverseOf (done s c h)) out out′ r) → Gives recordsIn (inverseOf x) out out′ r
 inverse-made x d b e g k = let w = gave-sum x d b e g in rw (w .is) (k (w .s) (w .lies))
 
 module _ (q : Refusal) (at : ℕ) {h : Bool} where

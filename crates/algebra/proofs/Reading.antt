@@ -77,8 +77,10 @@ module _ {n : ℕ} {c h : Bool} (x : Read) (d : AlgebraData) (b : Book) (e : d �
       let w = gave-sum x d b e g in
       (record { few = w .few; held = (w .s, w .lies); apart = over (omega arith) }, room-less (omega arith) (w .lies .room))
 
-  pub read-sum : {out out′ : List ℕ} {r : ReadAnswer} → ((s : Sum) (h : Bool) → Lies b 128 (128 + n) 4 s → Promise (answerOf (done s c h)) (bytesOf (done s c h)) out out′ r) → Promise (answerOf x) (bytesOf x) out out′ r
+  pub read-sum : {out out′ : List ℕ} {r : ReadAnswer} → ((s : Sum) (h : Bool) → Lies b 128 (128 + n) 4 s → Promise (answerOf (done s c h)) (bytesOf (done s c h)) out out′ r)
+      → Promise (answerOf x) (bytesOf x) out out′ r
   read-sum f = let w = gave-sum x d b e g in rw (w .is) (f (w .s) h (w .lies))
 
-pub read-refused : {q : Refusal} {at : ℕ} {h : Bool} (x : Read) (d : AlgebraData) (b : Book) (out : List ℕ) → d ≡ gave.Refused q at h → DataAs d b x → Promise (answerOf x) (bytesOf x) out out (answer.Refused q at)
+pub read-refused : {q : Refusal} {at : ℕ} {h : Bool} (x : Read) (d : AlgebraData) (b : Book) (out : List ℕ) → d ≡ gave.Refused q at h → DataAs d b x
+    → Promise (answerOf x) (bytesOf x) out out (answer.Refused q at)
 read-refused {q} {at} {h} x d b out e g = rw (gave-refused x d b e g) (flag-given (refusedAt q at h) (gives-refusal entriesIn q at out))

@@ -100,7 +100,8 @@ fn put_read(
     out: &mut [u8],
 ) -> ReadAnswer
     requires { ⌜ (n ≤ sumEntries) × Held (lent kinds insides numbers) working (working + n) sumLevels ⌝ }
-    ensures { λ r. ⌜ ((s : Sum) (h : Bool) → Lies (entering kinds insides numbers) working (working + n) sumLevels s → Promise (answerOf (done s complex h)) (bytesOf (done s complex h)) (now (out .entry)) (now (out .exit)) r) ⌝ }
+    ensures { λ r. ⌜ ((s : Sum) (h : Bool) → Lies (entering kinds insides numbers) working (working + n) sumLevels s → Promise (answerOf (done s complex h)) (bytesOf (done s complex h))
+        (now (out .entry)) (now (out .exit)) r) ⌝ }
 {
     let answer = crate::answer::put_out(kinds, insides, numbers, WORKING, n, out);
     flagged(complex, answer)

@@ -102,7 +102,8 @@ module _ (k : ℕ) (f : Sum → Bool) where
 -- ---- products formed: of two terms, of the terms of the first in turn, of the whole
 
 -- of two powers
-pub term-powers : (x : Entry) (f : Sum → Outcome) (y : Entry) (v s : Sum) → eqb (x .kind) X ≡ true → mulTerm x f y v s ≡ formed Add (entry X 0 (x .num ⊕ y .num) (complex.times (x .coef) (y .coef))) none s
+pub term-powers : (x : Entry) (f : Sum → Outcome) (y : Entry) (v s : Sum) → eqb (x .kind) X ≡ true
+    → mulTerm x f y v s ≡ formed Add (entry X 0 (x .num ⊕ y .num) (complex.times (x .coef) (y .coef))) none s
 term-powers x f y v s e = rw e
 
 -- of two Divs where that is refused
@@ -179,7 +180,8 @@ module _ (x y : Entry) (j s : Sum) where
   over-other e = rw e
 
 -- by one term
-pub quotient-one : (a : Sum) (l : ℕ) (q : Float) (j : Sum) (d : Complex) → quotient a (and l q j d none) ≡ unless (allDivable (entry l (size j) q d) j a) TooComplex (eachInto (λ x i s. divTerm (entry l (size j) q d) j x s) none a)
+pub quotient-one : (a : Sum) (l : ℕ) (q : Float) (j : Sum) (d : Complex)
+    → quotient a (and l q j d none) ≡ unless (allDivable (entry l (size j) q d) j a) TooComplex (eachInto (λ x i s. divTerm (entry l (size j) q d) j x s) none a)
 unfolding quotient
 quotient-one a l q j d = refl
 
@@ -269,9 +271,11 @@ into-fine (and k p i c a) b s h =
     (each-fine (mulTerm (entry k (size i) p c) (λ v. mulInto i v none)) (λ y v s. term (eqb k X) y v s (into-fine i v none)) b s) (λ u. into-fine a b u) h
   where
     term : (x : Bool) (y : Entry) (v s : Sum) → Expressible (mulInto i v none)
-        → Expressible (cond x (formed Add (entry X 0 (p ⊕ y .num) (complex.times c (y .coef))) none s) (andThenSum (mulInto i v none) (λ w. formed Add (entry Div (size w) zero64 (complex.times c (y .coef))) w s)))
+        → Expressible (cond x (formed Add (entry X 0 (p ⊕ y .num) (complex.times c (y .coef))) none s)
+        (andThenSum (mulInto i v none) (λ w. formed Add (entry Div (size w) zero64 (complex.times c (y .coef))) w s)))
     term true y v s n = formed-fine Add (entry X 0 (p ⊕ y .num) (complex.times c (y .coef))) none s
-    term false y v s n = then-fine (mulInto i v none) (λ w. formed Add (entry Div (size w) zero64 (complex.times c (y .coef))) w s) n (λ w. formed-fine Add (entry Div (size w) zero64 (complex.times c (y .coef))) w s)
+    term false y v s n = then-fine (mulInto i v none) (λ w. formed Add (entry Div (size w) zero64 (complex.times c (y .coef))) w s) n
+        (λ w. formed-fine Add (entry Div (size w) zero64 (complex.times c (y .coef))) w s)
 
 -- so where there is a product TooComplex isn't given
 pub product-fine : (a b : Sum) → mulable a b ≡ true → Expressible (product a b)

@@ -100,7 +100,8 @@ put-found m x t y u s kx ky fs fr = go (cmpTerm y u x t) refl
 
     go : (o : Ordering) → cmpTerm y u x t ≡ o → lookup y u (putIn m x t s) ≡ byOrder o (lookup y u s) (at (merged m (orZero (lookup y u s)) (x .coef))) (lookup y u s)
     go Less e = other (λ h. let w : Less ≡ Equal = sym e ∙ h in absurd (let z : _≡_ {A = ℕ} 0 1 = cc in omega arith))
-    go Equal e = lookup-equal y u x t (putIn m x t s) ky kx fr e ∙ lookup-put m x t s ∙ ap at (coef-lookup m x t s ∙ ap (λ (v : Found). merged m (orZero v) (x .coef)) (sym (lookup-equal y u x t s ky kx fs e)))
+    go Equal e = lookup-equal y u x t (putIn m x t s) ky kx fr e ∙ lookup-put m x t s ∙ ap at
+        (coef-lookup m x t s ∙ ap (λ (v : Found). merged m (orZero v) (x .coef)) (sym (lookup-equal y u x t s ky kx fs e)))
     go Greater e = other (λ h. let w : Greater ≡ Equal = sym e ∙ h in absurd (let z : _≡_ {A = ℕ} 0 1 = cc in omega arith))
 
 -- ---- what is gained at each power as terms are added
@@ -135,7 +136,12 @@ gained-none s r g h = subst (λ (u : Sum). Gained s u (λ q. [])) (sum-is h) (re
 
 -- some terms, and then some more
 pub gained-then : {s u r : Sum} {l m : Float → List Complex} → Gained s u l → Gained u r m → Gained s r (λ q. l q ++ m q)
-gained-then {s} {l = l} {m = m} a b = record { good = b .good; powers = λ p. b .powers (a .powers p); coef = λ q f. b .coef q f ∙ ap (λ (v : Found). gained v (m q)) (a .coef q f) ∙ gained-append (coefAt q s) (l q) (m q) }
+gained-then {s} {l = l} {m = m} a b = record {
+  good = b .good;
+  powers = λ p. b .powers (a .powers p);
+  coef = λ q f. b .coef q f ∙ ap (λ (v : Found). gained v (m q)) (a .coef q f)
+      ∙ gained-append (coefAt q s) (l q) (m q);
+}
 
 -- a power of x put in
 pub put-powers : (m : Merge) (x : Entry) (t s : Sum) → x .kind ≡ X → PowerSum s → PowerSum (putIn m x t s)
@@ -164,10 +170,12 @@ gained-x p c s r fp fc g h = record { good = good; powers = λ w. rw (f .is) (pu
     k : (q : Float) → T (finite q) → Key (xKey q) none
     k q fq = key-x 0 q complex.zero fq
 
-    put : (q : Float) → T (finite q) → lookup (xKey q) none r ≡ byOrder (cmpTerm (xKey q) none x none) (lookup (xKey q) none s) (at (complex.plus (orZero (lookup (xKey q) none s)) c)) (lookup (xKey q) none s)
+    put : (q : Float) → T (finite q) → lookup (xKey q) none r ≡ byOrder (cmpTerm (xKey q) none x none) (lookup (xKey q) none s) (at (complex.plus (orZero (lookup (xKey q) none s)) c))
+        (lookup (xKey q) none s)
     put q fq = rw (f .is) (put-found Add x none (xKey q) none s (key-x 0 p c (T-of (f .num))) (k q fq) (good-finite 4 s g) (rw (f .is) at (good-finite 4 r good)))
 
-    at-q : (q : Float) → T (finite q) → (v : Found) (b : Bool) (o : Ordering) → eq p q ≡ b → cmpTerm (xKey q) none x none ≡ o → byOrder o v (at (complex.plus (orZero v) c)) v ≡ gained v (cond b (c ∷ []) [])
+    at-q : (q : Float) → T (finite q) → (v : Found) (b : Bool) (o : Ordering) → eq p q ≡ b → cmpTerm (xKey q) none x none ≡ o
+        → byOrder o v (at (complex.plus (orZero v) c)) v ≡ gained v (cond b (c ∷ []) [])
     at-q q fq v true o e h = rw (sym h ∙ equal-x q X 0 p none c fq (T-of (f .num)) refl e)
     at-q q fq v false Less e h = refl
     at-q q fq v false Equal e h = differ (sym (x-equal q X 0 p none c fq (T-of (f .num)) h) ∙ e)

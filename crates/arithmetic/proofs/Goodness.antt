@@ -36,7 +36,8 @@ use Rattle.arithmetic.specs.Singles.{GoodSum, isOne, single, alone, cons
 use Rattle.arithmetic.specs.Adding.{negSum, addSums, subSums}
 use Rattle.arithmetic.specs.Product.{pairable, rowable, mulable, mulTerm, mulInto, product}
 use Rattle.arithmetic.specs.Quotient.{xTo, allDivable, addTimes, divTerm, divBySeveral, quotient}
-use Rattle.arithmetic.specs.Power.{raised, wholePower, rootable, unitCoefs, rootOfOne, rooted, power, byReal, isEuler, pow, log, number, sqrt, exp, exp2, exp10, ln, log2, log10, reciprocal, notSum, complexOf, complexSum}
+use Rattle.arithmetic.specs.Power.{raised, wholePower, rootable, unitCoefs, rootOfOne, rooted, power, byReal, isEuler, pow, log, number, sqrt, exp, exp2, exp10, ln, log2}
+use Rattle.arithmetic.specs.Power.{log10, reciprocal, notSum, complexOf, complexSum}
 use Rattle.arithmetic.proofs.Steps.{never, differ, and-both, sum-is, then-sum, unless-sum, either}
 
 -- ---- coefficients that fit
@@ -156,7 +157,16 @@ neg-good left none h = tt
 neg-good zero (and k p i c r) h = absurd h
 neg-good (suc left) (and k p i c r) h =
     let e = h .0 in
-    let n : GoodEntry k p i (complex.negated c) = record { least = e .least; most = e .most; number = e .number; none-else = e .none-else; re = neg-number (c .re) (e .re); im = neg-number (c .im) (e .im); inside = e .inside } in
+    let n : GoodEntry k p i (complex.negated c) = record {
+      least = e .least;
+      most = e .most;
+      number = e .number;
+      none-else = e .none-else;
+      re = neg-number (c .re) (e .re);
+      im = neg-number
+          (c .im) (e .im);
+      inside = e .inside;
+    } in
     (n, h .1, neg-before k p i r (h .2), neg-good (suc left) r (h .3))
 
 -- with as many entries
@@ -286,7 +296,8 @@ row-good : (k : ℕ) (p : Float) (i : Sum) (c : Complex) (f : Sum → Bool) (g :
 row-good k p i c f g ih t s r gt m gs n h =
     each-good (mulTerm (entry k (size i) p c) g) (λ l q j d. GoodTerm l q j d × (pairable k f l j ≡ true)) step t s r (row-every k f t gt m) gs n h
   where
-    step : (l : ℕ) (q : Float) (j : Sum) (d : Complex) (s r : Sum) → GoodTerm l q j d × (pairable k f l j ≡ true) → Good 4 s → mulTerm (entry k (size i) p c) g (entry l (size j) q d) j s ≡ sum r → GoodSum r
+    step : (l : ℕ) (q : Float) (j : Sum) (d : Complex) (s r : Sum) → GoodTerm l q j d × (pairable k f l j ≡ true) → Good 4 s
+        → mulTerm (entry k (size i) p c) g (entry l (size j) q d) j s ≡ sum r → GoodSum r
     step l q j d s r e gs h = go (eqb k X) refl h
       where
         go : (b : Bool) → eqb k X ≡ b
@@ -375,7 +386,8 @@ several-good a b r ga gb absent h = never h
 several-good a b r ga gb (at c) h =
     either GoodSum (complex.same c complex.zero) (sum a) (cond (complex.same c complex.one) (alone Div zero64 b complex.one) (refused TooComplex)) r
     (λ e. subst GoodSum (sum-is e) ga)
-    (either GoodSum (complex.same c complex.one) (alone Div zero64 b complex.one) (refused TooComplex) r (good-over Div complex.one (omega arith) (omega arith) refl (fits-bits 0x3ff0000000000000) gb) (λ e. never e))
+    (either GoodSum (complex.same c complex.one) (alone Div zero64 b complex.one) (refused TooComplex) r
+    (good-over Div complex.one (omega arith) (omega arith) refl (fits-bits 0x3ff0000000000000) gb) (λ e. never e))
     h
 
 -- a quotient of two good sums
@@ -457,7 +469,14 @@ pub good-log : {s t r : Sum} → GoodSum s → GoodSum t → log s t ≡ sum r �
 unfolding log
 good-log {s} {t} {r} a b h =
     by-real (λ base. alone Log base s complex.one) (asConstant t) r
-    (λ c e h. good-alone (record { least = omega arith; most = omega arith; number = constant-fits t c (b .good) e .re; none-else = λ z. differ z; coef = fits-bits 0x3ff0000000000000; inside = a .some }) (a .good) h)
+    (λ c e h. good-alone (record {
+      least = omega arith;
+      most = omega arith;
+      number = constant-fits t c (b .good) e .re;
+      none-else = λ z. differ z;
+      coef = fits-bits 0x3ff0000000000000;
+      inside = a .some;
+    }) (a .good) h)
     h
 
 -- ---- the primitives made of them
@@ -506,6 +525,7 @@ good-complex {s} {t} {r} a b h = go (asConstant s) (asConstant t) h
     by-product h = let w = then-sum (product s (constant complex.imaginary)) (λ w. addSums t w) r h in good-add b (good-product a good-imaginary (w .1)) (w .2)
 
     go : (f g : Found) → complexOf s t f g ≡ sum r → GoodSum r
-    go (at c) (at d) h = good-alone (x-head (size none) zero64 (complex.plus (complex.times c complex.imaginary) d) (ofBits-fits binary64 0) (fits-plus (complex.times c complex.imaginary) d)) none-good h
+    go (at c) (at d) h = good-alone (x-head (size none) zero64 (complex.plus (complex.times c complex.imaginary) d) (ofBits-fits binary64 0)
+        (fits-plus (complex.times c complex.imaginary) d)) none-good h
     go (at c) absent h = by-product h
     go absent d h = by-product h

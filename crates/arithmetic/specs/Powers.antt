@@ -1,4 +1,5 @@
--- Sums of powers of x, and what the coefficients of a product, a sum and a difference of two of them are, with no map: the products of the pairs of terms whose powers add up to q, in order, added one after the other from +0.
+-- Sums of powers of x, and what the coefficients of a product, a sum and a difference of two of them are, with no map: the products of the pairs of terms
+-- whose powers add up to q, in order, added one after the other from +0.
 use mathlib.Core.Path.{_≡_}
 use mathlib.Core.Bool.{Bool, false, _&&_, _||_, cond}
 use mathlib.Core.List.{List, [], _∷_, _++_}

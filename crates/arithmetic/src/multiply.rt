@@ -162,7 +162,8 @@ fn put_div(
     requires { ⌜ Inner (lent «other_kinds» «other_insides» «other_numbers») k ⌝ }
     requires { ⌜ Growing (lent kinds insides numbers) p n ⌝ }
     ensures { λ r. ⌜ Kept (entering kinds insides numbers) (leaving kinds insides numbers) p (p + sumEntries) ⌝ }
-    ensures { λ r. ⌜ OfInner (entering «other_kinds» «other_insides» «other_numbers») k (entering kinds insides numbers) p n (λ w s. Agrees r (leaving kinds insides numbers) p (divInto k coef w s)) ⌝ }
+    ensures { λ r. ⌜ OfInner (entering «other_kinds» «other_insides» «other_numbers») k (entering kinds insides numbers) p n
+        (λ w s. Agrees r (leaving kinds insides numbers) p (divInto k coef w s)) ⌝ }
 {
     let head = Entry {
         kind: sums::tree::DIV,
@@ -226,7 +227,8 @@ fn div_mul(
 ) -> Formed
     requires { ⌜ (0 < a) × (0 < b) × Sums (lent kinds insides numbers) i a j b p left × Growing (lent kinds insides numbers) p n ⌝ }
     ensures { λ r. ⌜ Kept (entering kinds insides numbers) (leaving kinds insides numbers) p (p + sumEntries) ⌝ }
-    ensures { λ r. ⌜ OfThree (entering kinds insides numbers) i a left j b left p n (λ t v s. Agrees r (leaving kinds insides numbers) p (andThenSum (mulInto t v none) (λ w. divInto (size w) coef w s))) ⌝ }
+    ensures { λ r. ⌜ OfThree (entering kinds insides numbers) i a left j b left p n (λ t v s. Agrees r (leaving kinds insides numbers) p
+        (andThenSum (mulInto t v none) (λ w. divInto (size w) coef w s))) ⌝ }
 {
     let mut other_kinds = [0u8; FOUR_SUMS];
     let mut other_insides = [0u8; FOUR_SUMS];
@@ -285,7 +287,8 @@ fn term_mul(
 ) -> Formed
     requires { ⌜ Pair (lent kinds insides numbers) x i y j p left × Growing (lent kinds insides numbers) p n ⌝ }
     ensures { λ r. ⌜ Kept (entering kinds insides numbers) (leaving kinds insides numbers) p (p + sumEntries) ⌝ }
-    ensures { λ r. ⌜ OfThree (entering kinds insides numbers) i (x .inside) left j (y .inside) left p n (λ t v s. Agrees r (leaving kinds insides numbers) p (mulTerm x (λ u. mulInto t u none) y v s)) ⌝ }
+    ensures { λ r. ⌜ OfThree (entering kinds insides numbers) i (x .inside) left j (y .inside) left p n
+        (λ t v s. Agrees r (leaving kinds insides numbers) p (mulTerm x (λ u. mulInto t u none) y v s)) ⌝ }
 {
     let code = crate::product_code(x.kind, y.kind);
     let c = x.coef.mul(y.coef);
@@ -322,7 +325,8 @@ fn mul_row(
 ) -> Formed
     requires { ⌜ Row (lent kinds insides numbers) x i j m p left × Growing (lent kinds insides numbers) p n ⌝ }
     ensures { λ r. ⌜ Kept (entering kinds insides numbers) (leaving kinds insides numbers) p (p + sumEntries) ⌝ }
-    ensures { λ r. ⌜ OfThree (entering kinds insides numbers) i (x .inside) (left - 1) j m left p n (λ t v s. Agrees r (leaving kinds insides numbers) p (eachInto (mulTerm x (λ u. mulInto t u none)) s v)) ⌝ }
+    ensures { λ r. ⌜ OfThree (entering kinds insides numbers) i (x .inside) (left - 1) j m left p n
+        (λ t v s. Agrees r (leaving kinds insides numbers) p (eachInto (mulTerm x (λ u. mulInto t u none)) s v)) ⌝ }
 {
     let end = j + m;
     let mut q = j;

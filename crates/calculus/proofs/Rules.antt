@@ -361,7 +361,8 @@ log-above-x : (p : Float) (c : Complex) → cmpTerm logKey x (entry kinds.X 0 p 
 log-above-x p c h = let w : Greater ≡ Equal = h in let z : _≡_ {A = ℕ} 0 1 = cc in omega arith
 
 -- keys of x are Equal where the powers are equal
-x-same : (p q : Float) (c : Complex) → T (finite p) → T (finite q) → (cmpTerm (xKey q) none (entry kinds.X 0 p c) none ≡ Equal → eq p q ≡ true) × (eq p q ≡ true → cmpTerm (xKey q) none (entry kinds.X 0 p c) none ≡ Equal)
+x-same : (p q : Float) (c : Complex) → T (finite p) → T (finite q)
+    → (cmpTerm (xKey q) none (entry kinds.X 0 p c) none ≡ Equal → eq p q ≡ true) × (eq p q ≡ true → cmpTerm (xKey q) none (entry kinds.X 0 p c) none ≡ Equal)
 unfolding sameSum
 x-same p q c fp fq =
     let w = alone-same (xKey q) (entry kinds.X 0 p c) fq fp in
@@ -592,7 +593,8 @@ each-integrate-fine : (t s : Sum) → PowerSum t → Expressible (eachInto integ
 unfolding eachInto PowerSum
 each-integrate-fine none s p h = never (sym h)
 each-integrate-fine (and l v j d t) s p h =
-    then-fine (integrateInto (entry l (size j) v d) j s) (λ u. eachInto integrateInto u t) (λ o. x-integrate-fine l (size j) v d s (sym (integrate-is-x l (size j) v d j s (eq-eqb l kinds.X (p .0))) ∙ o))
+    then-fine (integrateInto (entry l (size j) v d) j s) (λ u. eachInto integrateInto u t)
+    (λ o. x-integrate-fine l (size j) v d s (sym (integrate-is-x l (size j) v d j s (eq-eqb l kinds.X (p .0))) ∙ o))
     (λ u. each-integrate-fine t u (p .1)) h
 
 -- and the integral

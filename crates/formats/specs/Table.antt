@@ -3,7 +3,8 @@
 use mathlib.Core.Bool.{Bool, true, false, cond}
 use Prim.Native.Nat.{ℕ, _+_, _*_}
 use Rattle.formats.specs.declared.record.Primitive.{Primitive}
-use Rattle.formats.specs.declared.record.Primitive.the-variants.{Identity, Pop, Dup, Flip, Neg, Not, Sqrt, Add, Sub, Mul, Div, Pow, Exp, Sin, Cos, Reciprocal, Complex, Max, SinH, CosH, Exp2, Exp10, Log, Ln, Log2, Log10, Over, Root, Unlisted}
+use Rattle.formats.specs.declared.record.Primitive.the-variants.{Identity, Pop, Dup, Flip, Neg, Not, Sqrt, Add, Sub, Mul, Div, Pow, Exp, Sin, Cos, Reciprocal, Complex, Max}
+use Rattle.formats.specs.declared.record.Primitive.the-variants.{SinH, CosH, Exp2, Exp10, Log, Ln, Log2, Log10, Over, Root, Unlisted}
 
 pub record Row : Type 0 where
   pub taken : ℕ

@@ -11,7 +11,8 @@ use Rattle.limits.specs.declared.Refusal.the-variants.{TooComplex, NeedsMath}
 use Rattle.formats.specs.declared.record.Primitive.the-variants as prim
 use Rattle.formats.specs.Tree.{end}
 use Rattle.writing.specs.Draft.Writing.{refused}
-use Rattle.inverse.specs.Inverse.{Word, num, act, spell, minusFour64, minusOne64, lessConstant, overFactor, unpower, isInt, ofPower, simpleQuadratic, root, larger, fullQuadratic, linear, ofConstant, ofQuadratic}
+use Rattle.inverse.specs.Inverse.{Word, num, act, spell, minusFour64, minusOne64, lessConstant, overFactor, unpower, isInt, ofPower, simpleQuadratic, root, larger}
+use Rattle.inverse.specs.Inverse.{fullQuadratic, linear, ofConstant, ofQuadratic}
 use Rattle.inverse.specs.Contract.Steps.{byOthers}
 use Rattle.inverse.specs.declared.Others.{Others}
 use Rattle.inverse.specs.declared.Others.the-variants.{Nothing, Power, TooMuch}
@@ -58,7 +59,8 @@ module _ (p : Float) where
 pub power-parts : (c k : Complex) (p : Float) → lessConstant c [] ++ (overFactor k [] ++ unpower p) ≡ lessConstant c (overFactor k (unpower p))
 power-parts c k p = first (complex.same c complex.zero) (complex.same k complex.one) (unpower p)
   where
-    first : (s t : Bool) (ws : List Word) → cond s [] (num c ∷ act prim.Sub ∷ []) ++ (cond t [] (num k ∷ act prim.Div ∷ []) ++ ws) ≡ cond s (cond t ws (num k ∷ act prim.Div ∷ ws)) (num c ∷ act prim.Sub ∷ cond t ws (num k ∷ act prim.Div ∷ ws))
+    first : (s t : Bool) (ws : List Word) → cond s [] (num c ∷ act prim.Sub ∷ []) ++ (cond t [] (num k ∷ act prim.Div ∷ []) ++ ws) ≡ cond s (cond t ws (num k ∷ act prim.Div ∷ ws))
+        (num c ∷ act prim.Sub ∷ cond t ws (num k ∷ act prim.Div ∷ ws))
     first true true ws = refl
     first true false ws = refl
     first false true ws = refl
@@ -66,14 +68,16 @@ power-parts c k p = first (complex.same c complex.zero) (complex.same k complex.
 
 module _ (flag : Bool) (k : Complex) (p : Float) (c : Complex) {t : Bool} (e : t ≡ isInt k) where
   pub power-known : t ≡ true → spell flag (lessConstant c [] ++ (overFactor k [] ++ unpower p)) end ≡ ofPower flag k p c
-  power-known h = ap (λ (ws : List Word). spell flag ws end) (power-parts c k p) ∙ sym (ap (λ (b : Bool). cond b (spell flag (lessConstant c (overFactor k (unpower p))) end) (refused NeedsMath)) (sym e ∙ h))
+  power-known h = ap (λ (ws : List Word). spell flag ws end) (power-parts c k p) ∙ sym
+      (ap (λ (b : Bool). cond b (spell flag (lessConstant c (overFactor k (unpower p))) end) (refused NeedsMath)) (sym e ∙ h))
 
   pub power-unknown : t ≡ false → refused NeedsMath ≡ ofPower flag k p c
   power-unknown h = sym (ap (λ (b : Bool). cond b (spell flag (lessConstant c (overFactor k (unpower p))) end) (refused NeedsMath)) (sym e ∙ h))
 
 -- ---- ax² + bx + c
 
-pub root-words : (a b c : Complex) {u v : Complex} → u ≡ complex.timesReal a (neg four64) → v ≡ complex.times b b → num c ∷ act prim.Flip ∷ act prim.Sub ∷ num u ∷ act prim.Mul ∷ num v ∷ act prim.Add ∷ act prim.Sqrt ∷ [] ≡ root a b c
+pub root-words : (a b c : Complex) {u v : Complex} → u ≡ complex.timesReal a (neg four64) → v ≡ complex.times b b
+    → num c ∷ act prim.Flip ∷ act prim.Sub ∷ num u ∷ act prim.Mul ∷ num v ∷ act prim.Add ∷ act prim.Sqrt ∷ [] ≡ root a b c
 root-words a b c {u} {v} e f =
     let d : u ≡ complex.timesReal a minusFour64 = e ∙ ap (complex.timesReal a) minus-four in
     rw (d, f)

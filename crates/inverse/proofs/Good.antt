@@ -29,7 +29,8 @@ use Rattle.formats.specs.Rules.{verdict}
 use Rattle.writing.specs.Draft.Writing.{does, append, one, Written, wrote, refused, andThen, numberRecord, canWrite, ifCan}
 use Rattle.writing.proofs.draft.Fine.{Fine, fine-more, fine-end, fine-say, fine-good, plain-does, plain-number}
 use Rattle.inverse.proofs.Coefs.{coef-first}
-use Rattle.inverse.specs.Inverse.{Word, num, act, spell, minusFour64, minusOne64, coefOf, low, others, lessConstant, overFactor, unpower, isInt, simpleQuadratic, fullQuadratic, linear, ofQuadratic, ofOthers, inverse}
+use Rattle.inverse.specs.Inverse.{Word, num, act, spell, minusFour64, minusOne64, coefOf, low, others, lessConstant, overFactor, unpower, isInt, simpleQuadratic}
+use Rattle.inverse.specs.Inverse.{fullQuadratic, linear, ofQuadratic, ofOthers, inverse}
 
 -- ---- words
 
@@ -114,7 +115,8 @@ fit-simple a c fa fc = says fc (acts (says fa (acts (acts nothing))))
 
 fit-full : (a b c : Complex) → Fits b → Fits c → Fitting 18 (fullQuadratic a b c)
 fit-full a b c fb fc =
-    says fc (acts (acts (says (fits-scaled a minusFour64) (acts (says (fits-times b b) (acts (acts (acts (says fb (acts (acts (acts (says fb (acts (acts (says (fits-scaled a two64) (acts nothing)))))))))))))))))
+    says fc (acts (acts (says (fits-scaled a minusFour64) (acts
+    (says (fits-times b b) (acts (acts (acts (says fb (acts (acts (acts (says fb (acts (acts (says (fits-scaled a two64) (acts nothing)))))))))))))))))
 
 quadratic-good : (flag : Bool) (a b c : Complex) → Fits a → Fits b → Fits c → GoodList (ofQuadratic flag a b c)
 quadratic-good flag a b c fa fb fc =
@@ -133,8 +135,11 @@ unfolding good.Good
 fit-sum left none g = tt
 fit-sum zero (and k p i c r) g = absurd g
 fit-sum (suc left) (and k p i c r) g =
-    let e = g .0 in
-    (and-r (finite p) (fits binary64 p) (e .number), record { re = and-r (finite (c .re)) (fits binary64 (c .re)) (e .re); im = and-r (finite (c .im)) (fits binary64 (c .im)) (e .im) }, fit-sum (suc left) r (g .3))
+    let e = g .0 in (
+      and-r (finite p) (fits binary64 p) (e .number),
+      record { re = and-r (finite (c .re)) (fits binary64 (c .re)) (e .re); im = and-r (finite (c .im)) (fits binary64 (c .im)) (e .im) },
+      fit-sum (suc left) r (g .3),
+    )
 
 fit-coef : (q : Float) (s : Sum) → FitSum s → Fits (coefOf q s)
 unfolding coefOf coefAt

@@ -169,6 +169,7 @@ by-others flag a b c (and k p i d none) = alone (eqb k kinds.X)
     alone false = refl
 by-others flag a b c (and k p i d (and l q j e r)) = refl
 
-pub inverse-is : (flag : Bool) (s : Sum) {a b c : Complex} {o : Others} → a ≡ coefOf two64 s → b ≡ coefOf one64 s → c ≡ coefOf zero64 s → o ≡ othersOf (others s) → byOthers flag a b c o ≡ inverse flag s
+pub inverse-is : (flag : Bool) (s : Sum) {a b c : Complex} {o : Others} → a ≡ coefOf two64 s → b ≡ coefOf one64 s → c ≡ coefOf zero64 s → o ≡ othersOf (others s)
+    → byOthers flag a b c o ≡ inverse flag s
 unfolding inverse
 inverse-is flag s e f g h = rw (e, f, g, h) (sym (by-others flag (coefOf two64 s) (coefOf one64 s) (coefOf zero64 s) (others s)))

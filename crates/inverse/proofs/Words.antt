@@ -70,7 +70,8 @@ spelt-join {b} {b′} {b″} {s} {t} {r} {m} {n} {flag} {ws} {vs} u v =
     record {
       ready = λ more x. v .ready more (u .ready (n + more) (ready-as b s (m + n + more) (m + (n + more)) (omega arith) x));
       long = v .long ∙ u .long;
-      lies = λ w l. subst (SaidAs r b″) (then-join w (λ ns. spell flag ws ns) (λ ms. spell flag vs ms) ∙ then-same w (λ ns. andThen (spell flag ws ns) (λ ms. spell flag vs ms)) (λ ns. spell flag (ws ++ vs) ns) (λ ns. sym (spell-join flag ws vs ns))) (v .lies (andThen w (λ ns. spell flag ws ns)) (u .lies w l));
+      lies = λ w l. subst (SaidAs r b″) (then-join w (λ ns. spell flag ws ns) (λ ms. spell flag vs ms) ∙ then-same w (λ ns. andThen (spell flag ws ns) (λ ms. spell flag vs ms))
+          (λ ns. spell flag (ws ++ vs) ns) (λ ns. sym (spell-join flag ws vs ns))) (v .lies (andThen w (λ ns. spell flag ws ns)) (u .lies w l));
     }
 
 pub spelt-as : {b b′ : List ℕ} {s r : Said} {m : ℕ} {flag : Bool} {ws : List Word} → Spelt b b′ s r m flag ws → (n : ℕ) → m ≤ n → (vs : List Word) → ws ≡ vs → Spelt b b′ s r n flag vs
@@ -113,7 +114,8 @@ spelt-number {b} {b′} {d} {r} {flag} {c} s e k =
     go (wrote ns) l = subst (SaidAs r b′) (sym (then-nothing (number flag c ns))) (k .lies ns l)
     go (refused o) l = absurd l
 
-pub spelt-act : {b b′ : List ℕ} {d q : Draft} {p : Primitive} (s : Said) → s ≡ said.Done d → Drawn b b′ d q 0 1 (λ ns. append ns (one (does p))) → (flag : Bool) → Spelt b b′ s (said.Done q) 1 flag (act p ∷ [])
+pub spelt-act : {b b′ : List ℕ} {d q : Draft} {p : Primitive} (s : Said) → s ≡ said.Done d → Drawn b b′ d q 0 1 (λ ns. append ns (one (does p))) → (flag : Bool)
+    → Spelt b b′ s (said.Done q) 1 flag (act p ∷ [])
 unfolding spell
 spelt-act {b} {b′} {d} {q} {p} s e k flag =
     record {

@@ -1,7 +1,8 @@
 -- The refusals' numbers, as document 01's table gives them.
 use Prim.Native.Nat.{ℕ}
 use Rattle.limits.specs.declared.Refusal.{Refusal}
-use Rattle.limits.specs.declared.Refusal.the-variants.{TooManyVariables, NotSupported, NoOutput, TooManyOutputs, NonScalar, NonReal, TooComplex, InterpreterBug, NoInverse, NotHandled, BadRecord, NoRoom, TooDeep, NeedsMath, NotFinite, BigPower, OutputRoom, PowerNotFinite}
+use Rattle.limits.specs.declared.Refusal.the-variants.{TooManyVariables, NotSupported, NoOutput, TooManyOutputs, NonScalar, NonReal, TooComplex, InterpreterBug, NoInverse}
+use Rattle.limits.specs.declared.Refusal.the-variants.{NotHandled, BadRecord, NoRoom, TooDeep, NeedsMath, NotFinite, BigPower, OutputRoom, PowerNotFinite}
 
 abbrev pub refusalNo : Refusal → ℕ
 refusalNo TooManyVariables = 1

@@ -5,7 +5,9 @@ use mathlib.Core.Path.{_≡_, refl, sym, ap, ap₂, subst, _∙_}
 use mathlib.Core.Logic.{_⊎_, inl, inr}
 use mathlib.Core.Bool.{Bool, true, false, not, _&&_, _||_, Bool·beq, cond, true≢false, false≢true}
 use native.Mathlib.Omega.{arith}
-use native.Mathlib.Nat.{mul-assoc, mul-comm, mul-right-comm, mul-one, one-mul, mul-pos, add-mul, mul-le-mul-right, mul-lt-mul-of-pos-right, le-of-mul-le-mul-right, le-div-iff-mul-le, div-lt-iff-lt-mul, mul-div-cancel, mul-mod-left, eq-of-mul-eq-mul-right, div-add-mod', lt-of-lt-of-le, le-trans, lt-of-not-le, not-le-of-lt, lt-of-le-of-lt, le-of-eq, le-antisymm, mul-sub, lt-irrefl, add-sub-cancel, zero-mul, mod-one, eq-or-lt-of-le}
+use native.Mathlib.Nat.{mul-assoc, mul-comm, mul-right-comm, mul-one, one-mul, mul-pos, add-mul, mul-le-mul-right, mul-lt-mul-of-pos-right, le-of-mul-le-mul-right}
+use native.Mathlib.Nat.{le-div-iff-mul-le, div-lt-iff-lt-mul, mul-div-cancel, mul-mod-left, eq-of-mul-eq-mul-right, div-add-mod', lt-of-lt-of-le, le-trans, lt-of-not-le}
+use native.Mathlib.Nat.{not-le-of-lt, lt-of-le-of-lt, le-of-eq, le-antisymm, mul-sub, lt-irrefl, add-sub-cancel, zero-mul, mod-one, eq-or-lt-of-le}
 use borrow.Author.Tests.{le-ltb, lt-ltb, ltb-false, ltb-true, leb-true, leb-false, le-leb, lt-leb, eq-eqb, ne-eqb}
 use lib.Dec.{T, leb, ltb, eqb, ltb→lt, lt→ltb, eqb→eq, lit<, lit≤}
 use lib.Pow.{pow-add, pow-pos, pow-mono, shl-lt}
@@ -28,7 +30,8 @@ module _ (l p N D : ℕ) (D⁺ : 0 < D) (least : 2 ^ p * D ≤ N) (most : N < 2 
   digits : size (N * 2 ^ l / D) ≡ suc p + l
   digits =
       let above : N * 2 ^ l / D < 2 ^ (suc p + l) =
-      div-lt-iff-lt-mul D⁺ .1 (subst (λ (k : ℕ). N * 2 ^ l < k) (mul-right-comm (2 ^ suc p) D (2 ^ l) ∙ ap (λ (k : ℕ). k * D) (sym (pow-add 2 (suc p) l))) (mul-lt-mul-of-pos-right most (pow-pos l))) in
+      div-lt-iff-lt-mul D⁺ .1 (subst (λ (k : ℕ). N * 2 ^ l < k) (mul-right-comm (2 ^ suc p) D (2 ^ l) ∙ ap (λ (k : ℕ). k * D) (sym (pow-add 2 (suc p) l)))
+      (mul-lt-mul-of-pos-right most (pow-pos l))) in
       let under : 2 ^ (p + l) ≤ N * 2 ^ l / D =
       le-div-iff-mul-le D⁺ .1 (subst (λ (k : ℕ). k ≤ N * 2 ^ l) (mul-right-comm (2 ^ p) D (2 ^ l) ∙ ap (λ (k : ℕ). k * D) (sym (pow-add 2 p l))) (mul-le-mul-right (2 ^ l) least)) in
       let most-digits = size-le (N * 2 ^ l / D) (suc p + l) above in

@@ -70,7 +70,8 @@ ranks x y z p q r =
     let b = m + n + o in
     let u : HasValue x (sign x) m d = value-scale x (sign x) (num x) (den x) (den y * den z) (own-value x p) in
     let v : HasValue y (sign y) n d = subst (λ (k : ℕ). HasValue y (sign y) n k) (mul-left-comm (den y) (den x) (den z)) (value-scale y (sign y) (num y) (den y) (den x * den z) (own-value y q)) in
-    let w : HasValue z (sign z) o d = subst (λ (k : ℕ). HasValue z (sign z) o k) (mul-comm (den z) (den x * den y) ∙ mul-assoc (den x) (den y) (den z)) (value-scale z (sign z) (num z) (den z) (den x * den y) (own-value z r)) in
+    let w : HasValue z (sign z) o d = subst (λ (k : ℕ). HasValue z (sign z) o k) (mul-comm (den z) (den x * den y) ∙ mul-assoc (den x) (den y) (den z))
+    (value-scale z (sign z) (num z) (den z) (den x * den y) (own-value z r)) in
     (_, _, _, alike d b x y _ _ m n D u v (omega arith) (omega arith), alike d b y z _ _ n o D v w (omega arith) (omega arith), alike d b x z _ _ m o D u w (omega arith) (omega arith))
 
 -- two finite numbers lie to one another as two natural numbers do

@@ -1,7 +1,8 @@
 -- Values: two numbers that fit a format and have one value are the same, a fraction that is a fitting number's value rounds to that number,
 -- and each operation sees only the values of its operands. Assumes nothing.
 use Prim.Native.Nat.{ℕ, zero, suc, _+_, _-_, _*_, _/_, _%_, _^_, _≤_, _<_}
-use native.Mathlib.Nat.{mul-comm, mul-assoc, mul-right-comm, mul-one, mul-pos, mul-mul-mul-comm, add-mul, mul-sub, add-comm, zero-mul, zero-lt-suc, eq-of-mul-eq-mul-right, lt-of-mul-lt-mul-right, mul-lt-mul-of-pos-right, lt-of-not-le, not-le-of-lt, le-of-suc-le-suc}
+use native.Mathlib.Nat.{mul-comm, mul-assoc, mul-right-comm, mul-one, mul-pos, mul-mul-mul-comm, add-mul, mul-sub, add-comm, zero-mul, zero-lt-suc, eq-of-mul-eq-mul-right}
+use native.Mathlib.Nat.{lt-of-mul-lt-mul-right, mul-lt-mul-of-pos-right, lt-of-not-le, not-le-of-lt, le-of-suc-le-suc}
 use native.Mathlib.Omega.{arith}
 use mathlib.Core.Path.{_≡_, refl, sym, ap, ap₂, _∙_}
 use mathlib.Core.Bool.{Bool, true, false, not, _&&_, _||_, cond, Bool·beq}

@@ -13,7 +13,8 @@ use Rattle.sums.specs.Tree.Sums.{Sum, entry}
 use Rattle.sums.specs.Tree.Map.{sum}
 use Rattle.sums.specs.Contract.Heads.{GoodHead}
 use Rattle.formats.specs.declared.record.Primitive.{Primitive}
-use Rattle.formats.specs.declared.record.Primitive.the-variants.{Identity, Pop, Dup, Flip, Neg, Not, Sqrt, Add, Sub, Mul, Div, Pow, Exp, Sin, Cos, Reciprocal, Complex, Max, SinH, CosH, Exp2, Exp10, Log, Ln, Log2, Log10, Over, Root, Unlisted}
+use Rattle.formats.specs.declared.record.Primitive.the-variants.{Identity, Pop, Dup, Flip, Neg, Not, Sqrt, Add, Sub, Mul, Div, Pow, Exp, Sin, Cos, Reciprocal, Complex, Max, SinH}
+use Rattle.formats.specs.declared.record.Primitive.the-variants.{CosH, Exp2, Exp10, Log, Ln, Log2, Log10, Over, Root, Unlisted}
 use Rattle.formats.proofs.record.Primitive.{the-type}
 use Rattle.primitives.specs.Forms.{ofOne, ofTwo}
 

@@ -92,7 +92,8 @@ fn add_times_i(
 ) -> Formed
     requires { ⌜ Source (lent kinds insides numbers) i n w × Source (lent kinds insides numbers) j m w × Room (lent kinds insides numbers) (w + (sumEntries + sumEntries)) ⌝ }
     ensures { λ r. ⌜ Kept (entering kinds insides numbers) (leaving kinds insides numbers) w (w + (sumEntries + sumEntries)) ⌝ }
-    ensures { λ r. ⌜ OfTwo (entering kinds insides numbers) i (i + n) j (j + m) sumLevels (λ b a. Agrees r (leaving kinds insides numbers) w (andThenSum (product a (constant imaginary)) (addSums b))) ⌝ }
+    ensures { λ r. ⌜ OfTwo (entering kinds insides numbers) i (i + n) j (j + m) sumLevels (λ b a. Agrees r (leaving kinds insides numbers) w
+        (andThenSum (product a (constant imaginary)) (addSums b))) ⌝ }
 {
     let x = Entry {
         kind: sums::tree::X,

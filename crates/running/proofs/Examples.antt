@@ -70,7 +70,12 @@ cases =
     record { list = end; x = number 1 1; gives = Value (number 1 1) 0 1 }
     ∷ record { list = listed (does prim.Dup ∷ does prim.Mul ∷ []); x = number 1 1; gives = Value (number 1 2) 2 2 }
     ∷ record { list = listed (does prim.Dup ∷ does prim.Mul ∷ push three-bits ∷ does prim.Mul ∷ []); x = number 1 1; gives = Value (number 3 2) 4 2 }
-    ∷ record { list = over modi.On 4 (listed (push 0 ∷ does prim.Mul ∷ push one-bits ∷ does prim.Add ∷ [])) (listed (does prim.Dup ∷ does prim.Mul ∷ push three-bits ∷ does prim.Mul ∷ does prim.Add ∷ [])); x = number 1 1; gives = Value (number 13 0) 11 3 }
+    ∷ record {
+      list = over modi.On 4 (listed (push 0 ∷ does prim.Mul ∷ push one-bits ∷ does prim.Add ∷ []))
+          (listed (does prim.Dup ∷ does prim.Mul ∷ push three-bits ∷ does prim.Mul ∷ does prim.Add ∷ []));
+      x = number 1 1;
+      gives = Value (number 13 0) 11 3;
+    }
     ∷ record { list = over modi.Dip 0 end end; x = number 1 1; gives = Refused NotSupported 0 }
     ∷ record { list = rec (plain kind.Modifier (modifierNo modi.On) 0 0) end end; x = number 1 1; gives = Refused InterpreterBug 0 }
     ∷ record { list = listed (push three-bits ∷ does prim.Pow ∷ []); x = number 1 1; gives = Value (number 1 3) 2 2 }

@@ -19,7 +19,8 @@ use Rattle.stack.specs.Steps.{constantOf}
 -- a constant
 pub constant-good : (re im : ℕ) {r : Sum} → constantOf re im ≡ sum r → GoodSum r
 constant-good re im h =
-    good-alone (x-head (size none) zero64 (complex.complex (ofBits binary64 re) (ofBits binary64 im)) (ofBits-fits binary64 0) (record { re = ofBits-fits binary64 re; im = ofBits-fits binary64 im })) none-good h
+    good-alone (x-head (size none) zero64 (complex.complex (ofBits binary64 re) (ofBits binary64 im)) (ofBits-fits binary64 0)
+    (record { re = ofBits-fits binary64 re; im = ofBits-fits binary64 im })) none-good h
 
 -- no number is formed of bits that are of none
 pub not-finite : (re im : ℕ) {x y : Bool} → x ≡ finite (ofBits binary64 re) → y ≡ finite (ofBits binary64 im) → x && y ≡ false → constantOf re im ≡ refused NotFinite

@@ -77,7 +77,8 @@ pub fn push_cells(
     used: usize,
 ) -> Stepped
     requires { ⌜ (1 ≤ n) × (n ≤ sumEntries) × (i + n ≤ used) × ((h : ℕ) × Prepared (arena kinds insides numbers sizes) v used h) ⌝ }
-    ensures { λ r. ⌜ OfOne (entering kinds insides numbers) i (i + n) sumLevels (λ s. (at h : ℕ) → Acts (arenaIn kinds insides numbers sizes) (arenaOut kinds insides numbers sizes) v used h at r (push at (places - v) (sum s))) ⌝ }
+    ensures { λ r. ⌜ OfOne (entering kinds insides numbers) i (i + n) sumLevels (λ s. (at h : ℕ) → Acts (arenaIn kinds insides numbers sizes) (arenaOut kinds insides numbers sizes) v
+        used h at r (push at (places - v) (sum s))) ⌝ }
 {
     if v - used < n {
         return Stepped::Stopped(Refusal::NoRoom, false);
@@ -98,7 +99,8 @@ pub fn push_formed(
     handled: usize,
 ) -> Stepped
     requires { ⌜ Filled f × Prepared (arena kinds insides numbers sizes) v used handled ⌝ }
-    ensures { λ r. ⌜ ((o : Outcome) (at : ℕ) → Agrees f (entering kinds insides numbers) 0 o → Acts (arenaIn kinds insides numbers sizes) (arenaOut kinds insides numbers sizes) v used handled at r (push at (places - v) o)) ⌝ }
+    ensures { λ r. ⌜ ((o : Outcome) (at : ℕ) → Agrees f (entering kinds insides numbers) 0 o → Acts (arenaIn kinds insides numbers sizes) (arenaOut kinds insides numbers sizes) v used
+        handled at r (push at (places - v) o)) ⌝ }
 {
     match f {
         Formed::Done(n) => push_cells(kinds, insides, numbers, sizes, 0, n, v, used),

@@ -24,13 +24,22 @@ as-number : (t : Bool) → boolByte t ≡ cond t 1 0
 as-number true = refl
 as-number false = refl
 
-pub told-count : (e : Entry) {l out out′ : List ℕ} (a : Answer) {n : Numbers} → n ≡ answerNumbers a → Promised e l out out′ (ofAnswer a) → Told e withCount l out out′ (n .number) (n .place ∷ n .count ∷ [])
+pub told-count : (e : Entry) {l out out′ : List ℕ} (a : Answer) {n : Numbers} → n ≡ answerNumbers a → Promised e l out out′ (ofAnswer a)
+    → Told e withCount l out out′ (n .number) (n .place ∷ n .count ∷ [])
 told-count e a i p = record { reply = ofAnswer a; promised = p; returned = ap (λ z. z .number) i; told = ap (λ z. z .place ∷ z .count ∷ []) i }
 
-pub told-flag : (e : Entry) {l out out′ : List ℕ} (a : ReadAnswer) {n : Numbers} → n ≡ readNumbers a → Promised e l out out′ (ofRead a) → Told e withFlag l out out′ (n .number) (n .place ∷ n .count ∷ boolByte (n .flag) ∷ [])
-told-flag e a {n} i p = record { reply = ofRead a; promised = p; returned = ap (λ z. z .number) i; told = ap (λ z. n .place ∷ n .count ∷ z ∷ []) (as-number (n .flag)) ∙ ap (λ z. z .place ∷ z .count ∷ cond (z .flag) 1 0 ∷ []) i }
+pub told-flag : (e : Entry) {l out out′ : List ℕ} (a : ReadAnswer) {n : Numbers} → n ≡ readNumbers a → Promised e l out out′ (ofRead a)
+    → Told e withFlag l out out′ (n .number) (n .place ∷ n .count ∷ boolByte (n .flag) ∷ [])
+told-flag e a {n} i p = record {
+  reply = ofRead a;
+  promised = p;
+  returned = ap (λ z. z .number) i;
+  told = ap (λ z. n .place ∷ n .count ∷ z ∷ []) (as-number (n .flag)) ∙ ap
+      (λ z. z .place ∷ z .count ∷ cond (z .flag) 1 0 ∷ []) i;
+}
 
-pub told-run : {x : Float} {l : List ℕ} {n : RunNumbers} (a : RunAnswer) → Promised (entry.run x) l [] [] (ofRun a) → n ≡ numbersOf a → Ran x l (n .number) (n .value) (n .place ∷ n .steps ∷ n .peak ∷ [])
+pub told-run : {x : Float} {l : List ℕ} {n : RunNumbers} (a : RunAnswer) → Promised (entry.run x) l [] [] (ofRun a) → n ≡ numbersOf a
+    → Ran x l (n .number) (n .value) (n .place ∷ n .steps ∷ n .peak ∷ [])
 told-run a p i = record { reply = ofRun a; promised = p; returned = ap (λ z. z .number) i; valued = ap (λ z. z .value) i; told = ap (λ z. z .place ∷ z .steps ∷ z .peak ∷ []) i }
 
 pub told-cost : {l : List ℕ} {n : CostNumbers} (a : CostAnswer) → Promised entry.cost l [] [] (ofCost a) → n ≡ costNumbers a → Told entry.cost withCost l [] [] (n .number) (n .place ∷ n .steps ∷ [])

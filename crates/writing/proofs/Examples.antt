@@ -38,7 +38,8 @@ pub forms :
     × (toNodes false (x-to two64 (complex.real three64) none) ≡ wrote (rec (does prim.Dup) end (rec (does prim.Mul) end (two (push three64) (does prim.Mul)))))
     × (toNodes true (x-to half64 (complex.real three64) none) ≡ wrote (rec (does prim.Sqrt) end (two (pushPair (complex.real three64)) (does prim.Mul))))
     × (toNodes false (of kinds.Div x complex.one none) ≡ wrote (two (does prim.Identity) (does prim.Reciprocal)))
-    × (toNodes false (of kinds.Div x (complex.real three64) none) ≡ wrote (rec (does prim.Identity) end (rec (push one64) end (rec (does prim.Flip) end (rec (does prim.Div) end (two (push three64) (does prim.Mul)))))))
+    × (toNodes false (of kinds.Div x (complex.real three64) none) ≡ wrote
+    (rec (does prim.Identity) end (rec (push one64) end (rec (does prim.Flip) end (rec (does prim.Div) end (two (push three64) (does prim.Mul)))))))
 unfolding write form append eq lt ofBits belowEpsilon
 forms = (refl, refl, refl, refl, refl, refl, refl)
 

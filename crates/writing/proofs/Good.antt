@@ -23,7 +23,8 @@ use Rattle.formats.specs.Tree.{Nodes, end, rec, encode}
 use Rattle.formats.specs.Rules.{verdict}
 use Rattle.writing.specs.Draft.Writing.{push, does, append, one, two, Written, wrote, refused, andThen, number, numberRecord, canWrite, ifCan}
 use Rattle.writing.proofs.draft.Fine.{Fine, fine-more, fine-end, fine-one, fine-append, fine-two, fine-say, fine-wrapped, fine-good, plain-does, plain-push, plain-number}
-use Rattle.writing.specs.ToNodes.{Form, constant, root, bare, square, power, form, isBare, isConstant, isEmpty, primitiveFor, functionOf, before, writePower, writeTerm, timesCoef, plus, close, turn, write, toNodes}
+use Rattle.writing.specs.ToNodes.{Form, constant, root, bare, square, power, form, isBare, isConstant, isEmpty, primitiveFor, functionOf, before, writePower, writeTerm}
+use Rattle.writing.specs.ToNodes.{timesCoef, plus, close, turn, write, toNodes}
 
 -- ---- what is written is written in parts
 
@@ -62,7 +63,8 @@ module _ (h : ℕ) (low : 1 ≤ h) where
     power-fine bare flag n ns ms f e = subst (Fine (n + 4) h) (wrote-is e) (fine-more (n + 4) h f (omega arith) (omega arith))
     power-fine square flag n ns ms f e =
         subst (Fine (n + 4) h) (wrote-is e)
-        (fine-more (n + 4) h (fine-append ns (two (does prim.Dup) (does prim.Mul)) f (fine-two h (does prim.Dup) (does prim.Mul) low (plain-does prim.Dup) (plain-does prim.Mul))) (omega arith) (omega arith))
+        (fine-more (n + 4) h (fine-append ns (two (does prim.Dup) (does prim.Mul)) f (fine-two h (does prim.Dup) (does prim.Mul) low (plain-does prim.Dup) (plain-does prim.Mul)))
+        (omega arith) (omega arith))
     power-fine power flag n ns ms f e =
         subst (Fine (n + 4) h) (wrote-is e)
         (fine-more (n + 4) h (fine-append ns (two (push p) (does prim.Pow)) f (fine-two h (push p) (does prim.Pow) low (plain-push p fp) (plain-does prim.Pow))) (omega arith) (omega arith))
@@ -112,7 +114,8 @@ module _ (h : ℕ) (low : 1 ≤ h) where
 abbrev Keeps : Bool → Sum → Type 0
 Keeps flag s = (id : Bool) (n h : ℕ) (ns ms : Nodes) → 1 ≤ h → n + 10 * size s < 4294967295 → Fine n h ns → write flag s id ns ≡ wrote ms → Fine (n + 10 * size s + 2) (h + 2 * size s) ms
 
-module _ (flag : Bool) (k : ℕ) (p : Float) (i : Sum) (c : Complex) (r : Sum) (fp : T (fits binary64 p)) (fr : T (fits binary64 (c .re))) (fi : T (fits binary64 (c .im))) (inside : Keeps flag i) (rest : Keeps flag r) where
+module _ (flag : Bool) (k : ℕ) (p : Float) (i : Sum) (c : Complex) (r : Sum) (fp : T (fits binary64 p)) (fr : T (fits binary64 (c .re))) (fi : T (fits binary64 (c .im)))
+    (inside : Keeps flag i) (rest : Keeps flag r) where
   term-fine : (isX : Bool) (n h : ℕ) (ns ms : Nodes) → 1 ≤ h → n + 10 * size i < 4294967295 → Fine n h ns
       → writeTerm isX (form p) k p c flag (λ ls. write flag i false ls) ns ≡ wrote ms → Fine (n + 10 * size i + 5) (h + 2 * size i) ms
   term-fine true n h ns ms l a f e = fine-more (n + 10 * size i + 5) (h + 2 * size i) (power-fine h l p c fp fr fi (form p) flag n ns ms f e) (omega arith) (omega arith)

@@ -61,7 +61,8 @@ module _ {b b′ : List ℕ} {d : Draft} {f r : ℕ} where
 
 -- ---- two records
 
-pub both-drawn : {b b′ b″ : List ℕ} {d e q : Draft} (x y : Record) → Drawn b b′ d e 0 1 (λ ns. append ns (one x)) → Drawn b′ b″ e q 0 1 (λ ns. append ns (one y)) → Drawn b b″ d q 0 2 (λ ns. append ns (two x y))
+pub both-drawn : {b b′ b″ : List ℕ} {d e q : Draft} (x y : Record) → Drawn b b′ d e 0 1 (λ ns. append ns (one x)) → Drawn b′ b″ e q 0 1 (λ ns. append ns (one y))
+    → Drawn b b″ d q 0 2 (λ ns. append ns (two x y))
 both-drawn x y s t = drawn-as (drawn-drawn s t) (λ ns. append ns (two x y)) (λ ns. sym (append-two ns x y))
 
 -- ---- powers
@@ -134,11 +135,13 @@ module _ {b b′ : List ℕ} {d q : Draft} where
   pub over-unit : {u : Bool} → u ≡ true → Drawn b b′ d q 0 1 (λ ns. append ns (one (does prim.Reciprocal))) → Drawn b b′ d q 0 3 (λ ns. append ns (over u))
   over-unit {u} e s = drawn-as (drawn-more s 0 3 (omega arith) (omega arith)) (λ ns. append ns (over u)) (λ ns. ap (λ (v : Bool). append ns (over v)) (sym e))
 
-  pub over-long : {b″ : List ℕ} {r : Draft} {u : Bool} → u ≡ false → Drawn b b′ d q 0 1 (λ ns. append ns (one (push one64))) → Drawn b′ b″ q r 0 2 (λ ns. append ns (two (does prim.Flip) (does prim.Div)))
+  pub over-long : {b″ : List ℕ} {r : Draft} {u : Bool} → u ≡ false → Drawn b b′ d q 0 1 (λ ns. append ns (one (push one64)))
+      → Drawn b′ b″ q r 0 2 (λ ns. append ns (two (does prim.Flip) (does prim.Div)))
       → Drawn b b″ d r 0 3 (λ ns. append ns (over u))
   over-long {u = u} e s t =
       drawn-as (drawn-drawn s t) (λ ns. append ns (over u))
-      (λ ns. append-two (append ns (one (push one64))) (does prim.Flip) (does prim.Div) ∙ sym (append-three ns (push one64) (does prim.Flip) (does prim.Div)) ∙ ap (λ (v : Bool). append ns (over v)) (sym e))
+      (λ ns. append-two (append ns (one (push one64))) (does prim.Flip) (does prim.Div) ∙ sym (append-three ns (push one64) (does prim.Flip) (does prim.Div)) ∙ ap
+      (λ (v : Bool). append ns (over v)) (sym e))
 
   module _ (k : ℕ) (x : Float) (u : Bool) where
     pub function-div : k ≡ kinds.Div → Drawn b b′ d q 0 3 (λ ns. append ns (over u)) → Drawn b b′ d q 0 3 (λ ns. append ns (functionOf k x u))
@@ -147,9 +150,11 @@ module _ {b b′ : List ℕ} {d q : Draft} where
     pub function-log : (k ≡ kinds.Div → ⊥) → k ≡ kinds.Log → Drawn b b′ d q 0 2 (λ ns. append ns (two (push x) (does prim.Log))) → Drawn b b′ d q 0 3 (λ ns. append ns (functionOf k x u))
     function-log n e s = drawn-as (drawn-more s 0 3 (omega arith) (omega arith)) (λ ns. append ns (functionOf k x u)) (λ ns. rw (ne-eqb k kinds.Div n, eq-eqb k kinds.Log e))
 
-    pub function-other : {o : Primitive} → (k ≡ kinds.Div → ⊥) → (k ≡ kinds.Log → ⊥) → o ≡ primitiveFor k → Drawn b b′ d q 0 1 (λ ns. append ns (one (does o))) → Drawn b b′ d q 0 3 (λ ns. append ns (functionOf k x u))
+    pub function-other : {o : Primitive} → (k ≡ kinds.Div → ⊥) → (k ≡ kinds.Log → ⊥) → o ≡ primitiveFor k → Drawn b b′ d q 0 1 (λ ns. append ns (one (does o)))
+        → Drawn b b′ d q 0 3 (λ ns. append ns (functionOf k x u))
     function-other {o} n m e s =
-        drawn-as (drawn-more s 0 3 (omega arith) (omega arith)) (λ ns. append ns (functionOf k x u)) (λ ns. rw (ne-eqb k kinds.Div n, ne-eqb k kinds.Log m) (ap (λ (z : Primitive). append ns (one (does z))) e))
+        drawn-as (drawn-more s 0 3 (omega arith) (omega arith)) (λ ns. append ns (functionOf k x u))
+        (λ ns. rw (ne-eqb k kinds.Div n, ne-eqb k kinds.Log m) (ap (λ (z : Primitive). append ns (one (does z))) e))
 
 -- ---- around a term
 
@@ -164,7 +169,8 @@ module _ {b : List ℕ} {d : Draft} {w : Bool} where
 
   pub before-more : {b′ : List ℕ} {q : Draft} → w ≡ false → (d .from ≡ d .end → ⊥) → Drawn b b′ d q 2 0 (λ ns. wrapped ns) → Drawn b b′ d q 2 1 (λ ns. before w ns)
   before-more e o s =
-      drawn-where (drawn-more s 2 1 (omega arith) (omega arith)) (λ ns. before w ns) (some-list (λ ns. wrapped ns) (λ ns. before w ns) d (λ r xs ys. ap (λ (v : Bool). before v (rec r xs ys)) (sym e)) o)
+      drawn-where (drawn-more s 2 1 (omega arith) (omega arith)) (λ ns. before w ns)
+      (some-list (λ ns. wrapped ns) (λ ns. before w ns) d (λ r xs ys. ap (λ (v : Bool). before v (rec r xs ys)) (sym e)) o)
 
   pub plus-first : w ≡ true → Drawn b b d d 0 1 (λ ns. plus w ns)
   plus-first e = drawn-as (drawn-more drawn-none 0 1 (omega arith) (omega arith)) (λ ns. plus w ns) (λ ns. ap (λ (v : Bool). plus v ns) (sym e))
@@ -185,7 +191,8 @@ module _ {b : List ℕ} {d : Draft} {w : Bool} where
   pub close-x : {b′ : List ℕ} {q : Draft} → d .from ≡ d .end → w ≡ true → Drawn b b′ d q 0 1 (λ ns. append ns (one (does prim.Identity))) → Drawn b b′ d q 0 2 (λ ns. close w ns)
   unfolding append
   close-x o e s =
-      drawn-where (drawn-more s 0 2 (omega arith) (omega arith)) (λ ns. close w ns) (no-list (λ ns. append ns (one (does prim.Identity))) (λ ns. close w ns) d (ap (λ (v : Bool). close v end) (sym e)) o)
+      drawn-where (drawn-more s 0 2 (omega arith) (omega arith)) (λ ns. close w ns)
+      (no-list (λ ns. append ns (one (does prim.Identity))) (λ ns. close w ns) d (ap (λ (v : Bool). close v end) (sym e)) o)
 
   pub close-zero : {b′ : List ℕ} {q : Draft} → d .from ≡ d .end → w ≡ false → Drawn b b′ d q 0 2 (λ ns. append ns (two (push zero64) (does prim.Mul))) → Drawn b b′ d q 0 2 (λ ns. close w ns)
   unfolding append

@@ -99,7 +99,8 @@ then-join (wrote ms) f g = refl
 then-join (refused q) f g = refl
 
 module _ (isx : Bool) (m : Form) (k : ℕ) (p : Float) (c : Complex) (flag : Bool) (inside : Nodes → Written) (rest : Bool → Nodes → Written) where
-  turn-then : (z id : Bool) (ns : Nodes) → turn z isx m k p c flag inside rest id ns ≡ andThen (turn z isx m k p c flag inside (λ i ms. wrote ms) id ns) (λ ms. rest (id || (not z && (isx && isBare m))) ms)
+  turn-then : (z id : Bool) (ns : Nodes) → turn z isx m k p c flag inside rest id ns ≡ andThen (turn z isx m k p c flag inside (λ i ms. wrote ms) id ns)
+      (λ ms. rest (id || (not z && (isx && isBare m))) ms)
   turn-then true id ns = ap (λ (i : Bool). rest i ns) (sym (or-false id))
   turn-then false id ns =
       let first = not id && isEmpty ns in
@@ -174,7 +175,8 @@ module _ {b₀ b : List ℕ} {d₀ d : Draft} {a : Book} {j q left : ℕ} {flag 
             passed = w .passed + 1 + x .inside;
             here = omega (arith, w .here);
             so-far = now-written;
-            spoken = spoken-more (subst (λ (z : Said). Spoken b₀ b′ d₀ z (2 * w .passed + (2 * x .inside + 2)) (9 * w .passed + (9 * x .inside + 9)) now-written) e now-spoken) (2 * (w .passed + 1 + x .inside)) (9 * (w .passed + 1 + x .inside)) (omega arith) (omega arith);
+            spoken = spoken-more (subst (λ (z : Said). Spoken b₀ b′ d₀ z (2 * w .passed + (2 * x .inside + 2)) (9 * w .passed + (9 * x .inside + 9)) now-written) e now-spoken)
+                (2 * (w .passed + 1 + x .inside)) (9 * (w .passed + 1 + x .inside)) (omega arith) (omega arith);
             same = λ ns. now-same ns ∙ ap (λ (z : Bool). andThen (now-written ns) (λ ms. write flag (first .rest) (id || z) ms)) (sym k);
           }
 
@@ -190,4 +192,5 @@ module _ {b₀ b : List ℕ} {d₀ d : Draft} {a : Book} {j q left : ℕ} {flag 
     left-end k =
         let p = all-passed in
         spoken-as (spoken-more (spoken-then (w .spoken) refl (drawn-done k)) (2 * m) (9 * m + 2) (omega arith) (omega arith)) (λ ns. write flag s false ns)
-        (λ ns. sym (w .same ns ∙ ap (λ (u : Sum). andThen (w .so-far ns) (λ ms. write flag u id ms)) (lies-none a q (j + m) left (w .rest) (w .lies) g) ∙ ap (λ (u : Nodes → Written). andThen (w .so-far ns) u) (λ i ms. no-turn flag id ms i)))
+        (λ ns. sym (w .same ns ∙ ap (λ (u : Sum). andThen (w .so-far ns) (λ ms. write flag u id ms)) (lies-none a q (j + m) left (w .rest) (w .lies) g) ∙ ap
+        (λ (u : Nodes → Written). andThen (w .so-far ns) u) (λ i ms. no-turn flag id ms i)))

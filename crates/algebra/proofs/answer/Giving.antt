@@ -48,10 +48,12 @@ module _ (room : List ℕ → ℕ) where
 
   -- ---- after a sum was formed, or refused
 
-  pub then-refused : {q : Refusal} {r : Formed} (b : Book) (p : ℕ) (o : Outcome) (f : Sum → Made) (out : List ℕ) → r ≡ formed.Refused q → Agrees r b p o → Gives room (ofOutcome o f) out out (answer.Refused q 0)
+  pub then-refused : {q : Refusal} {r : Formed} (b : Book) (p : ℕ) (o : Outcome) (f : Sum → Made) (out : List ℕ) → r ≡ formed.Refused q → Agrees r b p o
+      → Gives room (ofOutcome o f) out out (answer.Refused q 0)
   then-refused {q} {r} b p o f out e a = rw (agreed-refused b p q r o a e) (gives-refusal q 0 out)
 
-  pub then-made : {m : ℕ} {r : Formed} (b : Book) (p : ℕ) (o : Outcome) {out out′ : List ℕ} {a : Answer} (f : Sum → Made) → r ≡ formed.Done m → Agrees r b p o → ((s : Sum) → Lies b p (p + m) 4 s → Gives room (f s) out out′ a) → Gives room (ofOutcome o f) out out′ a
+  pub then-made : {m : ℕ} {r : Formed} (b : Book) (p : ℕ) (o : Outcome) {out out′ : List ℕ} {a : Answer} (f : Sum → Made) → r ≡ formed.Done m → Agrees r b p o
+      → ((s : Sum) → Lies b p (p + m) 4 s → Gives room (f s) out out′ a) → Gives room (ofOutcome o f) out out′ a
   then-made {m} {r} b p o f e g h = let d = agreed-done b p m r o g e in rw (d .is) (h (d .s) (d .lies))
 
 -- what was formed lies there

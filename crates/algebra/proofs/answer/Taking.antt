@@ -57,7 +57,8 @@ bytes-source d = record { few = d .few; held = bytes-held d .1; apart = under (l
 -- ---- what a promise over a sum's bytes tells
 
 -- of the bytes of a good sum, it is what is made of the sum
-pub of-good : {room : List ℕ → ℕ} {f : Sum → Made} {out out′ : List ℕ} {r : Answer} (s : Sum) → Good 4 s → 1 ≤ size s → size s ≤ 64 → OfBytes room f (encodeSum s) out out′ r → Gives room (f s) out out′ r
+pub of-good : {room : List ℕ → ℕ} {f : Sum → Made} {out out′ : List ℕ} {r : Answer} (s : Sum) → Good 4 s → 1 ≤ size s → size s ≤ 64 → OfBytes room f (encodeSum s) out out′ r
+    → Gives room (f s) out out′ r
 of-good s g some few p = p .takes (size s) (good-taken s (p .weight) g some few (p .weighed)) s refl g
 
 -- any two answers that it allows are the same, and so is every byte of the output

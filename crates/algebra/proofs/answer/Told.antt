@@ -90,7 +90,8 @@ list-made (writing.wrote ns) e = let z = made-same e in record { ns = ns; is = r
 list-made (writing.refused q) e = absurd (not-made e)
 
 -- a refusal of what was formed
-pub refused-outcome : (o : Outcome) {f : Sum → Made} {q : Refusal} {at : ℕ} → (g : Sum → Made) → ((s : Sum) → o ≡ sum s → f s ≡ refusedAt q at → g s ≡ refusedAt q at) → ofOutcome o f ≡ refusedAt q at → ofOutcome o g ≡ refusedAt q at
+pub refused-outcome : (o : Outcome) {f : Sum → Made} {q : Refusal} {at : ℕ} → (g : Sum → Made) → ((s : Sum) → o ≡ sum s → f s ≡ refusedAt q at → g s ≡ refusedAt q at)
+    → ofOutcome o f ≡ refusedAt q at → ofOutcome o g ≡ refusedAt q at
 refused-outcome (sum s) g h e = h s refl e
 refused-outcome (refused p) g h e = e
 

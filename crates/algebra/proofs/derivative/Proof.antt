@@ -11,18 +11,33 @@ use Rattle.algebra.proofs.derivative.Statement.{statement}
 use Rattle.algebra.proofs.derivative.Tie as tie
 
 derive-and-write-requires : tie.Need-derive-and-write-requires
-derive-and-write-requires c κs = gave-source (readList (c .before .before .before .before .before .before .before .before .before .before .before .before .before .before .before .before .before .before .args .list .now)) _ _ (c .before .before .before .before .before .data2 .given .1) (c .before .before .before .before .before .before .before .before .before .before .before .read-sum .ensures)
+derive-and-write-requires c κs =
+    let after-data2 = c .before .before .before .before .before in
+    let after-read-sum = after-data2 .before .before .before .before .before .before in
+    let start = after-read-sum .before .before .before .before .before .before .before in
+    gave-source (readList (start .args .list .now)) _ _ (after-data2 .data2 .given .1) (after-read-sum .read-sum .ensures)
 
 returns : tie.Need-returns
 unfolding derivative
 returns c =
-    let start = c .before .before .before .before .before .before .before .before .before .before .before .before .before .before in
-    (_, refl, after-refused recordsIn (readList (start .args .list .now)) deriveAndWrite _ _ (start .args .out .now) (c .before .«data» .given .1) (c .before .before .before .before .before .before .before .read-sum .ensures))
+    let after-read-sum = c .before .before .before .before .before .before .before in
+    let after-before = after-read-sum .before .before .before .before .before .before in
+    let place = after-before .before in
+    let start = place in
+    (_, refl, after-refused recordsIn (readList (start .args .list .now)) deriveAndWrite _ _ (start .args .out .now) (c .before .«data» .given .1) (after-read-sum .read-sum .ensures))
 
 returns-2 : tie.Need-returns-2
 unfolding derivative
 returns-2 c =
-    (_, refl, after-made recordsIn (readList (c .before .before .before .before .before .before .before .before .before .before .before .before .before .before .before .before .before .before .before .before .before .before .before .before .args .list .now)) deriveAndWrite _ _ (c .before .before .before .before .before .before .before .before .before .before .before .data2 .given .1) (c .before .before .before .before .before .before .before .before .before .before .before .before .before .before .before .before .before .read-sum .ensures) (c .before .before .before .before .before .derive-and-write .ensures))
+    let after-derive-and-write = c .before .before .before .before .before in
+    let after-data2 = after-derive-and-write .before .before .before .before .before .before in
+    let after-read-sum = after-data2 .before .before .before .before .before .before in
+    let start = after-read-sum .before .before .before .before .before .before .before in (
+      _,
+      refl,
+      after-made recordsIn (readList (start .args .list .now)) deriveAndWrite _ _ (after-data2 .data2 .given .1) (after-read-sum .read-sum .ensures)
+          (after-derive-and-write .derive-and-write .ensures),
+    )
 
 pub derivative-spec : {M : Type 1} → statement M
 derivative-spec =

@@ -6,10 +6,16 @@ use Rattle.algebra.proofs.integrate.Statement.{statement}
 use Rattle.algebra.proofs.integrate.Tie as tie
 
 integrate-requires : tie.Need-integrate-requires
-integrate-requires c κs = (bytes-source (c .before .before .before .before .before .before .before .before .before .before .take-in .ensures .1 _ (c .before .before .before .before .before .taken2 .given .1)), record { kinds = search needs; insides = search needs; numbers = search needs })
+integrate-requires c κs =
+    let after-taken2 = c .before .before .before .before .before in
+    let after-take-in = after-taken2 .before .before .before .before .before in
+    (bytes-source (after-take-in .take-in .ensures .1 _ (after-taken2 .taken2 .given .1)), record { kinds = search needs; insides = search needs; numbers = search needs })
 
 returns : tie.Need-returns
-returns c = (_, refl, bytes-refused (c .before .before .before .before .before .before .take-in .ensures .0) (c .before .before .before .before .before .before .before .before .before .before .before .before .args .out .now) (c .before .taken .given .1))
+returns c =
+    let after-take-in = c .before .before .before .before .before .before in
+    let start = after-take-in .before .before .before .before .before .before in
+    (_, refl, bytes-refused (after-take-in .take-in .ensures .0) (start .args .out .now) (c .before .taken .given .1))
 
 returns-2 : tie.Need-returns-2
 returns-2 c =

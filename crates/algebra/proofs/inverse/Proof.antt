@@ -9,17 +9,30 @@ use Rattle.algebra.proofs.inverse.Statement.{statement}
 use Rattle.algebra.proofs.inverse.Tie as tie
 
 invert-read-requires : tie.Need-invert-read-requires
-invert-read-requires c κs = gave-held (readList (c .before .before .before .before .before .before .before .before .before .before .before .before .before .before .before .before .before .before .args .list .now)) _ _ (c .before .before .before .before .before .data2 .given .1) (c .before .before .before .before .before .before .before .before .before .before .before .read-sum .ensures)
+invert-read-requires c κs =
+    let after-data2 = c .before .before .before .before .before in
+    let after-read-sum = after-data2 .before .before .before .before .before .before in
+    let start = after-read-sum .before .before .before .before .before .before .before in
+    gave-held (readList (start .args .list .now)) _ _ (after-data2 .data2 .given .1) (after-read-sum .read-sum .ensures)
 
 returns : tie.Need-returns
 unfolding inverse
 returns c =
-    let start = c .before .before .before .before .before .before .before .before .before .before .before .before .before .before .before in
-    (_, refl, inverse-refused (readList (start .args .list .now)) _ _ (start .args .out .now) (c .before .before .«data» .given .1) (c .before .before .before .before .before .before .before .before .read-sum .ensures) (c .refuse-inverse .ensures))
+    let place = c .before .before in
+    let after-read-sum = place .before .before .before .before .before .before in
+    let after-before = after-read-sum .before .before .before .before .before .before in
+    let place-2 = after-before .before in
+    let start = place-2 in
+    (_, refl, inverse-refused (readList (start .args .list .now)) _ _ (start .args .out .now) (place .«data» .given .1) (after-read-sum .read-sum .ensures) (c .refuse-inverse .ensures))
 
 returns-2 : tie.Need-returns-2
 unfolding inverse
-returns-2 c = (_, refl, inverse-made (readList (c .before .before .before .before .before .before .before .before .before .before .before .before .before .before .before .before .before .before .before .before .before .args .list .now)) _ _ (c .before .before .before .before .before .before .before .before .data2 .given .1) (c .before .before .before .before .before .before .before .before .before .before .before .before .before .before .read-sum .ensures) (c .before .before .invert-read .ensures))
+returns-2 c =
+    let after-invert-read = c .before .before in
+    let after-data2 = after-invert-read .before .before .before .before .before .before in
+    let after-read-sum = after-data2 .before .before .before .before .before .before in
+    let start = after-read-sum .before .before .before .before .before .before .before in
+    (_, refl, inverse-made (readList (start .args .list .now)) _ _ (after-data2 .data2 .given .1) (after-read-sum .read-sum .ensures) (after-invert-read .invert-read .ensures))
 
 pub inverse-spec : {M : Type 1} → statement M
 inverse-spec =

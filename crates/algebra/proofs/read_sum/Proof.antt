@@ -6,13 +6,22 @@ use Rattle.algebra.proofs.read_sum.Statement.{statement}
 use Rattle.algebra.proofs.read_sum.Tie as tie
 
 nodes-expr-requires : tie.Need-nodes-expr-requires
-nodes-expr-requires c κs = (sym (c .before .before .before .before .before .before .check .ensures .0) ∙ c .before .before .before .before .enum-told .given .1, c .before .before .before .before .before .before .before .before .before .before .before .pre)
+nodes-expr-requires c κs =
+    let after-enum-told = c .before .before .before .before in
+    let after-check = after-enum-told .before .before in
+    let start = after-check .before .before .before .before .before in
+    (sym (after-check .check .ensures .0) ∙ after-enum-told .enum-told .given .1, start .pre)
 
 returns : tie.Need-returns
 returns c = list-refused (c .before .before .before .before .before .before .before .before .args .list .now) _ (sym (c .before .before .before .check .ensures .0) ∙ c .before .q .given .1)
 
 returns-2 : tie.Need-returns-2
-returns-2 c = rw (list-good (c .before .before .before .before .before .before .before .before .before .before .before .before .before .before .before .before .before .before .before .args .list .now) (sym (c .before .before .before .before .before .before .before .before .before .before .before .before .before .before .check .ensures .0) ∙ c .before .before .before .before .before .before .before .before .before .before .before .before .enum-told .given .1)) (c .before .before .before .before .before .before .before .nodes-expr .ensures)
+returns-2 c =
+    let after-nodes-expr = c .before .before .before .before .before .before .before in
+    let after-enum-told = after-nodes-expr .before .before .before .before .before in
+    let after-check = after-enum-told .before .before in
+    let start = after-check .before .before .before .before .before in
+    rw (list-good (start .args .list .now) (sym (after-check .check .ensures .0) ∙ after-enum-told .enum-told .given .1)) (after-nodes-expr .nodes-expr .ensures)
 
 pub read-sum-spec : {M : Type 1} → statement M
 read-sum-spec =

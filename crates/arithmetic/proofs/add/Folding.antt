@@ -36,13 +36,15 @@ pub outset : (f : Entry → Sum → Sum → Outcome) (h : Sum → Bool) {b : Boo
 outset f h {s = s} {v = v} l k = record { s′ = s; v′ = v; lies-s = l; lies-v = k; same = refl; able = λ a. a }
 
 -- the entry at q is the next, x
-pub here : {f : Entry → Sum → Sum → Outcome} {h : Sum → Bool} {b : Book} {p n q e left : ℕ} {s v : Sum} (x : Entry) (w : Folding f h b p n q e left s v) → x ≡ at b q → q < e → Next b q e left (w .v′) x
+pub here : {f : Entry → Sum → Sum → Outcome} {h : Sum → Bool} {b : Book} {p n q e left : ℕ} {s v : Sum} (x : Entry) (w : Folding f h b p n q e left s v) → x ≡ at b q → q < e
+    → Next b q e left (w .v′) x
 here x w ex l = next _ _ _ _ (w .v′) x ex (w .lies-v) l
 
 module _ (f : Entry → Sum → Sum → Outcome) (h : Sum → Bool) (g : ℕ → Sum → Bool)
     (law : (k : ℕ) (p : Float) (i : Sum) (c : Complex) (u : Sum) → h (and k p i c u) ≡ g k i && h u) where
   -- the test of the entry and of the rest
-  pub tests : {b : Book} {p n q e left : ℕ} {s v : Sum} {x : Entry} (w : Folding f h b p n q e left s v) (k : Next b q e left (w .v′) x) → h v ≡ true → (g (x .kind) (k .inner) ≡ true) × (h (k .rest) ≡ true)
+  pub tests : {b : Book} {p n q e left : ℕ} {s v : Sum} {x : Entry} (w : Folding f h b p n q e left s v) (k : Next b q e left (w .v′) x) → h v ≡ true
+      → (g (x .kind) (k .inner) ≡ true) × (h (k .rest) ≡ true)
   tests {x = x} w k a = both _ _ (sym (law _ _ _ _ _) ∙ ap h (sym (k .is)) ∙ w .able a)
 
   -- a step answered r, and left the book b′

@@ -104,7 +104,8 @@ term-some : (x : Entry) (f : Sum → Outcome) (y : Entry) (v s s′ : Sum) → m
 term-some x f y v s s′ h = go (eqb (x .kind) X) (f v) h
   where
     go : (c : Bool) (o : Outcome)
-        → cond c (formed Add (entry X 0 (x .num ⊕ y .num) (complex.times (x .coef) (y .coef))) none s) (andThenSum o (λ w. formed Add (entry Div (size w) zero64 (complex.times (x .coef) (y .coef))) w s)) ≡ sum s′
+        → cond c (formed Add (entry X 0 (x .num ⊕ y .num) (complex.times (x .coef) (y .coef))) none s)
+        (andThenSum o (λ w. formed Add (entry Div (size w) zero64 (complex.times (x .coef) (y .coef))) w s)) ≡ sum s′
         → 0 < size s′
     go true o h = formed-some Add _ none s s′ h
     go false (sum w) h = formed-some Add _ w s s′ h

@@ -50,7 +50,16 @@ part ks ns k e left s l p =
       coef = l .f k .coef;
       is = o .is ∙ ap (λ (m : ℕ). and m (l .f k .num) (o .inner) (l .f k .coef) (o .rest)) kd;
       shape-inner = record { f = l .f; kinds = l .kinds; insides = l .insides; laid = o .laid-inner; good = h .inner; ends = omega arith; room-k = omega arith; room-n = omega arith };
-      shape-rest = record { f = l .f; kinds = l .kinds; insides = l .insides; laid = subst (λ (m : ℕ). At (l .f) (k + 1 + m) (o .rest)) n (o .laid-rest); good = h .rest; ends = omega arith; room-k = rk; room-n = rn };
+      shape-rest = record {
+        f = l .f;
+        kinds = l .kinds;
+        insides = l .insides;
+        laid = subst (λ (m : ℕ). At (l .f) (k + 1 + m) (o .rest)) n (o .laid-rest);
+        good = h .rest;
+        ends = omega arith;
+        room-k = rk;
+        room-n = rn;
+      };
       deep = h .deep;
       least = omega (arith, g .least);
       most = omega (arith, g .most);

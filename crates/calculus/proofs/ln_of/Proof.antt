@@ -13,5 +13,6 @@ ln-of-spec =
     (λ c κs. search needs)
     (λ c. ln-two (c .before .before .before .before .args .base) (c .before .before .before .e .ensures) (c .before .before .if1 .left) (c .ln-2 .ensures) (c .before .if2 .taken))
     (λ c κs. search needs)
-    (λ c. ln-ten (c .before .before .before .before .before .args .base) (c .before .before .before .before .e .ensures) (c .before .before .before .if1 .left) (c .ln-10 .ensures) (c .before .before .if2 .left) (c .before .if3 .taken))
+    (λ c. ln-ten (c .before .before .before .before .before .args .base) (c .before .before .before .before .e .ensures) (c .before .before .before .if1 .left) (c .ln-10 .ensures)
+    (c .before .before .if2 .left) (c .before .if3 .taken))
     (λ c. ln-other (c .before .before .before .before .args .base) (c .before .before .before .e .ensures) (c .before .before .if1 .left) (c .before .if2 .left) (c .if3 .left)))

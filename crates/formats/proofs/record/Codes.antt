@@ -100,7 +100,8 @@ stores-record s m r =
     sym
     (sets-then h (i ++ x ++ y) s m (m + 4) refl
     ∙ sets-then (i ++ x) y (sets s m h) (m + 4) (m + 16) (omega arith)
-    ∙ ap (λ (l : List ℕ). sets l (m + 16) y) (sets-then i x (sets s m h) (m + 4) (m + 8) (omega (arith, length-bytes 4 (r .inside))) ∙ ap (λ (l : List ℕ). sets (sets l (m + 4) i) (m + 8) x) (sets-four s m (r .kind) (r .code) (r .args) (r .blank))))
+    ∙ ap (λ (l : List ℕ). sets l (m + 16) y) (sets-then i x (sets s m h) (m + 4) (m + 8) (omega (arith, length-bytes 4 (r .inside))) ∙ ap (λ (l : List ℕ). sets (sets l (m + 4) i) (m + 8) x)
+    (sets-four s m (r .kind) (r .code) (r .args) (r .blank))))
 
 pub put-read : (s : List ℕ) (i : ℕ) (r : Record) → Fields r → 24 * i + 24 ≤ length s → recAt (sets s (24 * i) (encodeRec r)) i ≡ r
 put-read s i r f h = ap recOf (part-sets (encodeRec r) s (24 * i) (omega (arith, length-rec r))) ∙ rec-here r (drop (24 * i + length (encodeRec r)) s) f
@@ -159,9 +160,11 @@ forest-encode (rec r ns ms) a p q h f c =
     let e : ℕ = a + suc (size ns + size ms) in
     let r′ : recAt s a ≡ r = rec-read p r (encode ns ++ d) a h (f .0) in
     let z : nextAt s a e ≡ n = rw r′ (omega (arith, c .0)) in
-    let i : forest s (a + 1) n ≡ ns = rw (← append-assoc p (encodeRec r) (encode ns ++ d)) (forest-encode ns (a + 1) (p ++ encodeRec r) d (simp (length-append, length-rec) (omega arith)) (f .1) (c .1)) in
+    let i : forest s (a + 1) n ≡ ns = rw (← append-assoc p (encodeRec r) (encode ns ++ d))
+    (forest-encode ns (a + 1) (p ++ encodeRec r) d (simp (length-append, length-rec) (omega arith)) (f .1) (c .1)) in
     let v : e ≡ n + size ms = omega arith in
-    let j : forest s n e ≡ ms = rw (v, ← append-assoc (encodeRec r) (encode ns) d, ← append-assoc p (encodeRec r ++ encode ns) d) (forest-encode ms n (p ++ (encodeRec r ++ encode ns)) q (simp (length-append, length-rec, length-encode) (omega arith)) (f .2) (c .2)) in
+    let j : forest s n e ≡ ms = rw (v, ← append-assoc (encodeRec r) (encode ns) d, ← append-assoc p (encodeRec r ++ encode ns) d)
+    (forest-encode ms n (p ++ (encodeRec r ++ encode ns)) q (simp (length-append, length-rec, length-encode) (omega arith)) (f .2) (c .2)) in
     ap (λ (l : List ℕ). forest (p ++ l) a e) (ap (λ (l : List ℕ). l ++ q) (encode-node r ns ms) ∙ simp append-assoc)
     ∙ forest-more s a e (omega arith)
     ∙ rw (z, r′, i, j)
@@ -172,6 +175,11 @@ unfolding AllFields
 fields-forest s b zero a e h m = rw (forest-none s a e (omega arith)) tt
 fields-forest s b (suc k) a e h m =
     ⊎-elim
-    (λ (g : a < e). rw (forest-more s a e g) (fields-at s b a (omega arith), fields-forest s b k (a + 1) (nextAt s a e) (omega arith) (omega arith), fields-forest s b k (nextAt s a e) e (omega arith) m))
+    (λ (g : a < e). rw (forest-more s a e g) (
+      fields-at s b a (omega arith),
+      fields-forest s b k (a + 1) (nextAt s a e) (omega arith) (omega arith),
+      fields-forest s b k (nextAt s a e) e
+          (omega arith) m,
+    ))
     (λ (l : e ≤ a). rw (forest-none s a e l) tt)
     (below a e)

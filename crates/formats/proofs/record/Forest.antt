@@ -27,7 +27,8 @@ grow-fuel s zero g a e h k = grow-none s zero a e (omega arith) ∙ sym (grow-no
 grow-fuel s (suc f) zero a e h k = grow-none s (suc f) a e (omega arith) ∙ sym (grow-none s zero a e (omega arith))
 grow-fuel s (suc f) (suc g) a e h k =
     ⊎-elim
-    (λ l. grow-more s f a e l ∙ ap₂ (rec (recAt s a)) (grow-fuel s f g (a + 1) (nextAt s a e) (omega arith) (omega arith)) (grow-fuel s f g (nextAt s a e) e (omega arith) (omega arith)) ∙ sym (grow-more s g a e l))
+    (λ l. grow-more s f a e l ∙ ap₂ (rec (recAt s a)) (grow-fuel s f g (a + 1) (nextAt s a e) (omega arith) (omega arith)) (grow-fuel s f g (nextAt s a e) e (omega arith) (omega arith))
+    ∙ sym (grow-more s g a e l))
     (λ l. grow-none s (suc f) a e l ∙ sym (grow-none s (suc g) a e l))
     (below a e)
 

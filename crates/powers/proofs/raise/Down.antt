@@ -43,7 +43,8 @@ module _ {b : Book} {k e : ℕ} {s : Sum} {x : Entry} (ex : x ≡ at b k) (d : D
   first = down-next d ex p
 
   root-is : {r : Bool} → isEmpty (first .rest) ≡ r → rootable s ≡ r && cond (eqb (x .kind) X) true (eqb (x .kind) Div && rootable (first .inner))
-  root-is {r} h = d .same ∙ ap rootable (first .is) ∙ root-test (x .kind) (x .num) (first .inner) (x .coef) (first .rest) ∙ ap (λ (v : Bool). v && cond (eqb (x .kind) X) true (eqb (x .kind) Div && rootable (first .inner))) h
+  root-is {r} h = d .same ∙ ap rootable (first .is) ∙ root-test (x .kind) (x .num) (first .inner) (x .coef) (first .rest) ∙ ap
+      (λ (v : Bool). v && cond (eqb (x .kind) X) true (eqb (x .kind) Div && rootable (first .inner))) h
 
   -- more terms follow
   pub root-several : (k + 1 + x .inside ≡ e → ⊥) → rootable s ≡ false

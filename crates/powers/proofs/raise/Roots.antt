@@ -106,7 +106,8 @@ pub record Spot (e : Float) (x : Entry) (s : Sum) : Type 0 where
 
 module _ (e : Float) (fe : T (finite e)) where
   -- one term, once its inside is known
-  node : (g : ℕ → Entry) (i left k : ℕ) (q : Float) (t : Sum) (c : Complex) (s : Sum) → g i ≡ entry k (size t) q (rootOfOne c e) → At g (i + 1) t → Good left t → left ≤ 3 → size t ≤ 63 → size s ≡ suc (size t)
+  node : (g : ℕ → Entry) (i left k : ℕ) (q : Float) (t : Sum) (c : Complex) (s : Sum) → g i ≡ entry k (size t) q (rootOfOne c e) → At g (i + 1) t → Good left t → left ≤ 3 → size t ≤ 63
+      → size s ≡ suc (size t)
       → GoodEntry k q t (rootOfOne c e) → finite q ≡ true → finite (rootOfOne c e .im) ≡ true → rooted e s ≡ alone k q t (rootOfOne c e) → Root e g i (suc left) s
   unfolding At Good size
   node g i left k q t c s here laid good l n sized h fq fi is =
@@ -137,7 +138,8 @@ module _ (e : Float) (fe : T (finite e)) where
   abbrev Made : (ℕ → Entry) → ℕ → ℕ → ℕ → Float → Complex → Type 0
   Made g i k n p c = (g i ≡ rootEntry e (entry k n p c)) × (finite (g i .num) ≡ true)
 
-  x-node : (g : ℕ → Entry) (i left k : ℕ) (p : Float) (t : Sum) (c : Complex) (s : Sum) → Made g i k (size t) p c → left ≤ 3 → eqb k X ≡ true → size t ≡ 0 → s ≡ none → complex.same c complex.one ≡ true → Root e g i (suc left) (and k p t c s)
+  x-node : (g : ℕ → Entry) (i left k : ℕ) (p : Float) (t : Sum) (c : Complex) (s : Sum) → Made g i k (size t) p c → left ≤ 3 → eqb k X ≡ true → size t ≡ 0 → s ≡ none
+      → complex.same c complex.one ≡ true → Root e g i (suc left) (and k p t c s)
   unfolding At Good size
   x-node g i left k p t c s made few x no-inside only u =
       let is = made .0 ∙ x-cell e k (size t) p c (eqb-true k X x) no-inside in
@@ -147,14 +149,16 @@ module _ (e : Float) (fe : T (finite e)) where
       (good-root X (p ⊗ e) none c (omega arith) (omega arith) (λ z. differ z) refl fq (mul-fits binary64 p e) u)
       fq (is-true _ (root-finite c e fe u)) (rooted-x k p t c s e x)
 
-  div-node : (g : ℕ → Entry) (i left k : ℕ) (p : Float) (t : Sum) (c : Complex) (s : Sum) → Made g i k (size t) p c → left ≤ 3 → size t ≤ 63 → eqb k X ≡ false → k ≡ Div → isEmpty t ≡ false → s ≡ none → complex.same c complex.one ≡ true
+  div-node : (g : ℕ → Entry) (i left k : ℕ) (p : Float) (t : Sum) (c : Complex) (s : Sum) → Made g i k (size t) p c → left ≤ 3 → size t ≤ 63 → eqb k X ≡ false → k ≡ Div → isEmpty t ≡ false
+      → s ≡ none → complex.same c complex.one ≡ true
       → Root e g (i + 1) left t → Root e g i (suc left) (and k p t c s)
   unfolding size
   div-node g i left k p t c s made few n x d some only u inner =
       let sized = inner .sized in
       let rest : size s ≡ 0 = rw only refl in
       node g i left Div zero64 (inner .root) c (and k p t c s) (made .0 ∙ div-cell e k (size t) (size (inner .root)) p c d sized) (inner .laid) (inner .good) few (omega arith) (omega arith)
-      (good-root Div zero64 (inner .root) c (omega arith) (omega arith) (λ z. bits-0) (empty-size (inner .root) ∙ ap (λ (m : ℕ). eqb m 0) sized ∙ sym (empty-size t) ∙ some) zero-is-finite (ofBits-fits binary64 0) u)
+      (good-root Div zero64 (inner .root) c (omega arith) (omega arith) (λ z. bits-0) (empty-size (inner .root) ∙ ap (λ (m : ℕ). eqb m 0) sized ∙ sym (empty-size t) ∙ some) zero-is-finite
+      (ofBits-fits binary64 0) u)
       zero-is-finite (is-true _ (root-finite c e fe u)) (rooted-sum k p t c s e (inner .root) x (inner .is))
 
   -- the root lies where each cell was made the root of what it was, and the powers are finite

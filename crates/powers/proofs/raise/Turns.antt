@@ -78,7 +78,8 @@ pub so-far-start : {b : Book} {i n : ℕ} (times : ℕ) {s : Sum} → Lies b i (
 so-far-start times {s} l = record { acc = s; made = l; same = refl }
 
 -- the product so far, where a turn goes
-pub turn-so-far : {b : Book} {w i n times from len left p : ℕ} {s : Sum} → Source b i n w → len ≤ 64 → Place w i n times from len left → So-far b from len left times s → p ≡ turnPlace w left → Operand b from len p
+pub turn-so-far : {b : Book} {w i n times from len left p : ℕ} {s : Sum} → Source b i n w → len ≤ 64 → Place w i n times from len left → So-far b from len left times s → p ≡ turnPlace w left
+    → Operand b from len p
 turn-so-far {left = left} S few (first z) F e = turn-base (turn-two left e) S
 turn-so-far {b} {w} {from = from} {len = len} {left = left} S few (turned z) F e =
     subst (λ (p : ℕ). Operand b from len p) (sym e)

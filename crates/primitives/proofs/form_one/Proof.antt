@@ -27,11 +27,14 @@ form-one-spec =
     (λ c. search needs)
     (λ c κs. let euler = c .before .before .before .before .before in let st = start euler in (half-finite, st .pre .1, st .pre .2))
     (λ c. search needs)
-    (λ c κs. let euler = c .before .before .before .before .before in let st = start euler in (over-head _ _ _ (omega arith) (omega arith) (st .pre .0), result-operand (st .pre .1), room-result (st .args .w) (st .pre .2)))
+    (λ c κs. let euler = c .before .before .before .before .before in let st = start euler in
+    (over-head _ _ _ (omega arith) (omega arith) (st .pre .0), result-operand (st .pre .1), room-result (st .args .w) (st .pre .2)))
     (λ c. search needs)
-    (λ c κs. let euler = c .before .before .before .before .before in let st = start euler in (over-head _ _ _ (omega arith) (omega arith) (st .pre .0), result-operand (st .pre .1), room-result (st .args .w) (st .pre .2)))
+    (λ c κs. let euler = c .before .before .before .before .before in let st = start euler in
+    (over-head _ _ _ (omega arith) (omega arith) (st .pre .0), result-operand (st .pre .1), room-result (st .args .w) (st .pre .2)))
     (λ c. search needs)
-    (λ c κs. let euler = c .before .before .before .before .before in let st = start euler in (rw (euler .e .ensures) euler-finite, result-operand (st .pre .1), room-result (st .args .w) (st .pre .2)))
+    (λ c κs. let euler = c .before .before .before .before .before in let st = start euler in
+    (rw (euler .e .ensures) euler-finite, result-operand (st .pre .1), room-result (st .args .w) (st .pre .2)))
     (λ c. search needs)
     (λ c κs. let euler = c .before .before .before .before .before in let st = start euler in (two-finite, result-operand (st .pre .1), room-result (st .args .w) (st .pre .2)))
     (λ c. search needs)

@@ -70,7 +70,8 @@ passed {z} {lo} {p} left r (one-more {m} {n = n} {ns = ns} e some told st) h q i
     }
 
 -- the next sum is passed
-pub sought-more : {z : List ℕ} {lo hi k p left : ℕ} (r : ℕ) → Sought z lo hi k p left → lo < p → 0 < left → ((n : ℕ) (ns : List ℕ) → Sized z lo p (n ∷ ns) → r ≡ n) → (r ≤ p) × Sought z lo hi k (p - r) (left - 1)
+pub sought-more : {z : List ℕ} {lo hi k p left : ℕ} (r : ℕ) → Sought z lo hi k p left → lo < p → 0 < left → ((n : ℕ) (ns : List ℕ) → Sized z lo p (n ∷ ns) → r ≡ n)
+    → (r ≤ p) × Sought z lo hi k (p - r) (left - 1)
 sought-more {left = left} r s h q is =
     let here = passed left r (s .held .1) h q is in
     let low = s .low in (
@@ -113,14 +114,16 @@ unfolding anyComplex
 complex-top ss s ts b e h = ap anyComplex e ∙ ap (λ (v : Bool). v || anyComplex ts) (sym h)
 
 -- it is complex
-pub scanned-found : {a : Arena} {u p : ℕ} (n : ℕ) (b : Bool) → Scanned a u p → 128 < p → Told a p n → ((s : Sum) → Lies (a .cells) (p - n) (p - n + n) 4 s → b ≡ isComplex s) → b ≡ true → (ss : List Sum) → Stacked a 128 u ss → true ≡ anyComplex ss
+pub scanned-found : {a : Arena} {u p : ℕ} (n : ℕ) (b : Bool) → Scanned a u p → 128 < p → Told a p n → ((s : Sum) → Lies (a .cells) (p - n) (p - n + n) 4 s → b ≡ isComplex s) → b ≡ true
+    → (ss : List Sum) → Stacked a 128 u ss → true ≡ anyComplex ss
 scanned-found n b s h told is e ss st =
     let m = s .same ss st in
     let f = first (m .1) h told in
     sym (m .2 ∙ complex-top (m .0) (f .0) (f .1) b (f .2) (is (f .0) (f .3 .lies)) ∙ ap (λ (v : Bool). v || anyComplex (f .1)) e)
 
 -- it is not
-pub scanned-past : {a : Arena} {u p : ℕ} (n : ℕ) (b : Bool) → Scanned a u p → 128 < p → Told a p n → ((s : Sum) → Lies (a .cells) (p - n) (p - n + n) 4 s → b ≡ isComplex s) → b ≡ false → Scanned a u (p - n)
+pub scanned-past : {a : Arena} {u p : ℕ} (n : ℕ) (b : Bool) → Scanned a u p → 128 < p → Told a p n → ((s : Sum) → Lies (a .cells) (p - n) (p - n + n) 4 s → b ≡ isComplex s) → b ≡ false
+    → Scanned a u (p - n)
 scanned-past n b s h told is e =
     let low = s .low in
     let here = first (s .held .1) h told in

@@ -56,7 +56,8 @@ outside-wider p q s = record { below = λ j h. s .below j (omega arith); above =
 -- ---- one sum
 
 -- a sum lies wherever its slots do
-top-moved : (a a′ : Arena) (lo hi lo′ hi′ : ℕ) (s : Sum) → ((i j : ℕ) → lo ≤ i → i < hi → j + lo ≡ i + lo′ → slot a′ j ≡ slot a i) → Room (a′ .cells) hi′ → hi′ + lo ≡ hi + lo′ → Top a lo hi s → Top a′ lo′ hi′ s
+top-moved : (a a′ : Arena) (lo hi lo′ hi′ : ℕ) (s : Sum) → ((i j : ℕ) → lo ≤ i → i < hi → j + lo ≡ i + lo′ → slot a′ j ≡ slot a i) → Room (a′ .cells) hi′ → hi′ + lo ≡ hi + lo′
+    → Top a lo hi s → Top a′ lo′ hi′ s
 top-moved a a′ lo hi lo′ hi′ s same room e t =
     let ends = t .lies .ends in
     let some = good-some (t .good) in
@@ -88,7 +89,8 @@ pub stacked-le : {a : Arena} {lo hi : ℕ} {ss : List Sum} → Stacked a lo hi s
 stacked-le st = let e = stacked-total st in omega arith
 
 -- sums are stacked wherever their slots are
-pub stacked-shift : {a a′ : Arena} (lo hi lo′ hi′ : ℕ) → ((i j : ℕ) → lo ≤ i → i < hi → j + lo ≡ i + lo′ → slot a′ j ≡ slot a i) → Room (a′ .cells) hi′ → hi′ + lo ≡ hi + lo′ → (ss : List Sum) → Stacked a lo hi ss → Stacked a′ lo′ hi′ ss
+pub stacked-shift : {a a′ : Arena} (lo hi lo′ hi′ : ℕ) → ((i j : ℕ) → lo ≤ i → i < hi → j + lo ≡ i + lo′ → slot a′ j ≡ slot a i) → Room (a′ .cells) hi′ → hi′ + lo ≡ hi + lo′
+    → (ss : List Sum) → Stacked a lo hi ss → Stacked a′ lo′ hi′ ss
 stacked-shift {a} {a′} lo hi lo′ hi′ same room e [] no-sum = stacked-none a′ lo′ hi′ (omega arith)
 stacked-shift {a} {a′} lo hi lo′ hi′ same room e (s ∷ ss) (on-top {m} t st) =
     let low = stacked-le st in
@@ -183,7 +185,8 @@ pub stacked-two : {a : Arena} {lo hi n m : ℕ} {s t : Sum} {ss : List Sum} → 
 stacked-two p q st = let one = stacked-one p st in (one, stacked-one q (one .rest))
 
 -- the top k sums, and those below them
-pub stacked-split : {a : Arena} {lo hi : ℕ} (k : ℕ) (ss : List Sum) → k ≤ length ss → Stacked a lo hi ss → (w : ℕ) × (deep k (sizesOf ss) hi ≡ From w) × Stacked a w hi (take k ss) × Stacked a lo w (drop k ss)
+pub stacked-split : {a : Arena} {lo hi : ℕ} (k : ℕ) (ss : List Sum) → k ≤ length ss → Stacked a lo hi ss
+    → (w : ℕ) × (deep k (sizesOf ss) hi ≡ From w) × Stacked a w hi (take k ss) × Stacked a lo w (drop k ss)
 unfolding deep sizesOf
 stacked-split {hi = hi} zero ss h st = (hi, refl, no-sum, st)
 stacked-split (suc k) [] h st = absurd (omega arith)
@@ -199,7 +202,8 @@ deep-short (suc k) [] hi h = refl
 deep-short (suc k) (s ∷ ss) hi h = deep-short k ss (hi - size s) (omega arith)
 
 -- what an answer of `deep` tells
-pub deep-from : {a : Arena} {lo hi : ℕ} (k : ℕ) (ss : List Sum) (w : ℕ) → deep k (sizesOf ss) hi ≡ From w → Stacked a lo hi ss → (k ≤ length ss) × Stacked a w hi (take k ss) × Stacked a lo w (drop k ss)
+pub deep-from : {a : Arena} {lo hi : ℕ} (k : ℕ) (ss : List Sum) (w : ℕ) → deep k (sizesOf ss) hi ≡ From w → Stacked a lo hi ss
+    → (k ≤ length ss) × Stacked a w hi (take k ss) × Stacked a lo w (drop k ss)
 deep-from {a} {lo} {hi} k ss w e st =
     elim (decLe k (length ss)) [
       | yes h ↦
@@ -227,7 +231,8 @@ stacked-raised {a} {a′} {lo} {w} {u} {d} {xs} r up low room = (
   stacked-below (r .outside) (omega arith) low,
 )
 
-pub stacked-sunk : {a a′ : Arena} {lo from to n : ℕ} {xs ys : List Sum} → Sunk a a′ from to n → Stacked a from (from + n) xs → Stacked a lo to ys → Space a (from + n) → to ≤ from → Stacked a′ to (to + n) xs × Stacked a′ lo to ys
+pub stacked-sunk : {a a′ : Arena} {lo from to n : ℕ} {xs ys : List Sum} → Sunk a a′ from to n → Stacked a from (from + n) xs → Stacked a lo to ys → Space a (from + n) → to ≤ from
+    → Stacked a′ to (to + n) xs × Stacked a′ lo to ys
 stacked-sunk {a} {a′} {lo} {from} {to} {n} {xs} s up low room h = (
   stacked-moved from to n (s .copied) (space-less (omega arith) (space-same (s .outside .long) room)) xs up,
   stacked-below (s .outside) (omega arith) low,

@@ -40,7 +40,8 @@ pub does-nothing : (a : Arena) (v : ℕ) (env : AlgebraEnv) → Does a a v env (
 does-nothing a v env = record { kept = outside-refl a 0 v; agrees = λ st s. s }
 
 -- another count and another flag
-pub does-finished : {a b : Arena} {v : ℕ} {env : AlgebraEnv} {r : Ran} {f : State → Walked} (h c : Bool) → Does a b v env r f → Does a b v env (finished h c r) (λ st. andThen (f st) (λ st′. went (flagged c (counted h st′))))
+pub does-finished : {a b : Arena} {v : ℕ} {env : AlgebraEnv} {r : Ran} {f : State → Walked} (h c : Bool) → Does a b v env r f
+    → Does a b v env (finished h c r) (λ st. andThen (f st) (λ st′. went (flagged c (counted h st′))))
 does-finished {b = b} {v} {r = r} {f} h c d = record { kept = d .kept; agrees = λ st s. go r (f st) (d .agrees st s) }
   where
     go : (r : Ran) (w : Walked) → Agree r b v w → Agree (finished h c r) b v (andThen w (λ st′. went (flagged c (counted h st′))))
@@ -62,19 +63,26 @@ ready-popped {ss = ss} y k le = record { space = y .space; within = y .within; s
 -- ---- refusals
 
 -- a refusal that asks whether what is on the stack is complex
-pub does-stop : {a : Arena} {v : ℕ} {env : AlgebraEnv} {r : Ran} {q : Refusal} {at : ℕ} → ((ss : List Sum) → Stacked a 128 (env .used) ss → r ≡ Stopped q at (leb 2 (env .handled) || anyComplex ss)) → Does a a v env r (stop at q)
+pub does-stop : {a : Arena} {v : ℕ} {env : AlgebraEnv} {r : Ran} {q : Refusal} {at : ℕ}
+    → ((ss : List Sum) → Stacked a 128 (env .used) ss → r ≡ Stopped q at (leb 2 (env .handled) || anyComplex ss)) → Does a a v env r (stop at q)
 does-stop {a} {v} {env} {r} {q} {at} e =
-    record { kept = outside-refl a 0 v; agrees = λ st s. rw (e (st .stack) (s .stack)) (record { refusal = refl; place = refl; handled = ap (λ (n : ℕ). leb 2 n || anyComplex (st .stack)) (s .handled) }) }
+    record {
+      kept = outside-refl a 0 v;
+      agrees = λ st s. rw (e (st .stack) (s .stack))
+          (record { refusal = refl; place = refl; handled = ap (λ (n : ℕ). leb 2 n || anyComplex (st .stack)) (s .handled) });
+    }
 
 -- too few sums
-pub does-short : {a : Arena} {v : ℕ} {env : AlgebraEnv} {r : Ran} {at : ℕ} (n : ℕ) (f : List Sum → State → Walked) → r ≡ Stopped TooManyVariables at (leb 2 (env .handled)) → ((ss : List Sum) → Stacked a 128 (env .used) ss → length ss < n) → Does a a v env r (λ st. taking at n st f)
+pub does-short : {a : Arena} {v : ℕ} {env : AlgebraEnv} {r : Ran} {at : ℕ} (n : ℕ) (f : List Sum → State → Walked) → r ≡ Stopped TooManyVariables at (leb 2 (env .handled))
+    → ((ss : List Sum) → Stacked a 128 (env .used) ss → length ss < n) → Does a a v env r (λ st. taking at n st f)
 does-short {a} {v} {env} {r} {at} n f e few =
     record { kept = outside-refl a 0 v; agrees = λ st s. rw (taking-short at n st f (few (st .stack) (s .stack)), e) (record { refusal = refl; place = refl; handled = ap (leb 2) (s .handled) }) }
 
 -- ---- sums put on
 
 -- what has been put on lies on top, and v is where what is held begins
-pub does-push : {a b : Arena} {v : ℕ} {env : AlgebraEnv} {n : ℕ} (at : ℕ) (s : Sum) → v ≤ 1152 → n ≡ size s → env .used + n ≤ v → Outside a b (env .used) (env .used + n) → Top b (env .used) (env .used + n) s → Does a b v env (Went (withUsed (env .used + n) env)) (push at (1152 - v) (sum s))
+pub does-push : {a b : Arena} {v : ℕ} {env : AlgebraEnv} {n : ℕ} (at : ℕ) (s : Sum) → v ≤ 1152 → n ≡ size s → env .used + n ≤ v → Outside a b (env .used) (env .used + n)
+    → Top b (env .used) (env .used + n) s → Does a b v env (Went (withUsed (env .used + n) env)) (push at (1152 - v) (sum s))
 does-push {a} {b} {v} {env} {n} at s within is le o t =
     record {
       kept = outside-wider (omega arith) le o;
@@ -104,7 +112,8 @@ some-cells a u [] h no-sum = absurd (omega arith)
 some-cells a u (s ∷ ss) h k = (s, ss, refl)
 
 -- the stack is empty
-pub does-none : {a : Arena} {v : ℕ} {env : AlgebraEnv} {r : Ran} {at : ℕ} (n : ℕ) (f : List Sum → State → Walked) → 1 ≤ n → r ≡ Stopped TooManyVariables at (leb 2 (env .handled)) → env .used ≡ 128 → Does a a v env r (λ st. taking at n st f)
+pub does-none : {a : Arena} {v : ℕ} {env : AlgebraEnv} {r : Ran} {at : ℕ} (n : ℕ) (f : List Sum → State → Walked) → 1 ≤ n → r ≡ Stopped TooManyVariables at (leb 2 (env .handled))
+    → env .used ≡ 128 → Does a a v env r (λ st. taking at n st f)
 does-none {a} n f le e none = does-short n f e (λ ss k. let few = no-cells (subst (λ (u : ℕ). Stacked a 128 u ss) none k) in omega arith)
 
 -- the size that the code finds at the top
@@ -157,7 +166,8 @@ pub pair : {a : Arena} {u n m : ℕ} {ss : List Sum} → Tops a u (n ∷ m ∷ [
 pair {a} {u} {n} {m} {ss} t k = pair-of a u n m ss (t ss k .0) k (t ss k .1)
 
 -- one sum alone
-pub does-only : {a : Arena} {v : ℕ} {env : AlgebraEnv} {r : Ran} {at m : ℕ} (f : List Sum → State → Walked) → r ≡ Stopped TooManyVariables at (leb 2 (env .handled)) → Tops a (env .used) (m ∷ []) → env .used - m ≡ 128 → Does a a v env r (λ st. taking at 2 st f)
+pub does-only : {a : Arena} {v : ℕ} {env : AlgebraEnv} {r : Ran} {at m : ℕ} (f : List Sum → State → Walked) → r ≡ Stopped TooManyVariables at (leb 2 (env .handled))
+    → Tops a (env .used) (m ∷ []) → env .used - m ≡ 128 → Does a a v env r (λ st. taking at 2 st f)
 does-only {a} f e t none =
     does-short 2 f e
     (λ ss k.
@@ -180,7 +190,8 @@ does-one {a} {b} {v} {env} {r} {n} at f o t g =
 
 -- and one that takes two
 pub does-two : {a b : Arena} {v : ℕ} {env : AlgebraEnv} {r : Ran} {n m : ℕ} (at : ℕ) (f : List Sum → State → Walked) → Outside a b 0 v → Tops a (env .used) (n ∷ m ∷ [])
-    → ((st : State) (s t : Sum) (ss : List Sum) → Stands a v env (withStack (s ∷ t ∷ ss) st) → One a 128 (env .used) n s (t ∷ ss) → One a 128 (env .used - n) m t ss → Agree r b v (f (s ∷ t ∷ []) (withStack ss st)))
+    → ((st : State) (s t : Sum) (ss : List Sum) → Stands a v env (withStack (s ∷ t ∷ ss) st) → One a 128 (env .used) n s (t ∷ ss) → One a 128 (env .used - n) m t ss → Agree r b v
+    (f (s ∷ t ∷ []) (withStack ss st)))
     → Does a b v env r (λ st. taking at 2 st f)
 does-two {a} {b} {v} {env} {r} {n} {m} at f o t g =
     record {
@@ -188,13 +199,15 @@ does-two {a} {b} {v} {env} {r} {n} {m} at f o t g =
       agrees = λ st k.
           let x = pair t (k .stack) in
           let e = x .are in
-          rw (taking-some at 2 st f (rw e (omega arith)), e) (g st (x .s) (x .t) (x .rest) (record { stack = rw e at (k .stack); below = k .below; handled = k .handled; complex = k .complex }) (x .first) (x .second));
+          rw (taking-some at 2 st f (rw e (omega arith)), e) (g st (x .s) (x .t) (x .rest)
+          (record { stack = rw e at (k .stack); below = k .below; handled = k .handled; complex = k .complex }) (x .first) (x .second));
     }
 
 -- ---- what was formed
 
 -- a sum that was formed is put on
-pub push-done : {a b : Arena} {v : ℕ} {env : AlgebraEnv} {r : Ran} (w : Book) (at h n : ℕ) (f : Formed) (o : Outcome) → f ≡ Done n → ((s : Sum) → Lies w 0 (0 + n) 4 s → Does a b v env r (push at h (sum s))) → Agrees f w 0 o → Does a b v env r (push at h o)
+pub push-done : {a b : Arena} {v : ℕ} {env : AlgebraEnv} {r : Ran} (w : Book) (at h n : ℕ) (f : Formed) (o : Outcome) → f ≡ Done n
+    → ((s : Sum) → Lies w 0 (0 + n) 4 s → Does a b v env r (push at h (sum s))) → Agrees f w 0 o → Does a b v env r (push at h o)
 push-done {a} {b} {v} {env} {r} w at h n f o e d g = go o (rw e at g)
   where
     go : (o : Outcome) → Agrees (Done n) w 0 o → Does a b v env r (push at h o)
@@ -202,7 +215,8 @@ push-done {a} {b} {v} {env} {r} w at h n f o e d g = go o (rw e at g)
     go (refused q) g = absurd g
 
 -- a refusal is given
-pub push-refused : {a b : Arena} {v : ℕ} {env : AlgebraEnv} {r : Ran} (w : Book) (at h : ℕ) (q : Refusal) (f : Formed) (o : Outcome) → f ≡ Refused q → Does a b v env r (stop at q) → Agrees f w 0 o → Does a b v env r (push at h o)
+pub push-refused : {a b : Arena} {v : ℕ} {env : AlgebraEnv} {r : Ran} (w : Book) (at h : ℕ) (q : Refusal) (f : Formed) (o : Outcome) → f ≡ Refused q → Does a b v env r (stop at q)
+    → Agrees f w 0 o → Does a b v env r (push at h o)
 push-refused {a} {b} {v} {env} {r} w at h q f o e d g = go o (rw e at g)
   where
     go : (o : Outcome) → Agrees (Refused q) w 0 o → Does a b v env r (push at h o)

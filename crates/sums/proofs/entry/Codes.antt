@@ -165,7 +165,12 @@ encoded-decoded c b p =
 
 module _ {k : ℕ} {p : Float} {i : Sum} {c : Complex} (g : GoodEntry k p i c) where
   pub good-fitting : Fitting (entry k (size i) p c)
-  good-fitting = record { num = and-r (finite p) (fits binary64 p) (g .number); re = and-r (finite (c .re)) (fits binary64 (c .re)) (g .re); im = and-r (finite (c .im)) (fits binary64 (c .im)) (g .im) }
+  good-fitting = record {
+    num = and-r (finite p) (fits binary64 p) (g .number);
+    re = and-r (finite (c .re)) (fits binary64 (c .re)) (g .re);
+    im = and-r (finite (c .im))
+        (fits binary64 (c .im)) (g .im);
+  }
 
   pub good-small : size i < 64 → Small (encoded (entry k (size i) p c))
   good-small h =

@@ -127,7 +127,8 @@ put-good left m x t (and l q j d r) h g e = go (cmpTerm x t (entry l (size j) q 
     go Greater c e f = (h .0, h .1, before-put m x t l q j r (greater-less x t (entry l (size j) q d) j c) (h .2), f e)
 
 -- finite is enough, where the head is one that a good entry may have
-pub put-finite : (left : ℕ) (m : Merge) (x : Entry) (t s : Sum) → Good (suc left) s → Good left t → GoodHead x t → finite (x .num) ≡ true → complex.allFinite (coefIn m x t s) ≡ true → Good (suc left) (putIn m x t s)
+pub put-finite : (left : ℕ) (m : Merge) (x : Entry) (t s : Sum) → Good (suc left) s → Good left t → GoodHead x t → finite (x .num) ≡ true → complex.allFinite (coefIn m x t s) ≡ true
+    → Good (suc left) (putIn m x t s)
 put-finite left m x t s hs ht g n c = put-good left m x t s hs ht (finite-entry m x t s g n c)
 
 -- ---- how many entries there then are

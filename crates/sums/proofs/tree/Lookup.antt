@@ -167,7 +167,12 @@ match-lookup x u none none k f g h = refl
 match-lookup x u none (and l q j d t) k f g h = absurd h
 match-lookup x u (and n p i c s) none k f g h = absurd h
 match-lookup x u (and n p i c s) (and l q j d t) k f g h =
-    rw (← (term-chain x u (entry n (size i) p c) i (entry l (size j) q d) j k (first-key n (size i) p i c s f) (first-key l (size j) q j d t g) .right (h .0)), match-lookup x u s t k (f .3) (g .3) (h .2), h .1)
+    rw (
+      ← (term-chain x u (entry n (size i) p c) i (entry l (size j) q d) j k (first-key n (size i) p i c s f) (first-key l (size j) q j d t g) .right (h .0)),
+      match-lookup x u s t k (f .3)
+          (g .3) (h .2),
+      h .1,
+    )
 
 -- Less isn't Greater
 not-less : Less ≡ Greater → ⊥
@@ -215,7 +220,8 @@ lookup-match left (and k p i c s) (and l q j d t) f g h = go (cmpTerm x i y j) r
     absent-both : (z : Entry) (u : Sum) → Key z u → (cmpTerm z u x i ≡ Greater → ⊥) → (cmpTerm z u y j ≡ Greater → ⊥) → lookup z u s ≡ lookup z u t
     absent-both z u kz a b = lookup-before z u x i s kz kx (good-finite (suc left) s (f .3)) (f .2) a ∙ sym (lookup-before z u y j t kz ky (good-finite (suc left) t (g .3)) (g .2) b)
 
-    rest : (z : Entry) (u : Sum) → Key z u → (a : Ordering) → cmpTerm z u x i ≡ a → cmpTerm z u y j ≡ a → byOrder a absent (at c) (lookup z u s) ≡ byOrder a absent (at d) (lookup z u t) → lookup z u s ≡ lookup z u t
+    rest : (z : Entry) (u : Sum) → Key z u → (a : Ordering) → cmpTerm z u x i ≡ a → cmpTerm z u y j ≡ a → byOrder a absent (at c) (lookup z u s) ≡ byOrder a absent (at d) (lookup z u t)
+        → lookup z u s ≡ lookup z u t
     rest z u kz Less a b w = absent-both z u kz (λ n. not-less (sym a ∙ n)) (λ n. not-less (sym b ∙ n))
     rest z u kz Equal a b w = absent-both z u kz (λ n. not-equal (sym a ∙ n)) (λ n. not-equal (sym b ∙ n))
     rest z u kz Greater a b w = w

@@ -23,7 +23,8 @@ use Rattle.arithmetic.specs.Product.{product}
 use Rattle.arithmetic.proofs.Steps.{never, sum-is, then-sum, unless-sum, either}
 use Rattle.calculus.specs.declared.Ln.{Ln}
 use Rattle.calculus.specs.declared.Ln.the-variants.{Is, Other}
-use Rattle.calculus.specs.Derivative.{slope, vanishes, primeStep, foundThen, primeFrom, prime, byPrime, firstCoef, turnedTo, byLn, deriveX, deriveDiv, deriveExp, deriveBy, lnOf, deriveLog, deriveInto, orZero, derive}
+use Rattle.calculus.specs.Derivative.{slope, vanishes, primeStep, foundThen, primeFrom, prime, byPrime, firstCoef, turnedTo, byLn, deriveX, deriveDiv, deriveExp, deriveBy, lnOf}
+use Rattle.calculus.specs.Derivative.{deriveLog, deriveInto, orZero, derive}
 use Rattle.calculus.specs.Integral.{x, stored, integrateX, integrateBy, integrateInto, integrate}
 use Rattle.theorems.specs.Reals.{RealSum}
 use Rattle.theorems.proofs.Real.Coefs.{RealOnce, real-is, plus-real, times-real, timesReal-real, overReal-real}

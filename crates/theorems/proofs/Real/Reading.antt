@@ -12,7 +12,8 @@ use Rattle.arithmetic.specs.Singles.{constant}
 use Rattle.arithmetic.specs.Power.{number}
 use Rattle.arithmetic.proofs.Steps.{differ, sum-is}
 use Rattle.formats.specs.declared.record.Primitive.{Primitive}
-use Rattle.formats.specs.declared.record.Primitive.the-variants.{Identity, Pop, Dup, Flip, Neg, Not, Sqrt, Add, Sub, Mul, Div, Pow, Exp, Sin, Cos, Reciprocal, Complex, Max, SinH, CosH, Exp2, Exp10, Log, Ln, Log2, Log10, Over, Root, Unlisted}
+use Rattle.formats.specs.declared.record.Primitive.the-variants.{Identity, Pop, Dup, Flip, Neg, Not, Sqrt, Add, Sub, Mul, Div, Pow, Exp, Sin, Cos, Reciprocal, Complex, Max, SinH}
+use Rattle.formats.specs.declared.record.Primitive.the-variants.{CosH, Exp2, Exp10, Log, Ln, Log2, Log10, Over, Root, Unlisted}
 use Rattle.formats.specs.Tree as tree
 use Rattle.primitives.specs.Forms.{ofOne, ofTwo}
 use Rattle.stack.specs.Steps.{isComplexPrimitive}

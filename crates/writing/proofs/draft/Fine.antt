@@ -136,7 +136,8 @@ and-assoc false y z = refl
 ok-append : (c : Bool) (a b : Nodes) → okNodes c (append a b) ≡ (okNodes c a && okNodes c b)
 unfolding append okNodes
 ok-append c end b = refl
-ok-append c (rec r ns ms) b = rw (ok-append c ms b) (and-assoc (fieldsOk r && Bool·beq (isA r kind.Body) c && eqb (r .inside) (size ns) && okNodes (isA r kind.Modifier) ns) (okNodes c ms) (okNodes c b))
+ok-append c (rec r ns ms) b = rw (ok-append c ms b) (and-assoc (fieldsOk r && Bool·beq (isA r kind.Body) c && eqb (r .inside) (size ns) && okNodes (isA r kind.Modifier) ns) (okNodes c ms)
+    (okNodes c b))
 
 height-append : (a b : Nodes) → height (append a b) ≡ max (height a) (height b)
 unfolding append height

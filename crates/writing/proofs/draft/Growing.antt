@@ -108,7 +108,8 @@ module _ {b b′ b″ : List ℕ} {d q : Draft} {f r f′ r′ : ℕ} where
       on-with (refused o) l = absurd l
 
 -- a refusal ends it
-pub spoken-stop : {b b′ : List ℕ} {d : Draft} {s : Said} {f r : ℕ} {h : Nodes → Written} → Spoken b b′ d s f r h → (o : Refusal) → s ≡ said.Refused o → (g : Nodes → Written) (f′ r′ : ℕ) → Spoken b b′ d (said.Refused o) f′ r′ (λ ns. andThen (h ns) g)
+pub spoken-stop : {b b′ : List ℕ} {d : Draft} {s : Said} {f r : ℕ} {h : Nodes → Written} → Spoken b b′ d s f r h → (o : Refusal) → s ≡ said.Refused o → (g : Nodes → Written) (f′ r′ : ℕ)
+    → Spoken b b′ d (said.Refused o) f′ r′ (λ ns. andThen (h ns) g)
 spoken-stop {b} {b′} {d} {s} {f} {r} {h} k o e g f′ r′ =
     record { grown = tt; long = k .long; lies = λ ns l. stop (h ns) (subst (λ (x : Said). SaidAs x b′ (h ns)) e (k .lies ns l)) }
   where
@@ -123,7 +124,8 @@ said-drawn {b} d w p =
     let h : 24 * d .end + 24 ≤ length b = omega (arith, w .after) in
     record { grown = record { begins = omega arith; ends = omega arith }; long = written-long p h; lies = λ ns l. said-lies d ns p h l }
 
-pub wrapped-drawn : {b b′ b″ : List ℕ} (d : Draft) (i n : ℕ) → Ready b d 2 0 → i + 2 ≡ d .from → n + d .from ≡ d .end → {o y : Record} → o ≡ on (n + 1) → y ≡ body n → tree.Written b b′ i o → tree.Written b′ b″ (i + 1) y → Drawn b b″ d record { from = i; end = d .end } 2 0 (λ ns. wrapped ns)
+pub wrapped-drawn : {b b′ b″ : List ℕ} (d : Draft) (i n : ℕ) → Ready b d 2 0 → i + 2 ≡ d .from → n + d .from ≡ d .end → {o y : Record} → o ≡ on (n + 1) → y ≡ body n → tree.Written b b′ i o
+    → tree.Written b′ b″ (i + 1) y → Drawn b b″ d record { from = i; end = d .end } 2 0 (λ ns. wrapped ns)
 wrapped-drawn {b} {b′} {b″} d i n w e f {o} {y} s t p q =
     let h : 24 * i + 48 ≤ length b = omega (arith, w .after, w .lies .ends) in
     let m : length b′ ≡ length b = written-long p (omega arith) in
@@ -134,7 +136,8 @@ wrapped-drawn {b} {b′} {b″} d i n w e f {o} {y} s t p q =
     }
 
 module _ (flag : Bool) (c : Complex) where
-  pub number-done : {b b′ : List ℕ} {d q : Draft} → canWrite flag c ≡ true → {x : Record} → x ≡ numberRecord flag c → Drawn b b′ d q 0 1 (λ ns. append ns (one x)) → Spoken b b′ d (said.Done q) 0 1 (λ ns. number flag c ns)
+  pub number-done : {b b′ : List ℕ} {d q : Draft} → canWrite flag c ≡ true → {x : Record} → x ≡ numberRecord flag c → Drawn b b′ d q 0 1 (λ ns. append ns (one x))
+      → Spoken b b′ d (said.Done q) 0 1 (λ ns. number flag c ns)
   number-done h {x} e s =
       spoken-as (drawn-done s) (λ ns. number flag c ns) (λ ns. ap (λ (y : Record). wrote (append ns (one y))) e ∙ sym (ap (λ (t : Bool). ifCan t (wrote (append ns (one (numberRecord flag c))))) h))
 

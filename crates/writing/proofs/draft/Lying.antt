@@ -47,32 +47,37 @@ part-written {s} {s′} {i} {r} w h at n e =
     ∙ ap (λ (x : ℕ). drop at (take x s) ++ encodeRec r) (sym e)
     ∙ ap (λ (l : List ℕ). l ++ encodeRec r) (part-take at n s (omega arith))
 
-pub said-lies : {b b′ : List ℕ} (d : Draft) {r : Record} (ns : Nodes) → Written b b′ (d .end) r → 24 * d .end + 24 ≤ length b → Lying b d ns → Lying b′ record { from = d .from; end = d .end + 1 } (append ns (one r))
+pub said-lies : {b b′ : List ℕ} (d : Draft) {r : Record} (ns : Nodes) → Written b b′ (d .end) r → 24 * d .end + 24 ≤ length b → Lying b d ns
+    → Lying b′ record { from = d .from; end = d .end + 1 } (append ns (one r))
 said-lies {b} {b′} d {r} ns w h l =
     let n : size (append ns (one r)) ≡ size ns + 1 = size-said ns r in
     let k : 24 * size (append ns (one r)) ≡ 24 * size ns + 24 = omega arith in
     record {
       ends = omega (arith, l .ends);
       room = omega (arith, written-long w h);
-      bytes = ap (λ (x : ℕ). part (24 * d .from) x b′) k ∙ part-written w h (24 * d .from) (24 * size ns) (omega (arith, l .ends)) ∙ ap (λ (q : List ℕ). q ++ encodeRec r) (l .bytes) ∙ sym (encode-said ns r);
+      bytes = ap (λ (x : ℕ). part (24 * d .from) x b′) k ∙ part-written w h (24 * d .from) (24 * size ns) (omega (arith, l .ends)) ∙ ap (λ (q : List ℕ). q ++ encodeRec r) (l .bytes) ∙ sym
+          (encode-said ns r);
     }
 
 -- ---- On and its body in front
 
 -- two records stored side by side, and what follows them
-two-written : {s s′ s″ : List ℕ} {i : ℕ} {o y : Record} → Written s s′ i o → Written s′ s″ (i + 1) y → 24 * i + 48 ≤ length s → (n : ℕ) → part (24 * i) (48 + n) s″ ≡ encodeRec o ++ encodeRec y ++ part (24 * i + 48) n s
+two-written : {s s′ s″ : List ℕ} {i : ℕ} {o y : Record} → Written s s′ i o → Written s′ s″ (i + 1) y → 24 * i + 48 ≤ length s → (n : ℕ)
+    → part (24 * i) (48 + n) s″ ≡ encodeRec o ++ encodeRec y ++ part (24 * i + 48) n s
 two-written {s} {s′} {s″} {i} {o} {y} v w h n =
     let a : List ℕ = encodeRec o ++ encodeRec y in
     let k : length a ≡ 48 = simp (length-append, length-rec) in
     let j : 24 * (i + 1) ≡ 24 * i + length (encodeRec o) = omega (arith, length-rec o) in
-    let both : s″ ≡ sets s (24 * i) a = w .stored ∙ ap (λ (l : List ℕ). sets l (24 * (i + 1)) (encodeRec y)) (v .stored) ∙ ap (λ (x : ℕ). sets (sets s (24 * i) (encodeRec o)) x (encodeRec y)) j ∙ sym (sets-append (encodeRec o) (encodeRec y) s (24 * i)) in
+    let both : s″ ≡ sets s (24 * i) a = w .stored ∙ ap (λ (l : List ℕ). sets l (24 * (i + 1)) (encodeRec y)) (v .stored) ∙ ap
+    (λ (x : ℕ). sets (sets s (24 * i) (encodeRec o)) x (encodeRec y)) j ∙ sym (sets-append (encodeRec o) (encodeRec y) s (24 * i)) in
     ap (part (24 * i) (48 + n)) both
     ∙ ap (take (48 + n)) (part-sets a s (24 * i) (omega arith))
     ∙ ap (λ (x : ℕ). take (x + n) (a ++ drop (24 * i + length a) s)) (sym k)
     ∙ take-append-add a (drop (24 * i + length a) s) n
     ∙ ap (λ (x : ℕ). a ++ take n (drop (24 * i + x) s)) k
 
-pub wrapped-lies : {b b′ b″ : List ℕ} (d : Draft) (i n : ℕ) (ns : Nodes) → i + 2 ≡ d .from → n + d .from ≡ d .end → Written b b′ i (on (n + 1)) → Written b′ b″ (i + 1) (body n) → Lying b d ns → Lying b″ record { from = i; end = d .end } (wrapped ns)
+pub wrapped-lies : {b b′ b″ : List ℕ} (d : Draft) (i n : ℕ) (ns : Nodes) → i + 2 ≡ d .from → n + d .from ≡ d .end → Written b b′ i (on (n + 1)) → Written b′ b″ (i + 1) (body n)
+    → Lying b d ns → Lying b″ record { from = i; end = d .end } (wrapped ns)
 wrapped-lies {b} {b′} {b″} d i n ns e f v w l =
     let s : size (wrapped ns) ≡ size ns + 2 = size-wrapped ns in
     let m : n ≡ size ns = omega (arith, l .ends) in
@@ -98,7 +103,8 @@ pub copy-more : (b out₀ out : List ℕ) (from j : ℕ) → from + j < length b
 copy-more b out₀ out from j h e =
     let n : length (part from j b) ≡ j = length-part from j b (omega arith) in
     let g : getD (drop from b) j 0 ≡ getD b (from + j) 0 = getD-drop from b j 0 in
-    let z : part from (j + 1) b ≡ part from j b ++ (getD b (from + j) 0 ∷ []) = ap (λ (x : ℕ). take x (drop from b)) (add-one j) ∙ take-suc (drop from b) j 0 (rw length-drop (omega arith)) ∙ ap (λ (x : ℕ). part from j b ++ (x ∷ [])) g in
+    let z : part from (j + 1) b ≡ part from j b ++ (getD b (from + j) 0 ∷ []) = ap (λ (x : ℕ). take x (drop from b)) (add-one j) ∙ take-suc (drop from b) j 0 (rw length-drop (omega arith))
+    ∙ ap (λ (x : ℕ). part from j b ++ (x ∷ [])) g in
     ap (λ (l : List ℕ). set l j (getD b (from + j) 0)) e
     ∙ sym (ap (sets out₀ 0) z ∙ sets-append (part from j b) (getD b (from + j) 0 ∷ []) out₀ 0 ∙ ap (λ (x : ℕ). set (sets out₀ 0 (part from j b)) x (getD b (from + j) 0)) (omega arith))
 
@@ -136,7 +142,8 @@ pub some-lies : {b : List ℕ} {d : Draft} (s : Said) → s ≡ said.Done d → 
 some-lies {b} {d} s e (wrote ns) l = (ns, subst (λ (t : Said). SaidAs t b (wrote ns)) e l)
 some-lies {b} {d} s e (refused q) l = absurd (subst (λ (t : Said). SaidAs t b (refused q)) e l)
 
-pub answer-done : {b out out′ : List ℕ} {d : Draft} {r : Wrote} (s : Said) → s ≡ said.Done d → ((ns : Nodes) → Lying b d ns → Answered out out′ r (wrote ns)) → (w : writing.Written) → SaidAs s b w → Answered out out′ r w
+pub answer-done : {b out out′ : List ℕ} {d : Draft} {r : Wrote} (s : Said) → s ≡ said.Done d → ((ns : Nodes) → Lying b d ns → Answered out out′ r (wrote ns)) → (w : writing.Written)
+    → SaidAs s b w → Answered out out′ r w
 answer-done {b} s e h (wrote ns) l = h ns (subst (λ (t : Said). SaidAs t b (wrote ns)) e l)
 answer-done {b} s e h (refused q) l = absurd (subst (λ (t : Said). SaidAs t b (refused q)) e l)
 

@@ -8,17 +8,31 @@ use Rattle.algebra.proofs.answer.integrate_and_write.Tie as tie
 
 write-sum-requires : tie.Need-write-sum-requires
 write-sum-requires c κs =
-    let start = c .before .before .before .before .before .before .before .before .before .before .before .before .before .before .before .before .before .before .before in
+    let after-m = c .before .before .before .before .before in
+    let after-expr-integral = after-m .before .before .before .before .before .before .before in
+    let after-before = after-expr-integral .before .before .before .before .before .before in
+    let place = after-before .before in
+    let start = place in
     let held = start .pre .0 .held in
-    then-held _ (start .args .w) _ (c .before .before .before .before .before .m .given .1) (c .before .before .before .before .before .before .before .before .before .before .before .before .expr-integral .ensures .1 (held .0) (held .1))
+    then-held _ (start .args .w) _ (after-m .m .given .1) (after-expr-integral .expr-integral .ensures .1 (held .0) (held .1))
 
 returns : tie.Need-returns
 unfolding integrateAndWrite
-returns c s l = then-refused recordsIn _ (c .before .before .before .before .before .before .before .before .before .before .before .before .before .before .before .args .w) _ (write (c .before .before .before .before .before .before .before .before .before .before .before .before .before .before .before .args .complex)) (c .before .before .before .before .before .before .before .before .before .before .before .before .before .before .before .args .out .now) (c .before .q .given .1) (c .before .before .before .before .before .before .before .before .expr-integral .ensures .1 s l)
+returns c s l =
+    let after-expr-integral = c .before .before .before .before .before .before .before .before in
+    let start = after-expr-integral .before .before .before .before .before .before .before in
+    let args = start .args in
+    then-refused recordsIn _ (args .w) _ (write (args .complex)) (args .out .now) (c .before .q .given .1) (after-expr-integral .expr-integral .ensures .1 s l)
 
 returns-2 : tie.Need-returns-2
 unfolding integrateAndWrite
-returns-2 c s l = then-made recordsIn _ (c .before .before .before .before .before .before .before .before .before .before .before .before .before .before .before .before .before .before .before .before .before .before .args .w) _ (write (c .before .before .before .before .before .before .before .before .before .before .before .before .before .before .before .before .before .before .before .before .before .before .args .complex)) (c .before .before .before .before .before .before .before .before .m .given .1) (c .before .before .before .before .before .before .before .before .before .before .before .before .before .before .before .expr-integral .ensures .1 s l) (c .before .before .write-sum .ensures)
+returns-2 c s l =
+    let after-write-sum = c .before .before in
+    let after-m = after-write-sum .before .before .before .before .before .before in
+    let after-expr-integral = after-m .before .before .before .before .before .before .before in
+    let start = after-expr-integral .before .before .before .before .before .before .before in
+    let args = start .args in
+    then-made recordsIn _ (args .w) _ (write (args .complex)) (after-m .m .given .1) (after-expr-integral .expr-integral .ensures .1 s l) (after-write-sum .write-sum .ensures)
 
 pub integrate-and-write-spec : {M : Type 1} → statement M
 integrate-and-write-spec =

@@ -100,7 +100,8 @@ again c =
     let l = in-loop y .before in
     let st = from-loop l in
     let on : (s t : Sum) → Lies (B st) (st .args .p) (st .args .p + st .args .n) 4 s → Lies (B st) (st .args .j) (st .args .j + st .args .m) 4 t → _
-    = λ s t ls lt. onward (step (st .args .how)) any (λ k i. true) (λ k p i c u. refl) (N l) (N′ put) (st .args .p) (l .loop .len) (l .loop .q) (st .args .j + st .args .m) 4 s t (y .load .result) (put .put-term .result)
+    = λ s t ls lt. onward (step (st .args .how)) any (λ k i. true) (λ k p i c u. refl) (N l) (N′ put) (st .args .p) (l .loop .len) (l .loop .q) (st .args .j + st .args .m) 4 s t
+    (y .load .result) (put .put-term .result)
     (l .loop .inv .3 s t ls lt) (y .load .ensures) (in-loop y .loop-test .taken) (call put) _ (put .put-term .ensures .0) (apart l) (c .before .before .k .given .1) in
     let few = on (st .pre .1 .held .0) (st .pre .0 .held .0) (st .pre .1 .held .1) (st .pre .0 .held .1) .0 in
     (kept put, omega (arith, l .loop .inv .1), few, λ s t ls lt. on s t ls lt .1)
@@ -140,7 +141,8 @@ add-each-spec =
     let st = from-loop l in (
       kept put,
       λ s t ls lt.
-          stopped (step (st .args .how)) any (λ k i. true) (λ k p i c u. refl) (N l) (N′ put) (st .args .p) (l .loop .len) (l .loop .q) (st .args .j + st .args .m) 4 s t (y .load .result) (put .put-term .result)
+          stopped (step (st .args .how)) any (λ k i. true) (λ k p i c u. refl) (N l) (N′ put) (st .args .p) (l .loop .len) (l .loop .q) (st .args .j + st .args .m) 4 s t (y .load .result)
+          (put .put-term .result)
           (l .loop .inv .3 s t ls lt) (y .load .ensures) (in-loop y .loop-test .taken) (call put) _ (N′ put) (c .before .r .given .1),
     ))
     -- or added
@@ -157,5 +159,6 @@ add-each-spec =
     let l = c .before in
     let st = from-loop l in (
       l .loop .inv .0,
-      λ s t ls lt. ended (step (st .args .how)) any (N l) (st .args .p) (l .loop .len) (l .loop .q) (st .args .j + st .args .m) 4 s t (l .loop .inv .3 s t ls lt) (l .loop .inv .2) (c .loop-test .left),
+      λ s t ls lt. ended (step (st .args .how)) any (N l) (st .args .p) (l .loop .len) (l .loop .q) (st .args .j + st .args .m) 4 s t (l .loop .inv .3 s t ls lt) (l .loop .inv .2)
+          (c .loop-test .left),
     )))

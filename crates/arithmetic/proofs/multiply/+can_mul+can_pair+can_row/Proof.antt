@@ -98,7 +98,8 @@ module _ (t : ℕ) where
   mul-tested : (c : can-mul-lts.After-can-row (can-mul-claims t) (can-mul-at t) can-mul.Post can-mul-Inv-loop can-mul-μ-loop) (s v : Sum) → (let h = c .before .before .before in let st = mul-from h in
       Shape (st .args .kinds .now) (st .args .insides .now) (st .args .i) (st .args .i + st .args .n) (st .args .left) s
       → Shape (st .args .kinds .now) (st .args .insides .now) (st .args .j) (st .args .j + st .args .m) (st .args .left) v
-      → Tested (st .args .kinds .now) (st .args .insides .now) (h .before .loop .q + 1 + getD (st .args .insides .now) (h .before .loop .q) 0) (st .args .i + st .args .n) (st .args .left) (λ u. mulable u v) s (c .can-row .result))
+      → Tested (st .args .kinds .now) (st .args .insides .now) (h .before .loop .q + 1 + getD (st .args .insides .now) (h .before .loop .q) 0) (st .args .i + st .args .n) (st .args .left)
+      (λ u. mulable u v) s (c .can-row .result))
   mul-tested c s v a b =
       let h = c .before .before .before in
       tested _ _ _ _ _ (λ u. mulable u v) (λ k i. rowable k (mulable i) v) s _ (sum-and v) (h .before .loop .inv s v a b) (h .loop-test .taken) (λ i l. c .can-row .ensures i v l b)
@@ -124,7 +125,8 @@ module _ (t : ℕ) where
 
   -- what is left of the sum that the contract asks for
   row-left : (c : row-Loop) → (let st = row-from c in
-      Tests (st .args .kinds .now) (st .args .insides .now) (c .before .loop .q) (st .args .j + st .args .m) (st .args .left) (rowable (st .args .k) (mulable (st .pre .1 .1 .0 .0))) (st .pre .1 .1 .1 .0))
+      Tests (st .args .kinds .now) (st .args .insides .now) (c .before .loop .q) (st .args .j + st .args .m) (st .args .left) (rowable (st .args .k) (mulable (st .pre .1 .1 .0 .0)))
+      (st .pre .1 .1 .1 .0))
   row-left c = let pre = row-from c .pre .1 .1 in c .before .loop .inv (pre .0 .0) (pre .1 .0) (pre .0 .1) (pre .1 .1)
 
   -- its next entry
@@ -137,10 +139,12 @@ module _ (t : ℕ) where
   row-fits c = let st = row-from c in omega (arith, row-first c .within, st .pre .1 .1 .1 .1 .room-n, st .good .1 .1 .1 .1 .1 .1 .0 .0)
 
   -- a pair was tested
-  row-tested : (c : can-row-lts.After-can-pair (can-row-claims t) (can-row-at t) can-row.Post can-row-Inv-loop can-row-μ-loop) (u v : Sum) → (let h = c .before .before .before in let st = row-from h in
+  row-tested : (c : can-row-lts.After-can-pair (can-row-claims t) (can-row-at t) can-row.Post can-row-Inv-loop can-row-μ-loop) (u v : Sum)
+      → (let h = c .before .before .before in let st = row-from h in
       Shape (st .args .kinds .now) (st .args .insides .now) (st .args .i) (st .args .i + st .args .n) (st .args .left - 1) u
       → Shape (st .args .kinds .now) (st .args .insides .now) (st .args .j) (st .args .j + st .args .m) (st .args .left) v
-      → Tested (st .args .kinds .now) (st .args .insides .now) (h .before .loop .q + 1 + getD (st .args .insides .now) (h .before .loop .q) 0) (st .args .j + st .args .m) (st .args .left) (rowable (st .args .k) (mulable u)) v (c .can-pair .result))
+      → Tested (st .args .kinds .now) (st .args .insides .now) (h .before .loop .q + 1 + getD (st .args .insides .now) (h .before .loop .q) 0) (st .args .j + st .args .m) (st .args .left)
+      (rowable (st .args .k) (mulable u)) v (c .can-pair .result))
   row-tested c u v a b =
       let h = c .before .before .before in
       let k = row-from h .args .k in

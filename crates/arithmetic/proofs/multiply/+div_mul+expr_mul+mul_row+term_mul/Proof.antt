@@ -23,7 +23,8 @@ use Rattle.sums.proofs.order.Walk.{Next, next-at, lies-empty}
 use Rattle.arithmetic.proofs.multiply.Shapes.{row-and, sum-and}
 use Rattle.arithmetic.proofs.add.Lying.{clear, clear-part, lies-clear, Agreed, agreed-done}
 use Rattle.arithmetic.proofs.add.Folding.{Folding, outset, here, onward, stopped, ended}
-use Rattle.arithmetic.proofs.multiply.Laws.{rowOf, mul-each, by-powers, by-insides, insides, first-copy, second-copy, copies, made-some, next-pair, next-row, pair-x, pair-div, div-done, div-refused}
+use Rattle.arithmetic.proofs.multiply.Laws.{rowOf, mul-each, by-powers, by-insides, insides, first-copy, second-copy, copies, made-some, next-pair, next-row, pair-x}
+use Rattle.arithmetic.proofs.multiply.Laws.{pair-div, div-done, div-refused}
 use Rattle.arithmetic.proofs.multiply.div_mul.Reads as div-mul
 use Rattle.arithmetic.proofs.multiply.div_mul.Kinds as div-mul-kinds
 use Rattle.arithmetic.proofs.multiply.+div_mul+expr_mul+mul_row+term_mul.Lts-div_mul as div-mul-lts
@@ -147,7 +148,8 @@ module _ (t : ℕ) where
 abbrev expr-mul-Inv-loop : expr-mul-lts.InvT-loop
 expr-mul-Inv-loop kinds₀ insides₀ numbers₀ i n j m p left end q₀ len₀ kinds insides numbers q len =
     (len ≤ 64) × (i ≤ q) × Kept (book kinds₀ insides₀ numbers₀) (book kinds insides numbers) p (p + 64)
-    × ((s v : Sum) → Lies (book kinds₀ insides₀ numbers₀) i (i + n) left s → Lies (book kinds₀ insides₀ numbers₀) j (j + m) left v → Folding (rowOf v) (λ u. mulable u v) (book kinds insides numbers) p len q (i + n) left none s)
+    × ((s v : Sum) → Lies (book kinds₀ insides₀ numbers₀) i (i + n) left s → Lies (book kinds₀ insides₀ numbers₀) j (j + m) left v → Folding (rowOf v) (λ u. mulable u v)
+    (book kinds insides numbers) p len q (i + n) left none s)
 
 abbrev expr-mul-μ-loop : expr-mul-lts.MeasureT-loop
 expr-mul-μ-loop kinds₀ insides₀ numbers₀ i n j m p left end q₀ len₀ kinds insides numbers q len = i + n - q
@@ -240,7 +242,8 @@ module _ (t : ℕ) where
       let l = e-load c in
       let h = e-loop l in
       let a = h .before in
-      onward (rowOf v) (λ u. mulable u v) (λ m i. rowable m (mulable i) v) (sum-and v) (E-W a) (E-W′ c) _ _ _ _ _ none s (l .load .result) (c .mul-row .result) (a .loop .inv .3 s v ls lv) (l .load .ensures) (h .loop-test .taken) (e-call c v lv)
+      onward (rowOf v) (λ u. mulable u v) (λ m i. rowable m (mulable i) v) (sum-and v) (E-W a) (E-W′ c) _ _ _ _ _ none s (l .load .result) (c .mul-row .result) (a .loop .inv .3 s v ls lv)
+      (l .load .ensures) (h .loop-test .taken) (e-call c v lv)
       k (c .mul-row .ensures .0) (clear-part (a .loop .inv .1) (omega arith) (clear (e-at a .pre .1 .0 .first .apart))) e
 
   e-stopped : (c : E-Row) (z : Refusal) → c .mul-row .result ≡ Refused z → (s v : Sum) → (let st = e-at (e-loop (e-load c) .before) in
@@ -250,7 +253,8 @@ module _ (t : ℕ) where
       let h = e-loop l in
       let a = h .before in
       rw (mul-each s v none)
-      (stopped (rowOf v) (λ u. mulable u v) (λ m i. rowable m (mulable i) v) (sum-and v) (E-W a) (E-W′ c) _ _ _ _ _ none s (l .load .result) (c .mul-row .result) (a .loop .inv .3 s v ls lv) (l .load .ensures) (h .loop-test .taken) (e-call c v lv)
+      (stopped (rowOf v) (λ u. mulable u v) (λ m i. rowable m (mulable i) v) (sum-and v) (E-W a) (E-W′ c) _ _ _ _ _ none s (l .load .result) (c .mul-row .result) (a .loop .inv .3 s v ls lv)
+      (l .load .ensures) (h .loop-test .taken) (e-call c v lv)
       z (E-W′ c) e)
 
 -- ---- mul_row
@@ -325,7 +329,8 @@ module _ (t : ℕ) where
 
   -- of the sums that the contract asks for
   r-held : (c : R-At) → (let st = r-at c in let w = st .pre .1 .0 in
-      Folding (mulTerm (st .args .x) (λ u. mulInto (w .t) u none)) (rowable (st .args .x .kind) (mulable (w .t))) (R-W c) (st .args .p) (c .loop .len) (c .loop .q) (st .args .j + st .args .m) (st .args .left) (st .pre .1 .1 .held .0) (w .v))
+      Folding (mulTerm (st .args .x) (λ u. mulInto (w .t) u none)) (rowable (st .args .x .kind) (mulable (w .t))) (R-W c) (st .args .p) (c .loop .len) (c .loop .q)
+      (st .args .j + st .args .m) (st .args .left) (st .pre .1 .1 .held .0) (w .v))
   r-held c =
       let pre = r-at c .pre .1 in
       let w = pre .0 in
@@ -352,13 +357,15 @@ module _ (t : ℕ) where
 
   r-onward : (c : R-Term) (k : ℕ) → c .term-mul .result ≡ Done k → (u v s : Sum) → (let l = r-load c in let a = r-loop l .before in let st = r-at a in
       R-Lies-u st u → R-Lies-v st v → R-Lies-s st s
-      → (k ≤ 64) × Folding (mulTerm (st .args .x) (λ z. mulInto u z none)) (rowable (st .args .x .kind) (mulable u)) (R-W′ c) (st .args .p) k (a .loop .q + 1 + l .load .result .inside) (st .args .j + st .args .m) (st .args .left) s v)
+      → (k ≤ 64) × Folding (mulTerm (st .args .x) (λ z. mulInto u z none)) (rowable (st .args .x .kind) (mulable u)) (R-W′ c) (st .args .p) k (a .loop .q + 1 + l .load .result .inside)
+      (st .args .j + st .args .m) (st .args .left) s v)
   r-onward c k e u v s lu lv ls =
       let l = r-load c in
       let h = r-loop l in
       let a = h .before in
       let x = r-at a .args .x in
-      onward (mulTerm x (λ z. mulInto u z none)) (rowable (x .kind) (mulable u)) (pairable (x .kind) (mulable u)) (row-and (x .kind) (mulable u)) (R-W a) (R-W′ c) _ _ _ _ _ s v (l .load .result) (c .term-mul .result) (a .loop .inv .3 u v s lu lv ls) (l .load .ensures) (h .loop-test .taken) (r-call c u lu)
+      onward (mulTerm x (λ z. mulInto u z none)) (rowable (x .kind) (mulable u)) (pairable (x .kind) (mulable u)) (row-and (x .kind) (mulable u)) (R-W a) (R-W′ c) _ _ _ _ _ s v
+      (l .load .result) (c .term-mul .result) (a .loop .inv .3 u v s lu lv ls) (l .load .ensures) (h .loop-test .taken) (r-call c u lu)
       k (c .term-mul .ensures .0) (clear-part (a .loop .inv .1) (omega arith) (clear (r-at a .pre .1 .0 .second .apart))) e
 
   r-stopped : (c : R-Term) (z : Refusal) → c .term-mul .result ≡ Refused z → (u v s : Sum) → (let st = r-at (r-loop (r-load c) .before) in
@@ -368,7 +375,8 @@ module _ (t : ℕ) where
       let h = r-loop l in
       let a = h .before in
       let x = r-at a .args .x in
-      stopped (mulTerm x (λ z. mulInto u z none)) (rowable (x .kind) (mulable u)) (pairable (x .kind) (mulable u)) (row-and (x .kind) (mulable u)) (R-W a) (R-W′ c) _ _ _ _ _ s v (l .load .result) (c .term-mul .result) (a .loop .inv .3 u v s lu lv ls) (l .load .ensures) (h .loop-test .taken) (r-call c u lu)
+      stopped (mulTerm x (λ z. mulInto u z none)) (rowable (x .kind) (mulable u)) (pairable (x .kind) (mulable u)) (row-and (x .kind) (mulable u)) (R-W a) (R-W′ c) _ _ _ _ _ s v
+      (l .load .result) (c .term-mul .result) (a .loop .inv .3 u v s lu lv ls) (l .load .ensures) (h .loop-test .taken) (r-call c u lu)
       z (R-W′ c) e
 
 -- ---- term_mul
@@ -433,7 +441,8 @@ pub +div-mul+expr-mul+mul-row+term-mul-spec : {M : Type 1} → statement M
     let st = d-start t (d-beside t m) in (
       d .put-div .ensures .0,
       λ u v s lu lv ls.
-          div-done (D-T′ t m) (D-W′ t d) (st .args .p) _ (st .args .coef) (mulInto u v none) s (m .expr-mul .result) (d .put-div .result) (d-agrees t m u v lu lv) (d .before .before .before .before .before .before .before .before .k .given .1)
+          div-done (D-T′ t m) (D-W′ t d) (st .args .p) _ (st .args .coef) (mulInto u v none) s (m .expr-mul .result) (d .put-div .result) (d-agrees t m u v lu lv)
+          (d .before .before .before .before .before .before .before .before .k .given .1)
           (λ w l. d .put-div .ensures .1 w s l ls),
     ))
     (λ c. search needs)
@@ -465,8 +474,14 @@ pub +div-mul+expr-mul+mul-row+term-mul-spec : {M : Type 1} → statement M
     let a = h .before in
     let st = e-at t a in
     let w = e-held t a in
-    let v = a .loop .inv in
-    (omega (arith, st .pre .0), (next-row (st .pre .1 .0) (v .2) (l .load .result) (v .1) w (l .load .ensures) (h .loop-test .taken), record { few = v .0; room = room-same (v .2 .long) (st .pre .1 .1); held = (w .s′, w .lies-s) })))
+    let v = a .loop .inv in (
+      omega (arith, st .pre .0),
+      (
+        next-row (st .pre .1 .0) (v .2) (l .load .result) (v .1) w (l .load .ensures) (h .loop-test .taken),
+        record
+            { few = v .0; room = room-same (v .2 .long) (st .pre .1 .1); held = (w .s′, w .lies-s) },
+      ),
+    ))
     (λ c. search needs)
     (λ c. search needs)
     (λ c. e-kept t (e-refused t c) .long .kinds)
@@ -481,8 +496,13 @@ pub +div-mul+expr-mul+mul-row+term-mul-spec : {M : Type 1} → statement M
     let d = e-done t (c .before) in
     let e = c .before .before .k .given .1 in
     let a = e-loop t (e-load t d) .before in
-    let st = e-at t a in
-    (e-onward t d _ e (st .pre .1 .0 .s) (st .pre .1 .0 .t) (st .pre .1 .0 .first .lies) (st .pre .1 .0 .second .lies) .0, omega (arith, a .loop .inv .1), e-kept t d, λ s v ls lv. e-onward t d _ e s v ls lv .1))
+    let st = e-at t a in (
+      e-onward t d _ e (st .pre .1 .0 .s) (st .pre .1 .0 .t) (st .pre .1 .0 .first .lies) (st .pre .1 .0 .second .lies) .0,
+      omega (arith, a .loop .inv .1),
+      e-kept t d,
+      λ s v ls lv. e-onward t
+          d _ e s v ls lv .1,
+    ))
     (λ c. c .before .loop .inv .2 .long .kinds)
     (λ c. c .before .loop .inv .2 .long .insides)
     (λ c. c .before .loop .inv .2 .long .numbers)
@@ -508,8 +528,14 @@ pub +div-mul+expr-mul+mul-row+term-mul-spec : {M : Type 1} → statement M
     let a = h .before in
     let st = r-at t a in
     let w = r-held t a in
-    let v = a .loop .inv in
-    (omega (arith, st .pre .0, r-first t l .first .deep), (next-pair (st .pre .1 .0) (v .2) (l .load .result) (v .1) w (l .load .ensures) (h .loop-test .taken), record { few = v .0; room = room-same (v .2 .long) (st .pre .1 .1 .room); held = (w .s′, w .lies-s) })))
+    let v = a .loop .inv in (
+      omega (arith, st .pre .0, r-first t l .first .deep),
+      (
+        next-pair (st .pre .1 .0) (v .2) (l .load .result) (v .1) w (l .load .ensures) (h .loop-test .taken),
+        record
+            { few = v .0; room = room-same (v .2 .long) (st .pre .1 .1 .room); held = (w .s′, w .lies-s) },
+      ),
+    ))
     (λ c. search needs)
     (λ c. search needs)
     (λ c. r-kept t (r-refused t c) .long .kinds)
@@ -524,15 +550,23 @@ pub +div-mul+expr-mul+mul-row+term-mul-spec : {M : Type 1} → statement M
     let d = r-done t (c .before) in
     let e = c .before .before .k .given .1 in
     let a = r-loop t (r-load t d) .before in
-    let st = r-at t a in
-    (r-onward t d _ e (st .pre .1 .0 .t) (st .pre .1 .0 .v) (st .pre .1 .1 .held .0) (st .pre .1 .0 .first .inside .lies) (st .pre .1 .0 .second .lies) (st .pre .1 .1 .held .1) .0, omega (arith, a .loop .inv .1), r-kept t d, λ u v s lu lv ls. r-onward t d _ e u v s lu lv ls .1))
+    let st = r-at t a in (
+      r-onward t d _ e (st .pre .1 .0 .t) (st .pre .1 .0 .v) (st .pre .1 .1 .held .0) (st .pre .1 .0 .first .inside .lies) (st .pre .1 .0 .second .lies) (st .pre .1 .1 .held .1) .0,
+      omega
+          (arith, a .loop .inv .1),
+      r-kept t d,
+      λ u v s lu lv ls. r-onward t d _ e u v s lu lv ls .1,
+    ))
     (λ c. c .before .loop .inv .2 .long .kinds)
     (λ c. c .before .loop .inv .2 .long .insides)
     (λ c. c .before .loop .inv .2 .long .numbers)
     (λ c.
     let a = c .before in
-    let x = r-at t a .args .x in
-    (a .loop .inv .2, λ u v s lu lv ls. ended (mulTerm x (λ w. mulInto u w none)) (rowable (x .kind) (mulable u)) (R-W t a) _ _ _ _ _ s v (a .loop .inv .3 u v s lu lv ls) (a .loop .inv .0) (c .loop-test .left))))
+    let x = r-at t a .args .x in (
+      a .loop .inv .2,
+      λ u v s lu lv ls. ended (mulTerm x (λ w. mulInto u w none)) (rowable (x .kind) (mulable u)) (R-W t a) _ _ _ _ _ s v (a .loop .inv .3 u v s lu lv ls) (a .loop .inv .0)
+          (c .loop-test .left),
+    )))
     (λ t.
     term-mul-lts.spec (term-mul-claims t) (term-mul-at t) term-mul.Post
     (λ c κs. let w = c .before .before .pre .1 .0 in (w .first .good .least, w .first .good .most, w .second .good .least, w .second .good .most))
@@ -544,10 +578,12 @@ pub +div-mul+expr-mul+mul-row+term-mul-spec : {M : Type 1} → statement M
     (λ c.
     let d = c .before .before .before .before .before in
     let st = t-x t d in
-    let k = by-powers (st .args .x .kind) (st .args .y .kind) (d .before .before .before .before .before .before .before .before .product-code .ensures) (d .before .before .before .before .before .before .if1 .taken) in (
+    let k = by-powers (st .args .x .kind) (st .args .y .kind) (d .before .before .before .before .before .before .before .before .product-code .ensures)
+    (d .before .before .before .before .before .before .if1 .taken) in (
       d .put-power .ensures .0,
       λ u v s lu lv ls.
-          pair-x (T-W′ t d) (st .args .p) (st .args .x) (st .args .y) (λ w. mulInto u w none) v s _ _ (d .put-power .result) k refl (d .before .before .before .before .before .before .before .mul .ensures) (d .put-power .ensures .1 s ls),
+          pair-x (T-W′ t d) (st .args .p) (st .args .x) (st .args .y) (λ w. mulInto u w none) v s _ _ (d .put-power .result) k refl
+          (d .before .before .before .before .before .before .before .mul .ensures) (d .put-power .ensures .1 s ls),
     ))
     (λ c. search needs)
     (λ c. search needs)
@@ -564,7 +600,9 @@ pub +div-mul+expr-mul+mul-row+term-mul-spec : {M : Type 1} → statement M
     let d = c .before .before .before .before .before in
     let st = t-div t d in
     let p = st .pre .1 .0 in
-    let k = by-insides (st .args .x .kind) (st .args .y .kind) (mulable (p .t)) (p .v) (p .able) (d .before .before .before .before .before .before .before .before .product-code .ensures) (d .before .before .before .before .before .before .if1 .left) in (
+    let k = by-insides (st .args .x .kind) (st .args .y .kind) (mulable (p .t)) (p .v) (p .able) (d .before .before .before .before .before .before .before .before .product-code .ensures)
+    (d .before .before .before .before .before .before .if1 .left) in (
       d .div-mul .ensures .0,
-      λ u v s lu lv ls. pair-div (T-V′ t d) (st .args .p) (st .args .x) (st .args .y) (λ w. mulInto u w none) v s _ (d .div-mul .result) k (d .before .before .before .before .before .before .before .mul .ensures) (d .div-mul .ensures .1 u v s lu lv ls),
+      λ u v s lu lv ls. pair-div (T-V′ t d) (st .args .p) (st .args .x) (st .args .y) (λ w. mulInto u w none) v s _ (d .div-mul .result) k
+          (d .before .before .before .before .before .before .before .mul .ensures) (d .div-mul .ensures .1 u v s lu lv ls),
     )))

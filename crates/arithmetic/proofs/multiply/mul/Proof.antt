@@ -54,5 +54,6 @@ mul-spec =
     let last = e .expr-mul .last in (
       e .expr-mul .ensures .0,
       λ s t ls lt.
-          product-able (book (last .0) (last .1 .0) (last .1 .1 .0)) (st .args .p) s t (e .expr-mul .result) (asked d _ (not-false _ (tested .if1 .left)) s t ls lt) (e .expr-mul .ensures .1 s t ls lt),
+          product-able (book (last .0) (last .1 .0) (last .1 .1 .0)) (st .args .p) s t (e .expr-mul .result) (asked d _ (not-false _ (tested .if1 .left)) s t ls lt)
+          (e .expr-mul .ensures .1 s t ls lt),
     )))

@@ -27,10 +27,20 @@ returns : tie.Need-returns
 unfolding fieldsOk
 returns c =
     let r = c .before .before .before .before .before .before .before .before .before .before .before .before .before .before .args .r in
-    rw (c .before .before .before .before .before .before .before .before .before .before .before .before .before .is-known .ensures, c .before .before .before .before .before .before .before .before .before .before .before .before .is-a .ensures, c .before .before .before .before .before .before .before .before .before .before .before .is-a2 .ensures, c .before .before .before .before .before .before .before .before .before .before .is-a3 .ensures, c .before .before .before .before .before .before .before .before .before .is-a4 .ensures, c .before .before .before .before .before .before .before .before .is-a5 .ensures, c .before .before .before .before .before .before .before .is-a6 .ensures, c .before .before .before .before .before .before .is-a7 .ensures)
+    rw (
+      c .before .before .before .before .before .before .before .before .before .before .before .before .before .is-known .ensures,
+      c .before .before .before .before .before .before .before .before .before .before .before .before .is-a .ensures,
+      c .before .before .before .before .before .before .before .before .before .before .before .is-a2 .ensures,
+      c .before .before .before .before .before .before .before .before .before .before .is-a3 .ensures,
+      c .before .before .before .before .before .before .before .before .before .is-a4 .ensures,
+      c .before .before .before .before .before .before .before .before .is-a5 .ensures,
+      c .before .before .before .before .before .before .before .is-a6 .ensures,
+      c .before .before .before .before .before .before .is-a7 .ensures,
+    )
     (ap₂ _&&_
     (ap₂ _&&_
-    (ap₂ _&&_ (ap₂ _&&_ (ap (_&&_ (isKnown (kindOf (r .kind)) && eqb (r .blank) 0)) (two (isA r Primitive) (isA r Modifier) (eqb (r .code) 0))) (one (isA r Body) (eqb (r .args) 0))) (four (isA r Modifier) (isA r Body) (isA r Run) (isA r CustomInverse) (eqb (r .inside) 0)))
+    (ap₂ _&&_ (ap₂ _&&_ (ap (_&&_ (isKnown (kindOf (r .kind)) && eqb (r .blank) 0)) (two (isA r Primitive) (isA r Modifier) (eqb (r .code) 0))) (one (isA r Body) (eqb (r .args) 0)))
+    (four (isA r Modifier) (isA r Body) (isA r Run) (isA r CustomInverse) (eqb (r .inside) 0)))
     (two (isA r RealPush) (isA r ComplexPush) (eqb (r .re) 0)))
     (one (isA r ComplexPush) (eqb (r .im) 0)))
 

@@ -9,7 +9,23 @@ unfolding kindOf
 otherwise c =
     let b = c .before .args .b in
     let n = c .match .rest in
-    rw (ne-eqb b 1 (n .0 .0 .0 .0 .0 .0 .0 .0 .0 .0 .0 .0 .1), ne-eqb b 2 (n .0 .0 .0 .0 .0 .0 .0 .0 .0 .0 .0 .1), ne-eqb b 3 (n .0 .0 .0 .0 .0 .0 .0 .0 .0 .0 .1), ne-eqb b 4 (n .0 .0 .0 .0 .0 .0 .0 .0 .0 .1), ne-eqb b 5 (n .0 .0 .0 .0 .0 .0 .0 .0 .1), ne-eqb b 6 (n .0 .0 .0 .0 .0 .0 .0 .1), ne-eqb b 7 (n .0 .0 .0 .0 .0 .0 .1), ne-eqb b 8 (n .0 .0 .0 .0 .0 .1), ne-eqb b 9 (n .0 .0 .0 .0 .1), ne-eqb b 10 (n .0 .0 .0 .1), ne-eqb b 11 (n .0 .0 .1), ne-eqb b 12 (n .0 .1), ne-eqb b 13 (n .1))
+    rw (
+      ne-eqb b 1 (n .0 .0 .0 .0 .0 .0 .0 .0 .0 .0 .0 .0 .1),
+      ne-eqb b 2 (n .0 .0 .0 .0 .0 .0 .0 .0 .0 .0 .0 .1),
+      ne-eqb b 3 (n .0 .0 .0 .0 .0 .0 .0 .0 .0 .0 .1),
+      ne-eqb b 4
+          (n .0 .0 .0 .0 .0 .0 .0 .0 .0 .1),
+      ne-eqb b 5 (n .0 .0 .0 .0 .0 .0 .0 .0 .1),
+      ne-eqb b 6 (n .0 .0 .0 .0 .0 .0 .0 .1),
+      ne-eqb b 7 (n .0 .0 .0 .0 .0 .0 .1),
+      ne-eqb b 8
+          (n .0 .0 .0 .0 .0 .1),
+      ne-eqb b 9 (n .0 .0 .0 .0 .1),
+      ne-eqb b 10 (n .0 .0 .0 .1),
+      ne-eqb b 11 (n .0 .0 .1),
+      ne-eqb b 12 (n .0 .1),
+      ne-eqb b 13 (n .1),
+    )
 
 pub kind-of-spec : {M : Type 1} → statement M
 unfolding kindOf

@@ -9,7 +9,15 @@ unfolding modifierOf
 otherwise c =
     let b = c .before .args .code in
     let n = c .match .rest in
-    rw (ne-eqb b 1 (n .0 .0 .0 .0 .0 .0 .1), ne-eqb b 2 (n .0 .0 .0 .0 .0 .1), ne-eqb b 3 (n .0 .0 .0 .0 .1), ne-eqb b 4 (n .0 .0 .0 .1), ne-eqb b 5 (n .0 .0 .1), ne-eqb b 6 (n .0 .1), ne-eqb b 7 (n .1))
+    rw (
+      ne-eqb b 1 (n .0 .0 .0 .0 .0 .0 .1),
+      ne-eqb b 2 (n .0 .0 .0 .0 .0 .1),
+      ne-eqb b 3 (n .0 .0 .0 .0 .1),
+      ne-eqb b 4 (n .0 .0 .0 .1),
+      ne-eqb b 5 (n .0 .0 .1),
+      ne-eqb b 6 (n .0 .1),
+      ne-eqb b 7 (n .1),
+    )
 
 pub modifier-of-spec : {M : Type 1} → statement M
 unfolding modifierOf

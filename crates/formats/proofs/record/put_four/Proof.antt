@@ -10,7 +10,8 @@ use Rattle.formats.proofs.record.put_four.Tie as tie
 
 returns : tie.Need-returns
 unfolding bytes
-returns c = rw (c .before .before .before .low .ensures, c .before .before .low2 .ensures, c .before .low3 .ensures, c .low4 .ensures) (sym (sets-four (c .before .before .before .before .before .args .out .now) (c .before .before .before .before .before .args .at) _ _ _ _))
+returns c = rw (c .before .before .before .low .ensures, c .before .before .low2 .ensures, c .before .low3 .ensures, c .low4 .ensures)
+    (sym (sets-four (c .before .before .before .before .before .args .out .now) (c .before .before .before .before .before .args .at) _ _ _ _))
 
 pub put-four-spec : {M : Type 1} → statement M
 put-four-spec =

@@ -14,16 +14,20 @@ use Rattle.formats.proofs.record.put_record.Statement.{statement}
 use Rattle.formats.proofs.record.put_record.Tie as tie
 
 module _ (c : tie.After-slice-known4) where
-  stored : c .before .before .put-eight2 .last .0 ≡ sets (c .before .before .before .before .before .before .before .before .before .before .before .before .before .before .args .out .now) (24 * c .before .before .before .before .before .before .before .before .before .before .before .before .before .before .args .i) (encodeRec (c .before .before .before .before .before .before .before .before .before .before .before .before .before .before .args .r))
+  stored : c .before .before .put-eight2 .last .0 ≡ sets (c .before .before .before .before .before .before .before .before .before .before .before .before .before .before .args .out .now)
+      (24 * c .before .before .before .before .before .before .before .before .before .before .before .before .before .before .args .i)
+      (encodeRec (c .before .before .before .before .before .before .before .before .before .before .before .before .before .before .args .r))
   stored =
       let a = c .before .before .before .before .before .before .before .before .before .before .before .before .before .before .args in
       c .before .before .put-eight2 .ensures
       ∙ ap (λ (l : List ℕ). sets l (24 * a .i + 16) (bytes 8 (a .r .im)))
-      (c .before .before .before .before .before .before .put-eight .ensures ∙ ap (λ (l : List ℕ). sets l (24 * a .i + 8) (bytes 8 (a .r .re))) (c .before .before .before .before .before .before .before .before .before .before .put-four .ensures))
+      (c .before .before .before .before .before .before .put-eight .ensures ∙ ap (λ (l : List ℕ). sets l (24 * a .i + 8) (bytes 8 (a .r .re)))
+      (c .before .before .before .before .before .before .before .before .before .before .put-four .ensures))
       ∙ stores-record (a .out .now) (24 * a .i) (a .r)
 
   long : length (c .before .before .put-eight2 .last .0) ≡ length (c .before .before .before .before .before .before .before .before .before .before .before .before .before .before .args .out .now)
-  long = let a = c .before .before .before .before .before .before .before .before .before .before .before .before .before .before .args in ap length stored ∙ length-sets (a .out .now) (24 * a .i) (encodeRec (a .r))
+  long = let a = c .before .before .before .before .before .before .before .before .before .before .before .before .before .before .args in ap length stored ∙ length-sets (a .out .now)
+      (24 * a .i) (encodeRec (a .r))
 
 returns : tie.Need-returns
 returns c =

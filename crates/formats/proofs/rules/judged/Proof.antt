@@ -19,15 +19,18 @@ too-many c = let n = length (c .before .before .before .args .list .now) in rw (
 
 bad : tie.Need-returns-3
 unfolding verdict parse
-bad c = let n = length (c .before .before .before .before .before .before .args .list .now) in rw (eq-eqb (n % 24) 0 (omega arith), le-leb (n / 24) 2048 (omega arith), ← c .before .before .shape-of .ensures, c .enum-told .given .1)
+bad c = let n = length (c .before .before .before .before .before .before .args .list .now) in rw
+    (eq-eqb (n % 24) 0 (omega arith), le-leb (n / 24) 2048 (omega arith), ← c .before .before .shape-of .ensures, c .enum-told .given .1)
 
 good : tie.Need-returns-4
 unfolding verdict parse
-good c = let n = length (c .before .before .before .before .before .before .before .before .args .list .now) in rw (eq-eqb (n % 24) 0 (omega arith), le-leb (n / 24) 2048 (omega arith), ← c .before .before .before .before .shape-of .ensures, c .before .before .h .given .1, le-leb _ _ (c .if3 .taken))
+good c = let n = length (c .before .before .before .before .before .before .before .before .args .list .now) in rw
+    (eq-eqb (n % 24) 0 (omega arith), le-leb (n / 24) 2048 (omega arith), ← c .before .before .before .before .shape-of .ensures, c .before .before .h .given .1, le-leb _ _ (c .if3 .taken))
 
 deep : tie.Need-returns-5
 unfolding verdict parse
-deep c = let n = length (c .before .before .before .before .before .before .before .before .args .list .now) in rw (eq-eqb (n % 24) 0 (omega arith), le-leb (n / 24) 2048 (omega arith), ← c .before .before .before .before .shape-of .ensures, c .before .before .h .given .1, lt-leb _ _ (c .if3 .left))
+deep c = let n = length (c .before .before .before .before .before .before .before .before .args .list .now) in rw
+    (eq-eqb (n % 24) 0 (omega arith), le-leb (n / 24) 2048 (omega arith), ← c .before .before .before .before .shape-of .ensures, c .before .before .h .given .1, lt-leb _ _ (c .if3 .left))
 
 pub judged-spec : {M : Type 1} → statement M
 judged-spec = tie.close (tie.spec not-whole too-many (λ c κs. search needs) (λ c. search needs) (λ c. search needs) bad good deep)

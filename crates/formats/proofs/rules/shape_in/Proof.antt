@@ -36,7 +36,8 @@ bad c =
     let a = c .before .before .before .before .before .before .before .before .before .before .before .before .args in
     let r = c .before .before .before .before .before .before .before .record-at in
     let i : ℕ = c .before .before .before .before .before .before .before .before .before .loop .i - 1 in
-    sym (bad-inside (a .list .now) i (a .n) (omega arith) (inner-shape (a .list .now) i (r .result) (c .before .before .before .is-a .result) (c .before .before .stretch-shape .result) Bad (r .ensures .0) (c .before .before .before .is-a .ensures) (c .before .before .stretch-shape .ensures) (c .enum-told .given .1)))
+    sym (bad-inside (a .list .now) i (a .n) (omega arith) (inner-shape (a .list .now) i (r .result) (c .before .before .before .is-a .result) (c .before .before .stretch-shape .result) Bad
+    (r .ensures .0) (c .before .before .before .is-a .ensures) (c .before .before .stretch-shape .ensures) (c .enum-told .given .1)))
 
 height-fits : tie.Need-cast-heights Inv μ
 height-fits c =
@@ -44,7 +45,8 @@ height-fits c =
     let r = c .before .before .before .before .before .before .before .before .record-at in
     let i : ℕ = c .before .before .before .before .before .before .before .before .before .before .loop .i - 1 in
     let g = c .before .inner .given in
-    let inside = inner-shape (a .list .now) i (r .result) (c .before .before .before .before .is-a .result) (c .before .before .before .stretch-shape .result) (Tall (g .0 .0)) (r .ensures .0) (c .before .before .before .before .is-a .ensures) (c .before .before .before .stretch-shape .ensures) (g .1) in
+    let inside = inner-shape (a .list .now) i (r .result) (c .before .before .before .before .is-a .result) (c .before .before .before .stretch-shape .result) (Tall (g .0 .0))
+    (r .ensures .0) (c .before .before .before .before .is-a .ensures) (c .before .before .before .stretch-shape .ensures) (g .1) in
     let e = ap (λ (x : Record). x .inside) (r .ensures .0) in
     omega (arith, tall-least (isA (recAt (a .list .now) i) Modifier) (a .list .now) (i + 1) (nextOf (a .list .now) i) (g .0 .0) inside)
 
@@ -58,7 +60,9 @@ again c =
     let q : i + 1 ≡ l .i = omega arith in (
       omega arith,
       length-set (l .heights) i (g .0 .0) ∙ l .inv .1,
-      measured-more (a .list .now) (l .heights) i (a .n) (g .0 .0) (omega arith) (inner-shape (a .list .now) i (r .result) (c .before .before .before .before .is-a .result) (c .before .before .before .stretch-shape .result) (Tall (g .0 .0)) (r .ensures .0) (c .before .before .before .before .is-a .ensures) (c .before .before .before .stretch-shape .ensures) (g .1)) (rw q (l .inv .2)),
+      measured-more (a .list .now) (l .heights) i (a .n) (g .0 .0) (omega arith)
+          (inner-shape (a .list .now) i (r .result) (c .before .before .before .before .is-a .result) (c .before .before .before .stretch-shape .result) (Tall (g .0 .0)) (r .ensures .0)
+          (c .before .before .before .before .is-a .ensures) (c .before .before .before .stretch-shape .ensures) (g .1)) (rw q (l .inv .2)),
     )
 
 pub shape-in-spec : {M : Type 1} → statement M

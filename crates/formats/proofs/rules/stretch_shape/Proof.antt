@@ -24,7 +24,8 @@ bad c =
     let a = c .before .before .before .before .before .before .before .args in
     let l = c .before .before .before .before .loop in
     let r = c .before .before .record-at in
-    sym (l .inv .1 ∙ ap (joinAt (l .tall)) (turn-bad (a .bodies) (a .list .now) (l .at) (a .to) (r .result) (omega arith) (r .ensures .0) (sym (c .before .may-stand .ensures) ∙ not-true _ (c .if1 .taken))))
+    sym (l .inv .1 ∙ ap (joinAt (l .tall)) (turn-bad (a .bodies) (a .list .now) (l .at) (a .to) (r .result) (omega arith) (r .ensures .0)
+    (sym (c .before .may-stand .ensures) ∙ not-true _ (c .if1 .taken))))
 
 height-fits : tie.Need-cast-larger Inv μ
 height-fits c =
@@ -32,7 +33,11 @@ height-fits c =
     let l = c .before .before .before .before .before .loop in
     let r = c .before .before .before .record-at in
     let e : r .result .inside ≡ recAt (a .list .now) (l .at) .inside = ap (λ (x : Record). x .inside) (r .ensures .0) in
-    omega (arith, tall-least (isA (recAt (a .list .now) (l .at)) Modifier) (a .list .now) (l .at + 1) (nextOf (a .list .now) (l .at)) (getD (a .heights .now) (l .at) 0) (c .before .before .before .before .before .before .before .before .pre .1 (l .at) (l .inv .0) (omega arith)))
+    omega (
+      arith,
+      tall-least (isA (recAt (a .list .now) (l .at)) Modifier) (a .list .now) (l .at + 1) (nextOf (a .list .now) (l .at)) (getD (a .heights .now) (l .at) 0)
+          (c .before .before .before .before .before .before .before .before .pre .1 (l .at) (l .inv .0) (omega arith)),
+    )
 
 tall-fits : tie.Need-add-larger Inv μ
 tall-fits c =
@@ -40,7 +45,11 @@ tall-fits c =
     let l = c .before .before .before .before .before .loop in
     let r = c .before .before .before .record-at in
     let e : r .result .inside ≡ recAt (a .list .now) (l .at) .inside = ap (λ (x : Record). x .inside) (r .ensures .0) in
-    omega (arith, tall-least (isA (recAt (a .list .now) (l .at)) Modifier) (a .list .now) (l .at + 1) (nextOf (a .list .now) (l .at)) (getD (a .heights .now) (l .at) 0) (c .before .before .before .before .before .before .before .before .pre .1 (l .at) (l .inv .0) (omega arith)))
+    omega (
+      arith,
+      tall-least (isA (recAt (a .list .now) (l .at)) Modifier) (a .list .now) (l .at + 1) (nextOf (a .list .now) (l .at)) (getD (a .heights .now) (l .at) 0)
+          (c .before .before .before .before .before .before .before .before .pre .1 (l .at) (l .inv .0) (omega arith)),
+    )
 
 again : tie.Need-loop-again Inv μ
 again c =
@@ -52,7 +61,9 @@ again c =
       omega arith,
       l .inv .1
           ∙ ap (joinAt (l .tall))
-          (turn-good (a .bodies) (a .list .now) (l .at) (a .to) (r .result) (omega arith) (r .ensures .0) h (sym (c .before .before .before .before .may-stand .ensures) ∙ not-false _ (c .before .before .before .if1 .left)) (c .before .before .before .before .before .before .before .before .before .before .pre .1 (l .at) (l .inv .0) (omega arith)))
+          (turn-good (a .bodies) (a .list .now) (l .at) (a .to) (r .result) (omega arith) (r .ensures .0) h
+          (sym (c .before .before .before .before .may-stand .ensures) ∙ not-false _ (c .before .before .before .if1 .left))
+          (c .before .before .before .before .before .before .before .before .before .before .pre .1 (l .at) (l .inv .0) (omega arith)))
           ∙ join-join (l .tall) (h + 1) y
           ∙ ap (λ m. joinAt m y) (sym (c .before .larger .ensures)),
     )

@@ -21,7 +21,8 @@ abbrev B : tie.Start → Book
 B c = book (c .args .kinds .now) (c .args .insides .now) (c .args .numbers .now)
 
 -- what real number the base is
-real-number : (c : tie.After-real-of) (r : Real) → c .real-of .result ≡ r → (t : Sum) → (let st = start c in Lies (B st) (st .args .j) (st .args .j + st .args .m) 4 t → realOf (constantOf (asConstant t)) ≡ r)
+real-number : (c : tie.After-real-of) (r : Real) → c .real-of .result ≡ r → (t : Sum)
+    → (let st = start c in Lies (B st) (st .args .j) (st .args .j + st .args .m) 4 t → realOf (constantOf (asConstant t)) ≡ r)
 real-number c r h t lt = ap realOf (sym (c .before .as-constant .ensures t lt)) ∙ sym (c .real-of .ensures) ∙ h
 
 pub log-spec : {M : Type 1} → statement M

@@ -11,7 +11,8 @@ use Rattle.sums.specs.Tree.Sums.{Sum}
 use Rattle.sums.specs.Contract.Lies.{Lies}
 use Rattle.arithmetic.specs.Add.Contract.Operands.{Source}
 use Rattle.arithmetic.proofs.add.Lying.{clear, lies-clear}
-use Rattle.powers.proofs.raise.Turns.{Two, turn-two, turn-kept, turn-room, turn-base, source-kept, Place, first, So-far, so-far-start, turn-so-far, turn-next, last-place, so-far-more, so-far-stops, so-far-done}
+use Rattle.powers.proofs.raise.Turns.{Two, turn-two, turn-kept, turn-room, turn-base, source-kept, Place, first, So-far, so-far-start, turn-so-far, turn-next, last-place}
+use Rattle.powers.proofs.raise.Turns.{so-far-more, so-far-stops, so-far-done}
 use Rattle.powers.proofs.raise.multiply.Statement.{statement}
 use Rattle.powers.proofs.raise.multiply.Tie as tie
 
@@ -91,8 +92,12 @@ multiply-spec =
     (λ c κs.
     let q = c .before .before .before in
     let l = looped q in
-    let held = start l .pre .1 .held in
-    (turn-so-far (source l) (l .loop .inv .few) (l .loop .inv .place) (l .loop .inv .so-far (held .0) (held .1)) (q .turn-place .ensures), turn-base (two q) (source l), turn-room (two q) (room-same (l .loop .inv .kept .long) (start l .pre .2))))
+    let held = start l .pre .1 .held in (
+      turn-so-far (source l) (l .loop .inv .few) (l .loop .inv .place) (l .loop .inv .so-far (held .0) (held .1)) (q .turn-place .ensures),
+      turn-base (two q) (source l),
+      turn-room (two q)
+          (room-same (l .loop .inv .kept .long) (start l .pre .2)),
+    ))
     (λ c. search needs)
     (λ c. search needs)
     -- a product is refused
@@ -106,7 +111,8 @@ multiply-spec =
       kept made,
       λ s ls.
           let G = l .loop .inv .so-far s ls in
-          so-far-stops (N′ made) (q .turn-place .result) (q .before .loop-test .taken) G (made .mul .result) (made .mul .ensures .1 (G .acc) s (G .made) (base l s ls)) (start l .args .w) _ (c .before .r .given .1),
+          so-far-stops (N′ made) (q .turn-place .result) (q .before .loop-test .taken) G (made .mul .result) (made .mul .ensures .1 (G .acc) s (G .made) (base l s ls)) (start l .args .w) _
+          (c .before .r .given .1),
     ))
     (λ c. let q = placed (c .before .before .before .before .before .before .before .before) in omega (arith, q .before .loop-test .taken))
     (λ c. let q = placed (c .before .before .before .before .before .before .before .before) in omega (arith, q .before .loop-test .taken))

@@ -7,7 +7,8 @@ use Rattle.replay_lists.proofs.files.run_open.Statement.{statement}
 use Rattle.replay_lists.proofs.files.run_open.Tie as tie
 
 abbrev Inv-loop : tie.InvT-loop
-Inv-loop name fd counts₀ text₀ input₀ want₀ had₀ held₀ turns₀ counts text input want had held turns = (had ≤ length text) × (length text ≡ length text₀) × (length input ≡ length input₀) × (length want ≡ length want₀)
+Inv-loop name fd counts₀ text₀ input₀ want₀ had₀ held₀ turns₀ counts text input want had held turns = (had ≤ length text) × (length text ≡ length text₀) × (length input ≡ length input₀) ×
+    (length want ≡ length want₀)
 
 abbrev μ-loop : tie.MeasureT-loop
 μ-loop name fd counts₀ text₀ input₀ want₀ had₀ held₀ turns₀ counts text input want had held turns = turns

@@ -28,6 +28,10 @@ act-spec =
     (λ c. search needs)
     (λ c.
     let a = c .before .before .before .before .before .before .before .before .before .args in
-    let l = c .before .before .apply in
-    (rw (c .before .before .before .before .before .before .enum-told2 .given .1) (l .ensures .0 ∙ ap (λ w. apply w (stackOf (a .stack .now) (a .n))) (c .before .before .before .before .work-of .ensures ∙ ap workOf (c .before .before .before .before .before .primitive-of .ensures))), l .ensures .1))
+    let l = c .before .before .apply in (
+      rw (c .before .before .before .before .before .before .enum-told2 .given .1)
+          (l .ensures .0 ∙ ap (λ w. apply w (stackOf (a .stack .now) (a .n)))
+          (c .before .before .before .before .work-of .ensures ∙ ap workOf (c .before .before .before .before .before .primitive-of .ensures))),
+      l .ensures .1,
+    ))
     (λ c. (rw (c .before .d .given .1) refl, tt)))

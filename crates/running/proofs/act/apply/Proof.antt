@@ -34,11 +34,17 @@ apply-spec =
     (λ c.
     let a = c .before .before .before .before .before .before .before .before .before .before .before .args in
     let g = c .before .before .before .before .before .before .before .before .w2 .given in
-    let l = c .before .before .leave in
-    (rw (g .1) (l .ensures .0 ∙ sym (apply-one (g .0 .0) (a .stack .now) (a .n) (omega (arith, c .before .before .before .before .before .before .if1 .left)) (c .before .before .before .before .of-one .ensures))), under-more (l .result) (omega arith) (l .ensures .1)))
+    let l = c .before .before .leave in (
+      rw (g .1) (l .ensures .0 ∙ sym (apply-one (g .0 .0) (a .stack .now) (a .n) (omega (arith, c .before .before .before .before .before .before .if1 .left))
+          (c .before .before .before .before .of-one .ensures))),
+      under-more (l .result) (omega arith) (l .ensures .1),
+    ))
     (λ c. search needs)
     (λ c.
     let a = c .before .before .before .before .before .before .before .before .before .before .before .before .args in
     let g = c .before .before .before .before .before .before .before .before .before .w3 .given in
-    let l = c .before .before .leave2 in
-    (rw (g .1) (l .ensures .0 ∙ sym (apply-two (g .0 .0) (a .stack .now) (a .n) (omega (arith, c .before .before .before .before .before .before .before .if2 .left)) (c .before .before .before .before .of-two .ensures))), under-more (l .result) (omega arith) (l .ensures .1))))
+    let l = c .before .before .leave2 in (
+      rw (g .1) (l .ensures .0 ∙ sym (apply-two (g .0 .0) (a .stack .now) (a .n) (omega (arith, c .before .before .before .before .before .before .before .if2 .left))
+          (c .before .before .before .before .of-two .ensures))),
+      under-more (l .result) (omega arith) (l .ensures .1),
+    )))

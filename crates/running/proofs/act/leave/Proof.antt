@@ -20,7 +20,12 @@ leave-spec =
     (λ c. search needs)
     (λ c. search needs)
     (λ c κs. search needs)
-    (λ c. (rw (c .before .before .before .l2 .given .1) (sym (leave-bad (c .before .before .before .l2 .given .0 .0) (stackOf (c .before .before .before .before .before .before .args .stack .now) (c .before .before .before .before .before .before .args .n)) (sym (c .before .is-finite .ensures) ∙ not-true _ (c .if1 .taken)))), tt))
+    (λ c. (
+      rw (c .before .before .before .l2 .given .1) (sym (leave-bad (c .before .before .before .l2 .given .0 .0)
+          (stackOf (c .before .before .before .before .before .before .args .stack .now) (c .before .before .before .before .before .before .args .n))
+          (sym (c .before .is-finite .ensures) ∙ not-true _ (c .if1 .taken)))),
+      tt,
+    ))
     (λ c. search needs)
     (λ c. search needs)
     (λ c. search needs)
@@ -44,7 +49,11 @@ leave-spec =
     (λ c. (rw (c .before .l .given .1), tt))
     (λ c. (rw (c .enum-told .given .1), omega arith))
     (λ c. search needs)
-    (λ c. let x = c .before .before .before .before .before .before .args in (rw (c .before .before .before .l2 .given .1) (ap went (stack-push (x .stack .now) (x .n) (c .before .before .before .l2 .given .0 .0) (omega arith)) ∙ sym (leave-one (c .before .before .before .l2 .given .0 .0) (stackOf (x .stack .now) (x .n)) (sym (c .before .is-finite .ensures) ∙ not-false _ (c .if1 .left)))), omega arith))
+    (λ c. let x = c .before .before .before .before .before .before .args in (
+      rw (c .before .before .before .l2 .given .1) (ap went (stack-push (x .stack .now) (x .n) (c .before .before .before .l2 .given .0 .0) (omega arith)) ∙ sym
+          (leave-one (c .before .before .before .l2 .given .0 .0) (stackOf (x .stack .now) (x .n)) (sym (c .before .is-finite .ensures) ∙ not-false _ (c .if1 .left)))),
+      omega arith,
+    ))
     (λ c. search needs)
     (λ c.
     let x = c .before .before .before .before .args in

@@ -18,4 +18,10 @@ run-spec =
     (λ c. rw (← c .before .before .before .before .check .ensures .0, c .before .before .enum-told .given .1, ← c .before .is-finite .ensures, not-true (c .before .is-finite .result) (c .if1 .taken)))
     (λ c κs. sym (c .before .before .before .before .check .ensures .0) ∙ c .before .before .enum-told .given .1)
     (λ c. rw (← c .before .before .before .check .ensures .0, c .before .q .given .1))
-    (λ c. rw (← c .before .before .before .before .before .check .ensures .0, c .before .before .before .enum-told .given .1, ← c .before .before .is-finite .ensures, not-false (c .before .before .is-finite .result) (c .before .if1 .left)) (c .run-nodes .ensures)))
+    (λ c. rw (
+      ← c .before .before .before .before .before .check .ensures .0,
+      c .before .before .before .enum-told .given .1,
+      ← c .before .before .is-finite .ensures,
+      not-false
+          (c .before .before .is-finite .result) (c .before .if1 .left),
+    ) (c .run-nodes .ensures)))

@@ -19,4 +19,5 @@ run-nodes-spec =
     (λ c κs. rw (c .before .count-records .ensures) (start-ready (c .before .before .before .args .list .now) (c .before .before .before .pre) _ refl _ refl refl))
     (λ c. search needs)
     (λ c κs. search needs)
-    (λ c. let a = c .before .before .before .before .before .before .before .args in c .last-of .ensures ∙ ap ended (c .before .before .before .walk .ensures .0 ∙ ap (λ n. runs (forest (a .list .now) 0 n) 0 0 (start (a .x))) (c .before .before .before .before .before .count-records .ensures))))
+    (λ c. let a = c .before .before .before .before .before .before .before .args in c .last-of .ensures ∙ ap ended
+    (c .before .before .before .walk .ensures .0 ∙ ap (λ n. runs (forest (a .list .now) 0 n) 0 0 (start (a .x))) (c .before .before .before .before .before .count-records .ensures))))

@@ -21,8 +21,10 @@ settled-spec =
     (λ c. (λ xs. rw (c .before .d .given .1), tt))
     (λ c.
     let a = c .before .before .before .before .before .before .args in
-    let g = c .before .before .before .before .d2 .given in
-    (λ xs. rw (g .1) (sym (settle-went xs (a .held) (a .at) (viewState xs (a .st)) (g .0 .0) ∙ rw (le-leb _ _ (c .before .before .if1 .taken), ← c .before .larger .ensures))), (omega arith, omega arith)))
+    let g = c .before .before .before .before .d2 .given in (
+      λ xs. rw (g .1) (sym (settle-went xs (a .held) (a .at) (viewState xs (a .st)) (g .0 .0) ∙ rw (le-leb _ _ (c .before .before .if1 .taken), ← c .before .larger .ensures))),
+      (omega arith, omega arith),
+    ))
     (λ c.
     let a = c .before .before .before .before .args in
     let g = c .before .before .d2 .given in

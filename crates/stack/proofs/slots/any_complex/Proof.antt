@@ -23,9 +23,12 @@ any-complex-spec =
     (λ c. omega (arith, scanned-held (c .top-size .result) (c .before .before .loop .inv) (c .before .loop-test .taken) (c .top-size .ensures) .0))
     (λ c κs. scanned-held (c .top-size .result) (c .before .before .loop .inv) (c .before .loop-test .taken) (c .top-size .ensures) .2)
     -- a sum that is complex
-    (λ c ss st. scanned-found (c .before .before .top-size .result) (c .before .is-complex .result) (c .before .before .before .before .loop .inv) (c .before .before .before .loop-test .taken) (c .before .before .top-size .ensures) (c .before .is-complex .ensures) (c .if1 .taken) ss st)
+    (λ c ss st. scanned-found (c .before .before .top-size .result) (c .before .is-complex .result) (c .before .before .before .before .loop .inv)
+    (c .before .before .before .loop-test .taken) (c .before .before .top-size .ensures) (c .before .is-complex .ensures) (c .if1 .taken) ss st)
     -- one that is not
-    (λ c. let held = scanned-held (c .before .before .top-size .result) (c .before .before .before .before .loop .inv) (c .before .before .before .loop-test .taken) (c .before .before .top-size .ensures) in omega (arith, held .0, held .1))
-    (λ c. scanned-past (c .before .before .top-size .result) (c .before .is-complex .result) (c .before .before .before .before .loop .inv) (c .before .before .before .loop-test .taken) (c .before .before .top-size .ensures) (c .before .is-complex .ensures) (c .if1 .left))
+    (λ c. let held = scanned-held (c .before .before .top-size .result) (c .before .before .before .before .loop .inv) (c .before .before .before .loop-test .taken)
+    (c .before .before .top-size .ensures) in omega (arith, held .0, held .1))
+    (λ c. scanned-past (c .before .before .top-size .result) (c .before .is-complex .result) (c .before .before .before .before .loop .inv) (c .before .before .before .loop-test .taken)
+    (c .before .before .top-size .ensures) (c .before .is-complex .ensures) (c .if1 .left))
     -- nothing is left
     (λ c ss st. scanned-end (c .before .loop .inv) (c .loop-test .left) ss st))

@@ -12,7 +12,9 @@ abbrev μ-loop : tie.MeasureT-loop
 μ-loop z lo hi k p₀ left₀ p left = left
 
 -- the next sum is passed
-passed : (c : tie.After-top-size Inv-loop μ-loop) → (let l = c .before .before .before .loop in (c .top-size .result ≤ l .p) × Sought (c .before .before .before .before .before .args .sizes .now) (c .before .before .before .before .before .args .lo) (c .before .before .before .before .before .args .hi) (c .before .before .before .before .before .args .k) (l .p - c .top-size .result) (l .left - 1))
+passed : (c : tie.After-top-size Inv-loop μ-loop) → (let l = c .before .before .before .loop in (c .top-size .result ≤ l .p) × Sought
+    (c .before .before .before .before .before .args .sizes .now) (c .before .before .before .before .before .args .lo) (c .before .before .before .before .before .args .hi)
+    (c .before .before .before .before .before .args .k) (l .p - c .top-size .result) (l .left - 1))
 passed c = sought-more (c .top-size .result) (c .before .before .before .loop .inv) (omega arith) (omega arith) (c .top-size .ensures)
 
 pub measure-spec : {M : Type 1} → statement M

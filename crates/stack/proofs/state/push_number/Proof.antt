@@ -18,7 +18,10 @@ use Rattle.stack.proofs.state.push_number.Tie as tie
 
 -- past the test the constant is formed as it is
 made : (c : tie.Else1) → (let x = c .before .before .before .before .before .before .args in constantOf (x .re) (x .im) ≡ sum (of-bits (x .re) (x .im)))
-made c = constant-formed _ _ (c .before .before .finite-bits .ensures) (c .before .finite-bits2 .ensures) (not-false (c .before .before .finite-bits .result && c .before .finite-bits2 .result) (c .if1 .left))
+made c =
+    let after-finite-bits = c .before .before in
+    constant-formed _ _ (after-finite-bits .finite-bits .ensures) (c .before .finite-bits2 .ensures)
+    (not-false (after-finite-bits .finite-bits .result && c .before .finite-bits2 .result) (c .if1 .left))
 
 returns : tie.Need-returns
 returns c at complex =

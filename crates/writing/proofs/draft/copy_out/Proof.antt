@@ -28,6 +28,10 @@ copy-out-spec =
     (λ c. omega (arith, simp length-sets at (ap length (c .before .before .loop .inv .1))))
     (λ c. search needs)
     (λ c. search needs)
-    (λ c. let s = c .before .before .before in (omega arith, copy-more (s .args .b .now) (s .args .out .now) _ (s .args .from) (c .before .before .loop .j) (omega arith) (c .before .before .loop .inv .1)))
+    (λ c. let s = c .before .before .before in (
+      omega arith,
+      copy-more (s .args .b .now) (s .args .out .now) _ (s .args .from) (c .before .before .loop .j) (omega arith)
+          (c .before .before .loop .inv .1),
+    ))
     (λ c. ap length (c .before .loop .inv .1) ∙ simp length-sets)
     (λ c. let s = c .before .before in copy-all (s .args .b .now) (s .args .out .now) _ (s .args .from) (s .args .n) (c .before .loop .j) (c .before .loop .inv .1) (omega arith)))

@@ -17,4 +17,5 @@ hand-over-spec =
     (λ c. search needs)
     (λ c κs. search needs)
     (λ c. search needs)
-    (λ c ns l. handed l _ (omega arith) _ (c .before .before .before .before .before .before .count-records .ensures) (c .before .before .before .before .before .if1 .left) (c .before .before .copy-out .ensures)))
+    (λ c ns l. handed l _ (omega arith) _ (c .before .before .before .before .before .before .count-records .ensures) (c .before .before .before .before .before .if1 .left)
+    (c .before .before .copy-out .ensures)))

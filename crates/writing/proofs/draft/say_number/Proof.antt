@@ -18,4 +18,5 @@ say-number-spec =
     (λ c. search needs)
     (λ c.
     let s = c .before .before .before .before .before .before .before .before in
-    number-done (s .args .complex) (s .args .c) (sym (c .before .before .before .before .before .before .can-write .ensures) ∙ not-false _ (c .before .before .before .before .before .if1 .left)) (c .before .before .before .number-record .ensures) (c .before .before .say .ensures)))
+    number-done (s .args .complex) (s .args .c) (sym (c .before .before .before .before .before .before .can-write .ensures) ∙ not-false _
+    (c .before .before .before .before .before .if1 .left)) (c .before .before .before .number-record .ensures) (c .before .before .say .ensures)))

@@ -22,4 +22,5 @@ wrap-spec =
     (λ c.
     let first = c .before .before .before .before .before .before .before in
     let s = first .before .before .before .before .before .before in
-    wrapped-drawn (s .args .d) _ _ (s .pre) (omega arith) (omega arith) (first .before .on .ensures) (c .before .before .before .body .ensures) (first .put-record .ensures) (c .before .before .put-record2 .ensures)))
+    wrapped-drawn (s .args .d) _ _ (s .pre) (omega arith) (omega arith) (first .before .on .ensures) (c .before .before .before .body .ensures) (first .put-record .ensures)
+    (c .before .before .put-record2 .ensures)))
