@@ -21,9 +21,7 @@ returns : tie.Need-returns
 unfolding integral
 returns c =
     let after-read-sum = c .before .before .before .before .before .before .before in
-    let after-before = after-read-sum .before .before .before .before .before .before in
-    let place = after-before .before in
-    let start = place in
+    let start = after-read-sum .before .before .before .before .before .before .before in
     (_, refl, after-refused recordsIn (readList (start .args .list .now)) integrateAndWrite _ _ (start .args .out .now) (c .before .«data» .given .1) (after-read-sum .read-sum .ensures))
 
 returns-2 : tie.Need-returns-2

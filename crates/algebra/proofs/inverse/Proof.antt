@@ -20,9 +20,7 @@ unfolding inverse
 returns c =
     let place = c .before .before in
     let after-read-sum = place .before .before .before .before .before .before in
-    let after-before = after-read-sum .before .before .before .before .before .before in
-    let place-2 = after-before .before in
-    let start = place-2 in
+    let start = after-read-sum .before .before .before .before .before .before .before in
     (_, refl, inverse-refused (readList (start .args .list .now)) _ _ (start .args .out .now) (place .«data» .given .1) (after-read-sum .read-sum .ensures) (c .refuse-inverse .ensures))
 
 returns-2 : tie.Need-returns-2

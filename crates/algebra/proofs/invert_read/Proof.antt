@@ -12,9 +12,7 @@ returns-2 : tie.Need-returns-2
 returns-2 c s l =
     let after-invert = c .before .before in
     let after-if1 = after-invert .before .before in
-    let after-before = after-if1 .before .before .before in
-    let place = after-before .before in
-    let start = place in sum-handled s (start .args .complex) (not-false (start .args .handled) (after-if1 .if1 .left)) (after-invert .invert .ensures s l)
+    let start = after-if1 .before .before .before .before in sum-handled s (start .args .complex) (not-false (start .args .handled) (after-if1 .if1 .left)) (after-invert .invert .ensures s l)
 
 pub invert-read-spec : {M : Type 1} → statement M
 invert-read-spec = tie.close (tie.spec returns (λ c κs. search needs) (λ c. search needs) returns-2)

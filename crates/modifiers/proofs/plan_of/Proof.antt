@@ -14,9 +14,7 @@ room c κs =
 returns : tie.Need-returns
 returns c left t =
     let after-modifier-of = c .before .before in
-    let after-before = after-modifier-of .before in
-    let place = after-before .before in
-    let b = place in
+    let b = after-modifier-of .before .before in
     let a = b .before .before .before .args in
     plan-made (a .list .now) (a .at) (a .r) (b .record-at .result) (after-modifier-of .modifier-of .result) (c .before .wide .result) left (c .plan-by .result) (c .plan-by .ensures)
     (after-modifier-of .modifier-of .ensures) (c .before .wide .ensures) (b .record-at .ensures .0) (b .before .before .before .pre .1) t

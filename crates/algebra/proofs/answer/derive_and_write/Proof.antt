@@ -10,9 +10,7 @@ write-sum-requires : tie.Need-write-sum-requires
 write-sum-requires c κs =
     let after-m = c .before .before .before .before .before in
     let after-expr-deriv = after-m .before .before .before .before .before .before .before in
-    let after-before = after-expr-deriv .before .before .before .before .before .before in
-    let place = after-before .before in
-    let start = place in
+    let start = after-expr-deriv .before .before .before .before .before .before .before in
     let held = start .pre .0 .held in
     then-held _ (start .args .w) _ (after-m .m .given .1) (after-expr-deriv .expr-deriv .ensures .1 (held .0) (held .1))
 

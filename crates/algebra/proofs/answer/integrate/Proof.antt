@@ -10,9 +10,7 @@ put-out-requires : tie.Need-put-out-requires
 put-out-requires c κs =
     let after-m = c .before .before .before .before .before in
     let after-expr-integral = after-m .before .before .before .before .before .before .before in
-    let after-before = after-expr-integral .before .before .before .before .before .before in
-    let place = after-before .before in
-    let start = place in
+    let start = after-expr-integral .before .before .before .before .before .before .before in
     let held = start .pre .0 .held in
     then-held _ (start .args .w) _ (after-m .m .given .1) (after-expr-integral .expr-integral .ensures .1 (held .0) (held .1))
 

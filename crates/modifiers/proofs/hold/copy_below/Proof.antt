@@ -10,9 +10,7 @@ returns-2 c =
     let after-sink = c .before .before .before .before .before .before .before in
     let after-raise = after-sink .before .before .before .before .before .before .before .before .before .before .before .before in
     let after-if1 = after-raise .before .before .before .before .before in
-    let after-before = after-if1 .before .before .before in
-    let place = after-before .before in
-    let s = place in
+    let s = after-if1 .before .before .before .before in
     copied-fits (s .args .w) (s .args .d) (s .args .at) (s .pre .0) (s .pre .1) (after-if1 .if1 .left) (after-raise .raise .ensures) (after-sink .sink .ensures)
 
 pub copy-below-spec : {M : Type 1} → statement M

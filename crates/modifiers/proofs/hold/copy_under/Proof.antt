@@ -34,9 +34,7 @@ missed : (c : tie.After-enum-told2) → (let d = c .before .before .before .befo
 missed c =
     let after-measure2 = c .before .before in
     let after-less = after-measure2 .before in
-    let after-before = after-less .before .before in
-    let place = after-before .before in
-    let d = place in
+    let d = after-less .before .before .before in
     let s = start d in
     found-for (entry s) (d .d .given .0 .0) (s .args .env .used) Short (after-less .less .ensures)
     (found-is (entry s) (d .d .given .0 .0) (s .args .env .used) (after-less .less .result) (c .enum-told2 .given .1) (after-measure2 .measure2 .ensures))
@@ -44,9 +42,7 @@ missed c =
 returns-3 : tie.Need-returns-3
 returns-3 c =
     let after-copy-below = c .before .before .before .before .before .before .before in
-    let after-before = after-copy-below .before .before .before .before .before in
-    let place = after-before .before in
-    let e = place in
+    let e = after-copy-below .before .before .before .before .before .before in
     let d = cut e in
     let s = start d in
     copied (s .args .at) (s .args .k) (d .d .given .0 .0) (e .e .given .0 .0) (after-copy-below .copy-below .result) (found d) (next e) (after-copy-below .copy-below .ensures)

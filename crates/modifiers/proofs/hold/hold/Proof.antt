@@ -19,9 +19,7 @@ found c = let s = start c in found-is (entry s) 128 (s .args .env .used) (s .arg
 returns : tie.Need-returns
 returns c =
     let after-measure = c .before .before .before in
-    let after-before = after-measure .before .before .before .before in
-    let place = after-before .before in
-    let s = place in
+    let s = after-measure .before .before .before .before .before in
     held-short (s .args .at) (s .args .k) (c .too-few .result) (c .too-few .ensures)
     (found-is (entry s) 128 (s .args .env .used) (s .args .k) (c .before .enum-told .given .1) (after-measure .measure .ensures))
 

@@ -8,33 +8,25 @@ use Rattle.modifiers.proofs.lend.hold_and_lend.Tie as tie
 returns : tie.Need-returns
 returns c =
     let after-hold = c .before .before .before .before .before .before .before .before .before in
-    let after-before = after-hold .before .before .before .before .before .before .before in
-    let place = after-before .before in
-    let s = place in
+    let s = after-hold .before .before .before .before .before .before .before .before in
     not-held (s .args .at) (s .args .k) (s .args .c) (c .enum-told .given .0 .0) (c .enum-told .given .0 .1 .0) (c .enum-told .given .0 .1 .1 .0) (c .enum-told .given .1) (after-hold .hold .ensures)
 
 returns-2 : tie.Need-returns-2
 returns-2 c =
-    let after-before = c .before .before .before .before .before .before .before .before .before in
-    let place = after-before .before in
+    let place = c .before .before .before .before .before .before .before .before .before .before in
     let after-h = place .before .before .before .before .before .before in
     let after-hold = after-h .before .before .before .before .before .before .before .before .before in
-    let after-before-2 = after-hold .before .before .before .before .before .before .before in
-    let place-2 = after-before-2 .before in
-    let s = place-2 in
+    let s = after-hold .before .before .before .before .before .before .before .before in
     let l = place in
     held-and-lent (s .args .at) (s .args .k) (s .args .c) (l .lend-deepest .result) (Went (c .before .l .given .0 .0)) (c .before .l .given .1) (s .pre)
     (begins-is (after-h .h .given .1) (after-hold .hold .ensures)) (l .lend-deepest .ensures)
 
 returns-3 : tie.Need-returns-3
 returns-3 c =
-    let after-before = c .before .before .before .before .before .before .before .before .before in
-    let place = after-before .before in
+    let place = c .before .before .before .before .before .before .before .before .before .before in
     let after-h = place .before .before .before .before .before .before in
     let after-hold = after-h .before .before .before .before .before .before .before .before .before in
-    let after-before-2 = after-hold .before .before .before .before .before .before .before in
-    let place-2 = after-before-2 .before in
-    let s = place-2 in
+    let s = after-hold .before .before .before .before .before .before .before .before in
     let l = place in
     let x = c .before .l2 .given .0 in
     held-and-lent (s .args .at) (s .args .k) (s .args .c) (l .lend-deepest .result) (Stopped (x .0) (x .1 .0) (x .1 .1 .0)) (c .before .l2 .given .1) (s .pre)

@@ -33,9 +33,7 @@ missed : (c : tie.After-enum-told) → Sought (c .before .before .before .before
 missed c =
     let after-measure = c .before .before in
     let after-less = after-measure .before in
-    let after-before = after-less .before .before .before .before in
-    let place = after-before .before in
-    let s = place in
+    let s = after-less .before .before .before .before .before in
     found-for (entry s) (s .args .v) (s .args .v + s .args .m) Short (after-less .less .ensures)
     (found-is (entry s) (s .args .v) (s .args .v + s .args .m) (after-less .less .result) (c .enum-told .given .1) (after-measure .measure .ensures))
 
@@ -49,9 +47,7 @@ returns-3 : tie.Need-returns-3
 returns-3 c ss up len =
     let after-sink = c .before .before .before .before .before .before .before in
     let after-if1 = after-sink .before .before .before .before .before in
-    let after-before = after-if1 .before in
-    let place = after-before .before in
-    let d = place in
+    let d = after-if1 .before .before in
     let s = start d in
     let w = d .d .given .0 .0 in
     let room = within d .1 in

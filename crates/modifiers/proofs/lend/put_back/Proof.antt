@@ -7,9 +7,7 @@ use Rattle.modifiers.proofs.lend.put_back.Tie as tie
 returns : tie.Need-returns
 returns c =
     let after-sink = c .before .before .before .before .before .before .before in
-    let after-before = after-sink .before .before .before .before .before .before .before in
-    let place = after-before .before in
-    let s = place in put-back (s .args .m) (s .pre .0) (s .pre .1) (after-sink .sink .ensures)
+    let s = after-sink .before .before .before .before .before .before .before .before in put-back (s .args .m) (s .pre .0) (s .pre .1) (after-sink .sink .ensures)
 
 pub put-back-spec : {M : Type 1} → statement M
 put-back-spec =

@@ -10,9 +10,7 @@ walk-requires : tie.Need-walk-requires
 walk-requires c κs =
     let after-count-records = c .before .before .before .before in
     let after-begin-with-x = after-count-records .before .before .before .before .before .before .before .before in
-    let after-before = after-begin-with-x .before .before .before .before .before .before .before .before in
-    let place = after-before .before in
-    let s = place in
+    let s = after-begin-with-x .before .before .before .before .before .before .before .before .before in
     (after-begin-with-x .begin-with-x .ensures .0, (false, keeps (all-records (s .args .list .now) (after-count-records .count-records .ensures) (s .pre .0)), λ e. absurd (never e)))
 
 last-of-requires : tie.Need-last-of-requires
@@ -21,9 +19,7 @@ last-of-requires c κs =
     let after-walk = after-ran2 .before .before .before .before .before .before .before .before .before in
     let after-count-records = after-walk .before .before .before .before .before in
     let after-begin-with-x = after-count-records .before .before .before .before .before .before .before .before in
-    let after-before = after-begin-with-x .before .before .before .before .before .before .before .before in
-    let place = after-before .before in
-    let s = place in
+    let s = after-begin-with-x .before .before .before .before .before .before .before .before .before in
     let x = after-begin-with-x .begin-with-x .ensures in
     read-ready (s .args .list .now) (after-count-records .count-records .ensures) (x .1) (does-told (after-ran2 .ran2 .given .1) (after-walk .walk .ensures)) (x .0)
 

@@ -215,9 +215,7 @@ around-returns t c =
 
 around-put-back-requires : (t : ℕ) → around-lts.Need-put-back-requires (around-claims t) (around-at t) around.Post
 around-put-back-requires t c κs =
-    let after-before = c .before .before .before .before in
-    let place = after-before .before in
-    let after-ran = place in
+    let after-ran = c .before .before .before .before .before in
     let after-walk = after-ran .before .before .before .before .before .before .before .before .before in
     let start = after-walk .before .before .before .before .before .before .before .before .before in
     let args = start .args in (
@@ -229,9 +227,7 @@ around-put-back-requires t c κs =
 
 around-walk-requires-2 : (t : ℕ) → around-lts.Need-walk-requires-2 (around-claims t) (around-at t) around.Post
 around-walk-requires-2 t c κs =
-    let after-before = c .before .before .before .before .before .before .before .before .before .before in
-    let place = after-before .before in
-    let after-put-back = place in
+    let after-put-back = c .before .before .before .before .before .before .before .before .before .before .before in
     let after-ran = after-put-back .before .before .before .before .before .before in
     let after-walk = after-ran .before .before .before .before .before .before .before .before .before in
     let start = after-walk .before .before .before .before .before .before .before .before .before in
@@ -292,28 +288,19 @@ fork-sub-fork-each t c =
 
 fork-fork-each-requires : (t : ℕ) → fork-lts.Need-fork-each-requires (fork-claims t) (fork-at t) fork.Post
 fork-fork-each-requires t c κs =
-    let after-before = c .before .before .before .before in
-    let place = after-before .before in
-    let after-begun2 = place in
+    let after-begun2 = c .before .before .before .before .before in
     let after-hold = after-begun2 .before .before .before .before .before .before .before .before .before in
     let after-most-args = after-hold .before .before .before .before .before in
     let start = after-most-args .before .before .before .before .before .before in
-    let args = start .args in (
-      omega (arith, start .pre .0),
-      (
-        fork-many (args .list .now) (args .at) (args .r) (after-most-args .most-args .result) (start .pre .1 .2) (after-most-args .most-args .ensures)
-            (begins-is (after-begun2 .begun2 .given .1) (after-hold .hold .ensures)) (start .pre .1 .0) .0,
-        start .pre .1 .1,
-        fork-many (args .list .now) (args .at) (args .r)
-            (after-most-args .most-args .result) (start .pre .1 .2) (after-most-args .most-args .ensures) (begins-is (after-begun2 .begun2 .given .1) (after-hold .hold .ensures)) (start .pre .1 .0) .1,
-      ),
-    )
+    let args = start .args in
+    let many =
+    fork-many (args .list .now) (args .at) (args .r) (after-most-args .most-args .result) (start .pre .1 .2) (after-most-args .most-args .ensures)
+    (begins-is (after-begun2 .begun2 .given .1) (after-hold .hold .ensures)) (start .pre .1 .0) in
+    (omega (arith, start .pre .0), (many .0, start .pre .1 .1, many .1))
 
 fork-returns : (t : ℕ) → fork-lts.Need-returns (fork-claims t) (fork-at t) fork.Post
 fork-returns t c =
-    let after-before = c .before .before .before .before .before .before .before .before .before in
-    let place = after-before .before in
-    let after-hold = place in
+    let after-hold = c .before .before .before .before .before .before .before .before .before .before in
     let after-most-args = after-hold .before .before .before .before .before in
     let start = after-most-args .before .before .before .before .before .before in
     let args = start .args in
@@ -322,9 +309,7 @@ fork-returns t c =
 
 fork-returns-2 : (t : ℕ) → fork-lts.Need-returns-2 (fork-claims t) (fork-at t) fork.Post
 fork-returns-2 t c =
-    let after-before = c .before .before .before .before .before .before in
-    let place = after-before .before in
-    let after-fork-each = place in
+    let after-fork-each = c .before .before .before .before .before .before .before in
     let after-begun2 = after-fork-each .before .before .before .before .before .before in
     let after-hold = after-begun2 .before .before .before .before .before .before .before .before .before in
     let after-most-args = after-hold .before .before .before .before .before in
@@ -367,8 +352,7 @@ fork-each-place-of-requires t c κs =
 
 fork-each-record-at-requires : (t : ℕ) → fork-each-lts.Need-record-at-requires (fork-each-claims t) (fork-each-at t) fork-each.Post fork-each-Inv-loop fork-each-μ-loop
 fork-each-record-at-requires t c κs =
-    let place = c .before .before in
-    let at-loop = place in
+    let at-loop = c .before .before in
     let start = at-loop .before .before .before .before .before .before in
     let args = start .args in
     omega (
@@ -382,9 +366,7 @@ fork-each-wide-requires t c κs = search needs
 
 fork-each-lend-deepest-requires : (t : ℕ) → fork-each-lts.Need-lend-deepest-requires (fork-each-claims t) (fork-each-at t) fork-each.Post fork-each-Inv-loop fork-each-μ-loop
 fork-each-lend-deepest-requires t c κs =
-    let after-before = c .before .before .before .before .before .before .before in
-    let place = after-before .before in
-    let at-loop = place in
+    let at-loop = c .before .before .before .before .before .before .before .before in
     let start = at-loop .before .before .before .before .before .before in
     let args = start .args in
     (let w = forking-ready (args .list .now) (args .at) (args .at + 1) (args .to) _ (start .pre .1 .1) (start .pre .1 .0) (start .pre .1 .2) (at-loop .loop .inv .1) in
@@ -398,9 +380,7 @@ fork-each-enum-told t c = search needs
 
 fork-each-returns : (t : ℕ) → fork-each-lts.Need-returns (fork-each-claims t) (fork-each-at t) fork-each.Post fork-each-Inv-loop fork-each-μ-loop
 fork-each-returns t c =
-    let after-before = c .before .before .before .before .before .before .before .before in
-    let place = after-before .before in
-    let after-lend-deepest = place in
+    let after-lend-deepest = c .before .before .before .before .before .before .before .before .before in
     let after-wide = after-lend-deepest .before .before .before .before .before in
     let after-record-at = after-wide .before in
     let after-place-of = after-record-at .before in
@@ -414,9 +394,7 @@ fork-each-returns t c =
 
 fork-each-add-walk : (t : ℕ) → fork-each-lts.Need-add-walk (fork-each-claims t) (fork-each-at t) fork-each.Post fork-each-Inv-loop fork-each-μ-loop
 fork-each-add-walk t c =
-    let after-before = c .before .before .before .before .before .before .before .before .before .before .before .before .before .before .before .before in
-    let place = after-before .before in
-    let after-place-of = place in
+    let after-place-of = c .before .before .before .before .before .before .before .before .before .before .before .before .before .before .before .before .before in
     let after-loop-test = after-place-of .before in
     let at-loop = after-loop-test .before in
     let start = at-loop .before .before .before .before .before .before in
@@ -433,9 +411,7 @@ fork-each-cast-walk t c = omega arith
 
 fork-each-add-walk-2 : (t : ℕ) → fork-each-lts.Need-add-walk-2 (fork-each-claims t) (fork-each-at t) fork-each.Post fork-each-Inv-loop fork-each-μ-loop
 fork-each-add-walk-2 t c =
-    let after-before = c .before .before .before .before .before .before .before .before .before .before .before .before .before .before .before in
-    let place = after-before .before in
-    let after-wide = place in
+    let after-wide = c .before .before .before .before .before .before .before .before .before .before .before .before .before .before .before .before in
     let after-record-at = after-wide .before in
     let after-place-of = after-record-at .before in
     let after-loop-test = after-place-of .before in
@@ -451,9 +427,7 @@ fork-each-add-walk-2 t c =
 
 fork-each-walk-requires : (t : ℕ) → fork-each-lts.Need-walk-requires (fork-each-claims t) (fork-each-at t) fork-each.Post fork-each-Inv-loop fork-each-μ-loop
 fork-each-walk-requires t c κs =
-    let after-before = c .before .before .before .before .before in
-    let place = after-before .before in
-    let after-lent = place in
+    let after-lent = c .before .before .before .before .before .before in
     let after-lend-deepest = after-lent .before .before .before .before .before .before .before .before .before in
     let after-wide = after-lend-deepest .before .before .before .before .before in
     let after-record-at = after-wide .before in
@@ -482,9 +456,7 @@ fork-each-enum-told-2 t c = search needs
 
 fork-each-returns-2 : (t : ℕ) → fork-each-lts.Need-returns-2 (fork-each-claims t) (fork-each-at t) fork-each.Post fork-each-Inv-loop fork-each-μ-loop
 fork-each-returns-2 t c =
-    let after-before = c .before .before .before .before .before .before .before .before in
-    let place = after-before .before in
-    let after-walk = place in
+    let after-walk = c .before .before .before .before .before .before .before .before .before in
     let after-lent = after-walk .before .before .before .before .before .before .before in
     let after-lend-deepest = after-lent .before .before .before .before .before .before .before .before .before in
     let after-wide = after-lend-deepest .before .before .before .before .before in
@@ -501,17 +473,16 @@ fork-each-returns-2 t c =
 
 fork-each-loop-less : (t : ℕ) → fork-each-lts.Need-loop-less (fork-each-claims t) (fork-each-at t) fork-each.Post fork-each-Inv-loop fork-each-μ-loop
 fork-each-loop-less t c =
-    let after-before = c .before .before .before .before .before .before .before .before .before .before .before .before .before .before .before .before .before .before .before .before
-    .before .before .before .before .before .before .before .before .before .before .before .before .before in
-    let place = after-before .before in
-    let after-loop-test = place in
+    let after-walk = c .before .before .before .before .before .before .before .before .before .before in
+    let after-lent = after-walk .before .before .before .before .before .before .before in
+    let after-lend-deepest = after-lent .before .before .before .before .before .before .before .before .before in
+    let after-wide = after-lend-deepest .before .before .before .before .before in
+    let after-loop-test = after-wide .before .before .before in
     omega (arith, after-loop-test .loop-test .taken)
 
 fork-each-loop-again : (t : ℕ) → fork-each-lts.Need-loop-again (fork-each-claims t) (fork-each-at t) fork-each.Post fork-each-Inv-loop fork-each-μ-loop
 fork-each-loop-again t c =
-    let after-before = c .before .before .before .before .before .before .before .before .before in
-    let place = after-before .before in
-    let after-walk = place in
+    let after-walk = c .before .before .before .before .before .before .before .before .before .before in
     let after-lent = after-walk .before .before .before .before .before .before .before in
     let after-lend-deepest = after-lent .before .before .before .before .before .before .before .before .before in
     let after-wide = after-lend-deepest .before .before .before .before .before in
@@ -706,9 +677,7 @@ walk-loop-less t c = omega arith
 
 walk-loop-again : (t : ℕ) → walk-lts.Need-loop-again (walk-claims t) (walk-at t) walk.Post walk-Inv-loop walk-μ-loop
 walk-loop-again t c =
-    let after-before = c .before .before in
-    let place-2 = after-before .before in
-    let after-then = place-2 in
+    let after-then = c .before .before .before in
     let after-leaf = after-then .before .before .before .before .before .before .before .before .before in
     let after-if1 = after-leaf .before .before .before .before .before in
     let after-is-quick = after-if1 .before in
@@ -740,9 +709,7 @@ walk-loop-less-2 t c = omega arith
 
 walk-loop-again-2 : (t : ℕ) → walk-lts.Need-loop-again-2 (walk-claims t) (walk-at t) walk.Post walk-Inv-loop walk-μ-loop
 walk-loop-again-2 t c =
-    let after-before = c .before .before .before .before in
-    let place = after-before .before in
-    let after-record-at = place in
+    let after-record-at = c .before .before .before .before .before in
     let at-loop = after-record-at .before .before in
     let start = at-loop .before .before .before .before .before in
     let args = start .args in
@@ -815,9 +782,7 @@ with-bodies-enum-known-begun-2 t c = search needs
 
 with-bodies-around-requires : (t : ℕ) → with-bodies-lts.Need-around-requires (with-bodies-claims t) (with-bodies-at t) with-bodies.Post
 with-bodies-around-requires t c κs =
-    let after-before = c .before .before .before .before in
-    let place = after-before .before in
-    let after-begun2 = place in
+    let after-begun2 = c .before .before .before .before .before in
     let after-begin = after-begun2 .before .before .before .before .before .before .before .before .before in
     let after-plan-of = after-begin .before .before .before .before .before in
     let start = after-plan-of .before .before .before .before .before in
