@@ -1,6 +1,5 @@
-// What the derivative and the integral of a sum are, with their laws, and what the code of both asks of one entry.
-// The derivative and the integral of a sum that lies in a book of three arrays. The sum lies apart from twice the places of a sum from w on: the result is
-// formed in the first SUM_ENTRIES of them, the others are to work in, and no other place is written.
+// The derivative and the integral of a sum: definitions, laws, what both ask of one entry, and in the modules the code over a book of three arrays. The sum lies
+// apart from twice the places of a sum from w on: the result is formed in the first SUM_ENTRIES of them, the others are to work in, and no other place is written.
 pub mod derivative;
 pub mod integral;
 

@@ -1,7 +1,5 @@
-// One entry of a sum, and its numbers as bits.
-// Sums lie in a book of three arrays: kinds, inside counts, and number bits, three words a place: the number's, re's and im's.
-// Only `load` and `store` say what a cell means (and `find_power` in sums, which reads the number's word alone); the others move
-// cells as they are.
+// One entry of a sum and its numbers as bits, and the book that sums lie in, three arrays: kinds, inside counts, and number bits, three words a place: the number's,
+// re's and im's. Only `load` and `store` say what a cell means (and `find_power` in sums, which reads the number's word alone); the others move cells as they are.
 use numbers::complex::Complex;
 ghost use Prim.Native.Nat.{_+_, _≤_};
 ghost use Rattle.cells.specs.Contract.Book.{lent, entering, leaving, at, Room, Plain};

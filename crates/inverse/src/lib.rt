@@ -1,5 +1,4 @@
-// The list that undoes a sum: definitions and laws, and what the other entries of a sum are besides x to the 0, 1 and 2.
-// The Rust's algebraic_inverse: the list that undoes a sum, which lies in a book of three arrays.
+// The list that undoes a sum, the Rust's algebraic_inverse: definitions, laws, and the code over a sum that lies in a book of three arrays.
 use cells::Entry;
 use formats::record::Primitive;
 use limits::RECORD_BYTES;

@@ -1,6 +1,5 @@
-// What modifiers do to the stack around their bodies: definitions and laws alone.
-// A modifier before its bodies run: how many there are, what they take, and in which order they run.
-// What modifiers take off the stack and hold while a body runs, what they lend of it, and what each does before its first body.
+// What modifiers do to the stack around their bodies: definitions, laws, and what is asked of a list alone (how many bodies there are, what they take, and in which
+// order they run); in the modules what is taken off the stack and held while a body runs, what is lent of it, and what each does before its first body.
 pub mod begin;
 pub mod hold;
 pub mod lend;

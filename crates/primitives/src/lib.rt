@@ -1,6 +1,5 @@
-// What each primitive forms of the one or two sums that it takes: definitions alone.
-// What each primitive forms of the one or two sums that it takes. They lie in a book of three arrays; the result is formed in the SUM_ENTRIES places from w on, the
-// SUM_ENTRIES behind them are working places, and no other place is written.
+// What each primitive forms of the one or two sums that it takes, as defined and in code. The sums lie in a book of three arrays; the result is formed in the
+// SUM_ENTRIES places from w on, the SUM_ENTRIES behind them are working places, and no other place is written.
 use arithmetic::Change;
 use arithmetic::add::Constant;
 use cells::Entry;

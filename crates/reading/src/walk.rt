@@ -20,7 +20,7 @@ ghost use Rattle.modifiers.specs.Contract.Plans.{modified, UsedAs};
 ghost use Rattle.stack.specs.Contract.Arena.{arena, arenaIn, arenaOut, places};
 ghost use Rattle.stack.specs.Contract.Agree.{Ready, Does};
 ghost use Rattle.reading.specs.Contract.Quick.{hasNodes};
-ghost use Rattle.reading.specs.Contract.Runs.{Keeps, Single, Inner, Bodily, Planned, Round, Rounds, Many, Forks};
+ghost use Rattle.reading.specs.Contract.Runs.{Keeps, OneBody, Inner, Bodily, Planned, Round, Rounds, Many, Forks};
 
 fn wide(x: u8) -> usize
     ensures { λ r. ⌜ r ≡ x ⌝ }
@@ -40,7 +40,7 @@ pub fn walk(
     v: usize,
     env: AlgebraEnv,
 ) -> Ran
-    requires { ⌜ Ready (arena kinds insides numbers sizes) v env × ((b : Bool) × Keeps (now list) from to b × Single (now list) from to b) ⌝ }
+    requires { ⌜ Ready (arena kinds insides numbers sizes) v env × ((b : Bool) × Keeps (now list) from to b × OneBody (now list) from to b) ⌝ }
     ensures { λ r. ⌜ Does (arenaIn kinds insides numbers sizes) (arenaOut kinds insides numbers sizes) v env r (λ st. walkOf (now (list .entry)) from to (places - v) st) ⌝ }
 {
     let mut at = from;

@@ -1,5 +1,5 @@
-// Replays stored answers: lists and sums, each with the answers of the entries, in the form that vectors/README.md describes.
-// What the programs that replay stored answers share: texts, and counting what agrees.
+// Replays stored answers: lists and sums, each with the answers of the entries, in the form that vectors/README.md describes. `text` reads it, `count` counts what
+// agrees.
 mod calls;
 pub mod count;
 mod entries;

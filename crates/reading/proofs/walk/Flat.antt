@@ -27,7 +27,7 @@ use Rattle.modifiers.specs.declared.Inside.the-variants as inside
 use Rattle.modifiers.proofs.Runs.{runnerAt, walk-step, walk-none, then-went}
 use Rattle.modifiers.proofs.Plans.{then-same}
 use Rattle.reading.specs.Contract.Quick.{hasNodes}
-use Rattle.reading.specs.Contract.Runs.{Single}
+use Rattle.reading.specs.Contract.Runs.{OneBody}
 
 beq-same : (b : Bool) → Bool·beq b b ≡ true
 beq-same true = refl
@@ -88,7 +88,7 @@ nodes-only inside.Nodes e = refl
 nodes-only inside.Bodies e = let z : _≡_ {A = ℕ} 0 1 = cc in absurd (omega arith)
 
 -- the first record has nodes inside: what is left to walk stands right behind it
-module _ (s : List ℕ) (at to : ℕ) (b : Bool) (levels : ℕ) (r : Record) (t : Stretch s at to b levels) (one : Single s at to b) (l : at < to) (e : r ≡ recAt s at)
+module _ (s : List ℕ) (at to : ℕ) (b : Bool) (levels : ℕ) (r : Record) (t : Stretch s at to b levels) (one : OneBody s at to b) (l : at < to) (e : r ≡ recAt s at)
     (q : hasNodes (insideOf (kindOf (r .kind))) ≡ true) where
   nodes : insideOf (kindOf (recAt s at .kind)) ≡ inside.Nodes
   nodes = nodes-only _ (rw (← e) q)
@@ -105,7 +105,7 @@ module _ (s : List ℕ) (at to : ℕ) (b : Bool) (levels : ℕ) (r : Record) (t 
   pub descended : Stretch s (at + 1) to false levels × ((h : ℕ) (st : State) → walkOf s at to h st ≡ walkOf s (at + 1) to h st)
   descended = go b t one
     where
-      go : (x : Bool) → Stretch s at to x levels → Single s at to x → Stretch s (at + 1) to false levels × ((h : ℕ) (st : State) → walkOf s at to h st ≡ walkOf s (at + 1) to h st)
+      go : (x : Bool) → Stretch s at to x levels → OneBody s at to x → Stretch s (at + 1) to false levels × ((h : ℕ) (st : State) → walkOf s at to h st ≡ walkOf s (at + 1) to h st)
       go true u o =
           let ends = o refl l in (
             subst (λ (x : ℕ). Stretch s (at + 1) x false levels) ends inner,

@@ -47,7 +47,7 @@ use Rattle.stack.specs.Steps.{leafStep}
 use Rattle.modifiers.specs.declared.Plan.{Plan}
 use Rattle.modifiers.proofs.Runs.{runnerAt, runners-split, walk-step, runners-none, stretch-first, place-next, place-stretch, place-on, some}
 use Rattle.modifiers.proofs.Plans.{first-run, none-left, then-same}
-use Rattle.reading.specs.Contract.Runs.{Keeps, Single, Inner, Bodily, Round, Rounds, Many, Forks}
+use Rattle.reading.specs.Contract.Runs.{Keeps, OneBody, Inner, Bodily, Round, Rounds, Many, Forks}
 
 -- ---- stretches
 
@@ -581,12 +581,12 @@ turn-room s from to left i place t l h p = rw p (let w = place-on s from to (i -
 pub record Turn (s : List ℕ) (at to : ℕ) (b : Bool) (left : ℕ) (r : Record) : Type 0 where
   pub next : at + 1 + r .inside ≤ to
   pub rest : Stretch s (at + 1 + r .inside) to b left
-  pub one : Single s (at + 1 + r .inside) to b
+  pub one : OneBody s (at + 1 + r .inside) to b
   pub inside : Inner s at r
   pub low : height (forest s (at + 1) (at + 1 + r .inside)) < left
   pub on : (h : ℕ) (st : State) → walkOf s at to h st ≡ andThen (stepOf at r (runners (at + 1) (forest s (at + 1) (at + 1 + r .inside))) h st) (λ st′. walkOf s (at + 1 + r .inside) to h st′)
 
-pub turn : (s : List ℕ) (at to : ℕ) (b : Bool) (left : ℕ) (r : Record) → Stretch s at to b left → Single s at to b → at < to → r ≡ recAt s at → Turn s at to b left r
+pub turn : (s : List ℕ) (at to : ℕ) (b : Bool) (left : ℕ) (r : Record) → Stretch s at to b left → OneBody s at to b → at < to → r ≡ recAt s at → Turn s at to b left r
 turn s at to b left r t one l e =
     record {
       next = walk-next s at to b left r t l e;

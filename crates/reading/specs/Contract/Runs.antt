@@ -27,8 +27,8 @@ abbrev pub Keeps : List ℕ → ℕ → ℕ → Bool → Type 0
 Keeps s a e b = Stretch s a e b (height (forest s a e))
 
 -- of bodies there is at most one
-abbrev pub Single : List ℕ → ℕ → ℕ → Bool → Type 0
-Single s a e b = b ≡ true → AtMostOne s a e
+abbrev pub OneBody : List ℕ → ℕ → ℕ → Bool → Type 0
+OneBody s a e b = b ≡ true → AtMostOne s a e
 
 -- what is inside the record r at a place
 abbrev pub Inner : List ℕ → ℕ → Record → Type 0

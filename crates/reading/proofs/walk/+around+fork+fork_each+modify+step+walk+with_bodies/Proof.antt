@@ -10,7 +10,7 @@ use Rattle.reading.proofs.turn.Leaf.{prepared, leaf-stopped, leaf-went,
 use Rattle.formats.specs.Tree.{forest, height, count}
 use Rattle.formats.specs.Contract.Walk.{Stretch}
 use Rattle.formats.specs.declared.record.Record.{Record}
-use Rattle.reading.specs.Contract.Runs.{Single}
+use Rattle.reading.specs.Contract.Runs.{OneBody}
 use Rattle.reading.proofs.walk.Flat.{descended, bodies-inside, nothing-else}
 use Rattle.stack.specs.Contract.Agree.{Ready}
 use Rattle.modifiers.specs.Contract.Walks.{walkOf}
@@ -598,7 +598,7 @@ step-returns-2 t c =
 
 abbrev walk-Inv-loop : walk-lts.InvT-loop
 walk-Inv-loop list from to kinds₀ insides₀ numbers₀ sizes₀ v at₀ used₀ handled₀ complex₀ kinds insides numbers sizes at used handled complex =
-    ((b : Bool) × Stretch list at to b (height (forest list from to)) × Single list at to b) × Ready (of (book kinds insides numbers) sizes) v (envOf used handled complex)
+    ((b : Bool) × Stretch list at to b (height (forest list from to)) × OneBody list at to b) × Ready (of (book kinds insides numbers) sizes) v (envOf used handled complex)
     × Going (of (book kinds₀ insides₀ numbers₀) sizes₀) (of (book kinds insides numbers) sizes) v (envOf used₀ handled₀ complex₀) (envOf used handled complex)
     (λ st. walkOf list from to (1152 - v) st) (λ st. walkOf list at to (1152 - v) st)
 
