@@ -1,22 +1,18 @@
 //! What asking for a list's cost takes beside its derivative, and what reading
 //! takes a step, for lists that are dear to read.
 
-use std::hint::black_box;
-
+use backlog::Group;
 use oracle::{
     cost,
     records::{self, RECORD},
     text,
 };
 
-use crate::{
-    lists::Group,
-    measure::{Measured, by_turns},
-};
+use crate::measure::{Measured, Side, Turns, by_turns};
 
 /// One line of the table of costs.
 pub struct CostLine {
-    pub what: &'static str,
+    pub what: String,
     pub lists: usize,
     pub records: usize,
     pub cost: Measured,
@@ -24,31 +20,21 @@ pub struct CostLine {
 }
 
 /// The cost and the derivative of the same lists.
-pub fn cost(group: &Group, rounds: usize) -> CostLine {
-    let mut out = vec![0; records::MOST_RECORDS * RECORD];
-    for list in &group.lists {
+pub fn cost(what: &str, group: &Group, rounds: usize) -> CostLine {
+    let lists: Vec<&[u8]> = group.lists.iter().map(Vec::as_slice).collect();
+    for list in &lists {
         assert_eq!(proved::cost(list).answer, [0, reckoned(list)]);
     }
-    let measured = by_turns(
-        rounds,
-        group.lists.len(),
-        &mut [
-            &mut || {
-                for list in &group.lists {
-                    black_box(proved::cost(black_box(list)));
-                }
-            },
-            &mut || {
-                for list in &group.lists {
-                    black_box(proved::derivative(black_box(list), &mut out));
-                }
-            },
-        ],
-    );
+    let mut out = vec![0; records::MOST_RECORDS * RECORD];
+    let mut sides = [
+        Side::new("cost", proved::cost),
+        Side::new("derivative", |list| proved::derivative(list, &mut out)),
+    ];
+    let measured = by_turns(Turns::over(&lists, rounds), &lists, &mut sides);
     CostLine {
-        what: group.name,
-        lists: group.lists.len(),
-        records: group.lists.iter().map(|list| list.len() / RECORD).sum(),
+        what: what.into(),
+        lists: lists.len(),
+        records: lists.iter().map(|list| list.len() / RECORD).sum(),
         cost: measured[0],
         derivative: measured[1],
     }
@@ -75,14 +61,14 @@ pub struct ReadingLine {
 }
 
 /// How often something that takes long is measured.
-const FEW_ROUNDS: usize = 2;
+const FEW_TURNS: Turns = Turns {
+    rounds: 2,
+    times_a_turn: 1,
+};
 
 /// Readings from cheap to dear, by what a step of them takes.
-pub fn readings(rounds: usize) -> Vec<ReadingLine> {
-    dear_lists()
-        .iter()
-        .map(|dear| reading(dear, rounds.min(FEW_ROUNDS)))
-        .collect()
+pub fn readings() -> Vec<ReadingLine> {
+    dear_lists().iter().map(reading).collect()
 }
 
 /// From cheap ones to the dearest that were found.
@@ -147,7 +133,7 @@ fn powers(count: u64, first: f64) -> String {
     )
 }
 
-fn reading(dear: &Dear, rounds: usize) -> ReadingLine {
+fn reading(dear: &Dear) -> ReadingLine {
     let before = text::list(&dear.before);
     let whole = text::list(&format!("{} Both(0: {})", dear.before, dear.body));
     let mut sum = vec![0; 64 * 32];
@@ -160,23 +146,12 @@ fn reading(dear: &Dear, rounds: usize) -> ReadingLine {
             dear.what, told.answer
         );
     }
-    let measured = by_turns(
-        rounds,
-        1,
-        &mut [&mut || {
-            black_box(proved::read(black_box(&whole), &mut sum));
-        }],
-    );
-    let read_before = by_turns(
-        rounds,
-        1,
-        &mut [&mut || {
-            black_box(proved::read(black_box(&before), &mut sum));
-        }],
-    );
+    let mut sides = [Side::new("read", |list| proved::read(list, &mut sum))];
+    let mut read = |list: &[u8]| by_turns(FEW_TURNS, &[list], &mut sides)[0];
+    let (whole, before) = (read(&whole), read(&before));
     ReadingLine {
         what: dear.what,
         steps,
-        step: measured[0].less(read_before[0].median, steps),
+        step: whole.less(before.median, steps),
     }
 }

@@ -1,6 +1,9 @@
 //! Time of this thread, and several sides of a comparison by turns.
 
-use std::ffi::{c_int, c_long};
+use std::{
+    ffi::{c_int, c_long},
+    hint::black_box,
+};
 
 #[repr(C)]
 struct Timespec {
@@ -46,20 +49,71 @@ impl Measured {
             most: share(self.most),
         }
     }
+
+    /// How many times as long as the other it took.
+    pub fn to(&self, other: &Measured) -> f64 {
+        self.median / other.median
+    }
 }
 
-/// Go over all lists with each side, by turns and in changing order, so many
-/// times; the first time isn't counted.
-pub fn by_turns(rounds: usize, lists: usize, sides: &mut [&mut dyn FnMut()]) -> Vec<Measured> {
+type OverLists<'a> = Box<dyn FnMut(&[&[u8]]) + 'a>;
+
+/// A side of a comparison, which does with each list what is measured.
+pub struct Side<'a> {
+    pub name: &'static str,
+    over: OverLists<'a>,
+}
+
+impl<'a> Side<'a> {
+    pub fn new<A>(name: &'static str, mut ask: impl FnMut(&[u8]) -> A + 'a) -> Side<'a> {
+        let over = move |lists: &[&[u8]]| {
+            for list in lists {
+                drop(black_box(ask(black_box(list))));
+            }
+        };
+        Side {
+            name,
+            over: Box::new(over),
+        }
+    }
+}
+
+/// How often rounds are gone, and how often each side goes over the lists in one.
+#[derive(Debug, Clone, Copy)]
+pub struct Turns {
+    pub rounds: usize,
+    pub times_a_turn: usize,
+}
+
+impl Turns {
+    /// Over few lists a turn goes several times, so that the clock is fine enough.
+    pub fn over(lists: &[&[u8]], rounds: usize) -> Turns {
+        const LISTS_A_TURN: usize = 1000;
+        Turns {
+            rounds,
+            times_a_turn: LISTS_A_TURN.div_ceil(lists.len()),
+        }
+    }
+}
+
+/// Go over all lists with each side, by turns and in changing order; the first
+/// round isn't counted.
+pub fn by_turns(turns: Turns, lists: &[&[u8]], sides: &mut [Side]) -> Vec<Measured> {
+    let Turns {
+        rounds,
+        times_a_turn,
+    } = turns;
     let mut times = vec![Vec::new(); sides.len()];
     for round in 0..=rounds {
         for turn in 0..sides.len() {
             let side = (round + turn) % sides.len();
             let start = now();
-            sides[side]();
+            for _ in 0..times_a_turn {
+                (sides[side].over)(lists);
+            }
             let time = now() - start;
             if round > 0 {
-                times[side].push(time as f64 / lists as f64);
+                times[side].push(time as f64 / (times_a_turn * lists.len()) as f64);
             }
         }
     }
@@ -100,7 +154,10 @@ mod tests {
     #[test]
     fn every_side_has_its_turns() {
         let (mut a, mut b) = (0, 0);
-        let measured = by_turns(4, 1, &mut [&mut || a += 1, &mut || b += 1]);
-        assert_eq!((measured.len(), a, b), (2, 5, 5));
+        let lists = [&[][..]; 500];
+        let mut sides = [Side::new("a", |_| a += 1), Side::new("b", |_| b += 1)];
+        let measured = by_turns(Turns::over(&lists, 4), &lists, &mut sides);
+        drop(sides);
+        assert_eq!((measured.len(), a, b), (2, 5000, 5000));
     }
 }

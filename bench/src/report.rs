@@ -3,34 +3,41 @@
 use std::{fs, process::Command, thread};
 
 use crate::{
+    bars::Bar,
     costs::{CostLine, ReadingLine},
     measure::Measured,
-    sides::Line,
+    sides::{MODULE, Table},
 };
 
 const HEAD: &str = "\
 # Measurements
 
-Written by `bench --record` (bench/). One process, release builds, both sides over the same lists by turns. Times are processor time of the thread, in
-nanoseconds a list: the median of all rounds, with the least and the most behind it. A ratio below 1 means that the proved library is the faster one.
+Written by `bench --record` (bench/): `cd bench && cargo run --release --offline -- --record ../docs/BENCHMARKS.md`. One process, release builds, all sides over the same
+lists by turns. Times are processor time of the thread, in nanoseconds a list: the median of all rounds, with the least and the most behind it. A ratio is the proved
+library's time to the other's, by medians: below 1 the proved library is the faster one.
 
 What is inside the timed part:
 
-- **Proved**: one call of `uplink_derivative` or `uplink_run` a list, from bytes to bytes (the run: to a value). Records are decoded and checked inside the
-  call, and the library clears its own working arrays there, on the stack, each time; it allocates nothing. The room for the result is allocated once,
-  outside, and never cleared.
-- **Rust module, nodes to nodes** (derivative): `derivative` of docs/src, built unchanged over the stand-ins of oracle/: nodes to sum, derivative, sum to
-  nodes. The nodes lie there ready; decoding is outside. What it allocates, and freeing its result, is inside, and so is the counting of its steps, some 2 in
-  100 of its time. It has none of document 01's limits to check. This is less work than the proved function does, which reads, checks and writes bytes: it
-  says what the algebra alone takes there, and is no like for like.
-- **Rust module, bytes to bytes** (derivative): the same with what makes it comparable: records decoded and checked, nodes built, and the result written as
-  records. This is the same job, and the ratio to go by.
-- **Plain runner** (run): the Rust module has no runner, so this is oracle/src/runner.rs, a plain one in Rust from document 01's text. Records are decoded and
-  checked inside, into a vector that is allocated each time.
+- **Proved**: one call of `uplink_derivative`, `uplink_read` or `uplink_run` a list, from bytes to bytes (the run: to a value). Records are decoded and checked inside the
+  call, and the library clears its own working arrays there, on the stack, each time; it allocates nothing.
+- **Plain program** (bench/plain): the same job from document 01 in plain Rust: bytes to bytes, no unsafe code, no dependencies, fixed arrays, no allocation in a call, the same
+  arithmetic, refusals and limits. With **cleared room** it has its arrays on its own stack and clears them at each call (40 KB for derivative and read, 2 KB for the run); with **lent
+  room** its caller lends them, and nobody clears them. It has the proved library's short cuts for sums of one term: one power of x times another, and one to a whole number, are
+  reckoned directly. Without short cuts it takes the way of all sums there; both are measured.
+- **Rust module** (derivative): `derivative` of docs/src, built unchanged over the stand-ins of oracle/, from bytes to bytes: records decoded and checked, nodes built, nodes to sum,
+  derivative, sum to nodes, and the result written as records. What it allocates, and freeing it, is inside, and so is the counting of its steps, some 2 in 100 of its time. It has
+  none of document 01's limits to check.
 
-The lists: sums of one to eight whole powers as a fitted formula has them; random lists of all kinds with a derivative; and such sums with x to the power 1.5 beside them, whose
-derivatives have a square root. The run is of the derivatives' lists at 1.5, of those that run to a value, and of lists of one step, which show what a step takes beside the
-empty list. Before anything is timed, the results of both sides are compared, byte for byte.
+The room for a result is allocated once, outside, and never cleared, for all but the module, which allocates its own. Before anything is timed, the answers of all sides are compared,
+byte for byte. `bench --hold 1000000` holds the plain program against the proved library on every stored list, on lists near limits and on a million random ones; `./test` does so
+with a part of them.
+";
+
+const LISTS: &str = "\
+The lists (bench/backlog) are the same ones each time: sums of 1 to 12 whole powers with coefficients as a fit has them, as `write` writes them and term by term; Horner forms; products such as
+(x - a)(x - b)²; sums with square roots, and with functions of a straight line. Each has a derivative. 'All lists' are these ten thousand with kinds mixed; each kind is timed by
+itself too. Besides: drag formulas, sums with x to the power 1.5, and lists of one step, which show what a step takes beside the empty list. The run is of the derivatives' lists at
+1.5, of those that run to a value. Lists that grow have the powers from 1 up, 50 lists of each size.
 ";
 
 const COSTS: &str = "\
@@ -45,6 +52,22 @@ A limit on the cost is one on steps, and steps differ. Nanoseconds a step of `up
 them. In the last three lines every second or third step is a power of a sum whose powers of x are neighbouring numbers next to 2: all their sums round to
 64 numbers, so that no power is refused, and each takes 190,000 to 200,000 products of two entries. No step can have more than 258,048. Nothing dearer was found.
 ";
+
+/// How tools/native_archive compiles the proved code.
+const ARCHIVE: &str = "-O3 -mllvm -inline-threshold=2000";
+
+/// How the names of forms without short cuts end.
+const WITHOUT: &str = ", without short cuts";
+
+/// Where and how it is measured.
+pub struct Setting {
+    pub command: String,
+    pub rounds: usize,
+    pub lists: usize,
+    pub fingerprint: u64,
+    /// Of the computer, before anything was measured.
+    pub load: String,
+}
 
 fn machine() -> String {
     let cores = thread::available_parallelism().map_or(1, usize::from);
@@ -63,9 +86,54 @@ fn processor() -> Option<String> {
     Some(line.split_once(':')?.1.trim().to_string())
 }
 
-fn load() -> String {
+/// How many programs wanted to run in the last minute.
+pub fn load() -> String {
     let text = fs::read_to_string("/proc/loadavg").unwrap_or_default();
     text.split(' ').next().unwrap_or("unknown").to_string()
+}
+
+pub fn head(setting: &Setting) -> String {
+    format!(
+        "{HEAD}\n{LISTS}\n\
+         - command: {}\n\
+         - computer: {}\n\
+         - its load in the last minute: {} before, {} after\n\
+         - rounds: {}, after one that isn't counted\n\
+         - the set: {} lists, fingerprint {:016x}\n\
+         - Rust sides: {}, opt-level {}, the plain program in one codegen unit; proved side: the archive of tools/native_archive, {}\n",
+        setting.command,
+        machine(),
+        setting.load,
+        load(),
+        setting.rounds,
+        setting.lists,
+        setting.fingerprint,
+        env!("COMPILER"),
+        env!("LEVEL"),
+        ARCHIVE,
+    )
+}
+
+fn table(heads: &[&str], rows: impl IntoIterator<Item = Vec<String>>) -> String {
+    let mut text = format!(
+        "| {} |\n|{}\n",
+        heads.join(" | "),
+        "---|".repeat(heads.len())
+    );
+    for cells in rows {
+        text += &format!("| {} |\n", cells.join(" | "));
+    }
+    text
+}
+
+pub fn bars(bars: &[Bar]) -> String {
+    let rows = bars.iter().map(|bar| {
+        let met = if bar.is_met { "yes" } else { "no" };
+        let measured = format!("{:.2}", bar.measured);
+        vec![bar.what.clone(), bar.bar.clone(), measured, met.into()]
+    });
+    let table = table(&["what", "bar", "measured", "met"], rows);
+    format!("\n## Bars\n\n{table}\nHow much stack a call takes is held to bounds by tests/stack.\n")
 }
 
 fn cell(measured: &Measured) -> String {
@@ -75,44 +143,58 @@ fn cell(measured: &Measured) -> String {
     )
 }
 
-/// A table whose other sides have these names.
-fn table(others: &[&str], lines: &[Line]) -> String {
-    let heads: String = others
-        .iter()
-        .map(|name| format!(" {name} | ratio |"))
-        .collect();
-    let marks = "---|".repeat(3 + 2 * others.len());
-    let mut text = format!("| what | lists | proved |{heads}\n|{marks}\n");
-    for line in lines {
-        text += &format!(
-            "| {} | {} | {} |",
-            line.what,
-            line.lists,
-            cell(&line.proved)
-        );
-        for other in &line.others {
-            let ratio = line.proved.median / other.median;
-            text += &format!(" {} | {ratio:.2} |", cell(other));
-        }
-        text += "\n";
-    }
-    text
+/// Tables with the sides that have the library's short cuts, each under its title.
+pub fn with_short_cuts(level: &str, tables: &[(String, &Table)]) -> String {
+    let section = |(title, table): &(String, &Table)| {
+        let table = against(table, |name| !name.ends_with(WITHOUT));
+        format!("\n{level} {title}\n\n{table}")
+    };
+    tables.iter().map(section).collect()
 }
 
-pub fn report(command: &str, rounds: usize, derivatives: &[Line], runs: &[Line]) -> String {
-    format!(
-        "{HEAD}\n- command: {command}\n- machine: {}\n- load of the machine in the last minute: {}\n- rounds: {rounds}, after one that isn't counted\n\
-         - Rust side: {}, opt-level {}; proved side: the archive of tools/native_archive, -O3\n\n{}\n{}",
-        machine(),
-        load(),
-        env!("COMPILER"),
-        env!("LEVEL"),
-        table(
-            &["Rust module, nodes to nodes", "Rust module, bytes to bytes"],
-            derivatives
-        ),
-        table(&["plain runner"], runs),
-    )
+/// Tables with those that have none, where there are any.
+pub fn without_short_cuts(level: &str, tables: &[(String, &Table)]) -> String {
+    let has_some = |table: &Table| table.names.iter().any(|name| name.ends_with(WITHOUT));
+    let section = |(title, table): &(String, &Table)| {
+        let table = against(table, |name| name.ends_with(WITHOUT));
+        format!("\n{level} {title}\n\n{table}")
+    };
+    let tables = tables.iter().filter(|(_, table)| has_some(table));
+    tables.map(section).collect()
+}
+
+/// The proved library against some of the other sides.
+fn against(measured: &Table, is_shown: impl Fn(&str) -> bool) -> String {
+    let others = 1..measured.names.len();
+    let others: Vec<usize> = others
+        .filter(|&side| is_shown(measured.names[side]))
+        .collect();
+    let names = others.iter().map(|&side| full_name(measured.names[side]));
+    let names: Vec<String> = names.collect();
+    let mut heads = vec!["lists", "number", "proved"];
+    for name in &names {
+        heads.extend([name, "ratio"]);
+    }
+    let rows = measured.lines.iter().map(|line| {
+        let mut cells = vec![
+            line.what.clone(),
+            line.lists.to_string(),
+            cell(&line.sides[0]),
+        ];
+        for &side in &others {
+            let ratio = line.sides[0].to(&line.sides[side]);
+            cells.extend([cell(&line.sides[side]), format!("{ratio:.2}")]);
+        }
+        cells
+    });
+    table(&heads, rows)
+}
+
+fn full_name(side: &str) -> String {
+    match side.strip_suffix(WITHOUT).unwrap_or(side) {
+        MODULE => MODULE.into(),
+        form => format!("plain, {form}"),
+    }
 }
 
 /// The section on costs.
@@ -125,40 +207,43 @@ pub fn costs(costs: &[CostLine], readings: &[ReadingLine]) -> String {
 }
 
 fn cost_table(lines: &[CostLine]) -> String {
-    let mut text = format!(
-        "| what | lists | records a list | cost | cost, a record | derivative | part |\n|{}\n",
-        "---|".repeat(7)
-    );
-    for line in lines {
+    let rows = lines.iter().map(|line| {
         let records = line.records as f64 / line.lists as f64;
-        text += &format!(
-            "| {} | {} | {records:.1} | {} | {:.1} | {} | {:.2} |\n",
-            line.what,
-            line.lists,
+        vec![
+            line.what.clone(),
+            line.lists.to_string(),
+            format!("{records:.1}"),
             cell(&line.cost),
-            line.cost.median / records,
+            format!("{:.1}", line.cost.median / records),
             cell(&line.derivative),
-            line.cost.median / line.derivative.median,
-        );
-    }
-    text
+            format!("{:.2}", line.cost.to(&line.derivative)),
+        ]
+    });
+    let heads = [
+        "lists",
+        "number",
+        "records a list",
+        "cost",
+        "cost, a record",
+        "derivative",
+        "part",
+    ];
+    table(&heads, rows)
 }
 
 fn reading_table(lines: &[ReadingLine]) -> String {
-    let mut text = format!(
-        "| what is read | steps | a step | a million steps |\n|{}\n",
-        "---|".repeat(4)
-    );
-    for line in lines {
-        text += &format!(
-            "| {} | {} | {} | {} |\n",
-            line.what,
-            line.steps,
+    let rows = lines.iter().map(|line| {
+        vec![
+            line.what.to_string(),
+            line.steps.to_string(),
             cell(&line.step),
             seconds(line.step.median / 1000.0),
-        );
-    }
-    text
+        ]
+    });
+    table(
+        &["what is read", "steps", "a step", "a million steps"],
+        rows,
+    )
 }
 
 /// Seconds, with three digits that say something.
@@ -167,5 +252,49 @@ fn seconds(seconds: f64) -> String {
         ..1.0 => format!("{seconds:.3} s"),
         ..100.0 => format!("{seconds:.1} s"),
         _ => format!("{seconds:.0} s"),
+    }
+}
+
+#[cfg(test)]
+mod tests {
+    use super::*;
+    use crate::sides::{Line, PROVED};
+
+    #[test]
+    fn sides_stand_in_their_tables() {
+        let took = |median| Measured {
+            median,
+            least: median - 1.0,
+            most: median + 1.0,
+        };
+        let measured = Table {
+            names: vec![PROVED, "lent room", "lent room, without short cuts", MODULE],
+            lines: vec![Line {
+                what: "some".into(),
+                lists: 3,
+                sides: [30.0, 20.0, 40.0, 90.0].map(took).to_vec(),
+            }],
+        };
+        let tables = [("Title".to_string(), &measured)];
+        assert_eq!(
+            with_short_cuts("##", &tables),
+            "\n## Title\n\n\
+             | lists | number | proved | plain, lent room | ratio | Rust module | ratio |\n\
+             |---|---|---|---|---|---|---|\n\
+             | some | 3 | 30 (29 to 31) | 20 (19 to 21) | 1.50 | 90 (89 to 91) | 0.33 |\n"
+        );
+        assert_eq!(
+            without_short_cuts("##", &tables),
+            "\n## Title\n\n\
+             | lists | number | proved | plain, lent room | ratio |\n\
+             |---|---|---|---|---|\n\
+             | some | 3 | 30 (29 to 31) | 40 (39 to 41) | 0.75 |\n"
+        );
+    }
+
+    #[test]
+    fn digits_of_seconds() {
+        let told = [0.0534, 19.24, 2164.3].map(seconds);
+        assert_eq!(told, ["0.053 s", "19.2 s", "2164 s"]);
     }
 }
