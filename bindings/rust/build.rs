@@ -1,6 +1,5 @@
-//! Takes the static archive of the proved crate `uplink`: what `rt staticlib uplink` writes on x86-64, and on Arm the one that
-//! `tools/native_archive` makes of the same proved code for this computer. Nothing else is ever linked: where the archive can't be
-//! made, the build stops and says what to do.
+//! Takes the static archive of the proved crate `uplink` that `tools/native_archive` makes for this computer. Nothing else is ever
+//! linked: where the archive can't be made, the build stops and says what to do.
 
 use std::{
     env, io,
