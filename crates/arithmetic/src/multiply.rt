@@ -372,9 +372,8 @@ fn expr_mul(
     Formed::Done(len)
 }
 
-// The product of the sums of n cells from i on and of m from j on, formed from p on, where there is room for SUM_ENTRIES: TooComplex where two of their terms
-// have none.
-pub fn mul(
+// The product of two sums: whether there is one is asked first.
+fn mul_some(
     kinds: &mut [u8],
     insides: &mut [u8],
     numbers: &mut [[u64; 3]],
@@ -392,4 +391,49 @@ pub fn mul(
         return Formed::Refused(Refusal::TooComplex);
     }
     expr_mul(kinds, insides, numbers, i, n, j, m, p, SUM_LEVELS)
+}
+
+// The product of two sums of one cell. Of two powers of x it is one power, and no table is asked.
+fn mul_one(
+    kinds: &mut [u8],
+    insides: &mut [u8],
+    numbers: &mut [[u64; 3]],
+    i: usize,
+    j: usize,
+    p: usize,
+) -> Formed
+    requires { ⌜ Operand (lent kinds insides numbers) i 1 p × Operand (lent kinds insides numbers) j 1 p × Room (lent kinds insides numbers) (p + sumEntries) ⌝ }
+    ensures { λ r. ⌜ Kept (entering kinds insides numbers) (leaving kinds insides numbers) p (p + sumEntries) ⌝ }
+    ensures { λ r. ⌜ OfTwo (entering kinds insides numbers) i (i + 1) j (j + 1) sumLevels (λ s t. Agrees r (leaving kinds insides numbers) p (product s t)) ⌝ }
+{
+    let x = cells::load(kinds, insides, numbers, i);
+    let y = cells::load(kinds, insides, numbers, j);
+    if (x.kind == sums::tree::X) & (y.kind == sums::tree::X) {
+        let num = x.num + y.num;
+        let coef = x.coef.mul(y.coef);
+        return sums::map::put_power(kinds, insides, numbers, Merge::Add, num, coef, p, 0);
+    }
+    mul_some(kinds, insides, numbers, i, 1, j, 1, p)
+}
+
+// The product of the sums of n cells from i on and of m from j on, formed from p on, where there is room for SUM_ENTRIES: TooComplex where two of their terms
+// have none.
+pub fn mul(
+    kinds: &mut [u8],
+    insides: &mut [u8],
+    numbers: &mut [[u64; 3]],
+    i: usize,
+    n: usize,
+    j: usize,
+    m: usize,
+    p: usize,
+) -> Formed
+    requires { ⌜ Operand (lent kinds insides numbers) i n p × Operand (lent kinds insides numbers) j m p × Room (lent kinds insides numbers) (p + sumEntries) ⌝ }
+    ensures { λ r. ⌜ Kept (entering kinds insides numbers) (leaving kinds insides numbers) p (p + sumEntries) ⌝ }
+    ensures { λ r. ⌜ OfTwo (entering kinds insides numbers) i (i + n) j (j + m) sumLevels (λ s t. Agrees r (leaving kinds insides numbers) p (product s t)) ⌝ }
+{
+    if (n == 1) & (m == 1) {
+        return mul_one(kinds, insides, numbers, i, j, p);
+    }
+    mul_some(kinds, insides, numbers, i, n, j, m, p)
 }

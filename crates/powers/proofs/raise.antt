@@ -2,6 +2,7 @@
 pub mod Down
 pub mod Roots
 pub mod Rooting
+pub mod Singles
 pub mod Turns
 pub mod Whole
 pub mod Reals

@@ -8,6 +8,7 @@ use limits::SUM_LEVELS;
 use numbers::SmallWhole;
 use numbers::complex::Complex;
 use sums::order::Formed;
+use sums::tree::Merge;
 ghost use mathlib.Core.Path.{_≡_};
 ghost use mathlib.Core.Bool.{true};
 ghost use Prim.Native.Nat.{_+_, _<_, _^_};
@@ -18,7 +19,8 @@ ghost use Rattle.numbers.specs.Complex.Arith.{real, one};
 ghost use Rattle.cells.specs.Contract.Book.{lent, entering, leaving, Room};
 ghost use Rattle.cells.specs.Contract.Moves.{Apart, Kept};
 ghost use Rattle.sums.specs.Tree.Sums.{Sum, entry};
-ghost use Rattle.arithmetic.specs.Singles.{constant, alone};
+ghost use Rattle.sums.specs.Tree.Kinds.{X};
+ghost use Rattle.arithmetic.specs.Singles.{single, constant, alone};
 ghost use Rattle.arithmetic.specs.Power.{rootable, unitCoefs, rootOfOne, rooted, raised, wholePower, power, pow, log};
 ghost use Rattle.sums.specs.Contract.Heads.{GoodHead};
 ghost use Rattle.sums.specs.Contract.Lies.{Held, OfOne, OfTwo, Agrees};
@@ -192,6 +194,58 @@ fn multiply(
     Formed::Done(len)
 }
 
+// So many products of one power of x by itself. Its number and its coefficient are reckoned, and only the last product is written.
+fn raise_power(
+    kinds: &mut [u8],
+    insides: &mut [u8],
+    numbers: &mut [[u64; 3]],
+    times: u64,
+    x: Entry,
+    w: usize,
+) -> Formed
+    requires { ⌜ (0 < times) × Room (lent kinds insides numbers) (w + (sumEntries + sumEntries)) ⌝ }
+    ensures { λ r. ⌜ Kept (entering kinds insides numbers) (leaving kinds insides numbers) w (w + (sumEntries + sumEntries)) ⌝ }
+    ensures { λ r. ⌜ ((j : Sum) → Agrees r (leaving kinds insides numbers) w (raised times (single X (x .num) j (x .coef)) (single X (x .num) j (x .coef)))) ⌝ }
+{
+    let mut num = x.num;
+    let mut c = x.coef;
+    let mut left = times - 1;
+    while 0 < left {
+        num = num + x.num;
+        c = Complex::ZERO.add(c.mul(x.coef));
+        if !numbers::is_finite(num) {
+            let why = Refusal::PowerNotFinite;
+            return Formed::Refused(why);
+        }
+        if !c.is_finite() {
+            return Formed::Refused(Refusal::NotFinite);
+        }
+        left = left - 1;
+    }
+    let last = c.mul(x.coef);
+    sums::map::put_power(kinds, insides, numbers, Merge::Add, num + x.num, last, w, 0)
+}
+
+// So many products of a sum of one cell by itself.
+fn raise_one(
+    kinds: &mut [u8],
+    insides: &mut [u8],
+    numbers: &mut [[u64; 3]],
+    times: u64,
+    i: usize,
+    w: usize,
+) -> Formed
+    requires { ⌜ (0 < times) × Source (lent kinds insides numbers) i 1 w × Room (lent kinds insides numbers) (w + (sumEntries + sumEntries)) ⌝ }
+    ensures { λ r. ⌜ Kept (entering kinds insides numbers) (leaving kinds insides numbers) w (w + (sumEntries + sumEntries)) ⌝ }
+    ensures { λ r. ⌜ OfOne (entering kinds insides numbers) i (i + 1) sumLevels (λ s. Agrees r (leaving kinds insides numbers) w (raised times s s)) ⌝ }
+{
+    let x = cells::load(kinds, insides, numbers, i);
+    if x.kind == sums::tree::X {
+        return raise_power(kinds, insides, numbers, times, x, w);
+    }
+    multiply(kinds, insides, numbers, times, i, 1, w)
+}
+
 // So many more products of the sum of n cells from i on with itself.
 fn raise(
     kinds: &mut [u8],
@@ -209,6 +263,9 @@ fn raise(
     if times == 0 {
         cells::copy_within(kinds, insides, numbers, i, n, w);
         return Formed::Done(n);
+    }
+    if n == 1 {
+        return raise_one(kinds, insides, numbers, times, i, w);
     }
     multiply(kinds, insides, numbers, times, i, n, w)
 }

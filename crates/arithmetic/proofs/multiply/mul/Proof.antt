@@ -1,59 +1,51 @@
--- `arithmetic::multiply::mul` meets its contract: whether there is a product is asked first, and then it is formed. Assumes nothing.
+-- `arithmetic::multiply::mul` meets its contract: both ways have it. Assumes nothing.
+use Prim.Native.Nat.{ℕ, _+_}
+use mathlib.Core.Path.{_≡_, sym, subst}
+use mathlib.Core.Bool.{true}
+use lib.Dec.{eqb}
 use borrow.Author.Needs.{needs}
-use borrow.Author.Tests.{not-true, not-false}
-use mathlib.Core.Path.{_≡_, sym, _∙_}
-use mathlib.Core.Bool.{Bool}
-use Prim.Native.Nat.{_+_}
+use borrow.Author.Tests.{eqb-true}
 use Rattle.cells.specs.Contract.Book.{Book, book}
-use Rattle.cells.proofs.Laws.{kept-refl}
 use Rattle.sums.specs.Tree.Sums.{Sum}
-use Rattle.arithmetic.specs.Product.{mulable}
 use Rattle.sums.specs.Contract.Lies.{Lies}
-use Rattle.arithmetic.proofs.multiply.Shapes.{shape-of}
-use Rattle.arithmetic.proofs.multiply.Laws.{whole, product-able, product-not}
+use Rattle.arithmetic.specs.Add.Contract.Operands.{Operand}
+use Rattle.arithmetic.proofs.Steps.{and-both}
 use Rattle.arithmetic.proofs.multiply.mul.Statement.{statement}
 use Rattle.arithmetic.proofs.multiply.mul.Tie as tie
 
-abbrev start : tie.After-can-mul → tie.Start
-start c = c .before .before .before .before .before
+abbrev start : tie.Then1 → tie.Start
+start c = c .before .before .before
 
 abbrev B : tie.Start → Book
 B s = book (s .args .kinds .now) (s .args .insides .now) (s .args .numbers .now)
 
--- what was asked of any two sums that lie there
-asked : (c : tie.After-can-mul) (o : Bool) → c .can-mul .result ≡ o → (s t : Sum) → (let st = start c in
-    Lies (B st) (st .args .i) (st .args .i + st .args .n) 4 s → Lies (B st) (st .args .j) (st .args .j + st .args .m) 4 t → mulable s t ≡ o)
-asked c o e s t ls lt = sym (c .can-mul .ensures s t (shape-of ls) (shape-of lt)) ∙ e
+-- both have one cell
+ones : (c : tie.Then1) → (start c .args .n ≡ 1) × (start c .args .m ≡ 1)
+ones c = let both = and-both (eqb (start c .args .n) 1) (eqb (start c .args .m) 1) (c .if1 .taken) in (eqb-true _ _ (both .0), eqb-true _ _ (both .1))
 
 pub mul-spec : {M : Type 1} → statement M
 mul-spec =
     tie.close
     (tie.spec
     (λ c κs.
-    let pre = c .before .before .before .before .pre in
-    ((pre .0 .held .0, shape-of (pre .0 .held .1)), (pre .1 .held .0, shape-of (pre .1 .held .1))))
-    (λ c. search needs)
-    (λ c. search needs)
-    (λ c.
-    let d = c .before in
-    let st = start d in
-    (kept-refl (B st) _ _, λ s t ls lt. product-not (B st) (st .args .p) s t (asked d _ (not-true _ (c .if1 .taken)) s t ls lt)))
-    (λ c κs.
     let tested = c .before .before .before in
-    let d = tested .before in
-    let pre = start d .pre in
-    (whole (pre .0) (pre .1) (asked d _ (not-false _ (tested .if1 .left)) (pre .0 .held .0) (pre .1 .held .0) (pre .0 .held .1) (pre .1 .held .1)), pre .2))
-    (λ c. c .before .before .before .before .before .expr-mul .ensures .0 .long .kinds)
-    (λ c. c .before .before .before .before .before .expr-mul .ensures .0 .long .insides)
-    (λ c. c .before .before .before .before .before .expr-mul .ensures .0 .long .numbers)
+    let st = start tested in
+    let one = ones tested in
+    (subst (λ (n : ℕ). Operand (B st) (st .args .i) n (st .args .p)) (one .0) (st .pre .0), subst (λ (m : ℕ). Operand (B st) (st .args .j) m (st .args .p)) (one .1) (st .pre .1), st .pre .2))
+    (λ c. search needs)
+    (λ c. search needs)
+    (λ c. search needs)
     (λ c.
-    let e = c .before .before .before .before .before in
-    let tested = e .before .before .before .before in
-    let d = tested .before in
-    let st = start d in
-    let last = e .expr-mul .last in (
-      e .expr-mul .ensures .0,
+    let made = c .before .before .before .before .before in
+    let tested = made .before .before .before .before in
+    let st = start tested in
+    let one = ones tested in (
+      made .mul-one .ensures .0,
       λ s t ls lt.
-          product-able (book (last .0) (last .1 .0) (last .1 .1 .0)) (st .args .p) s t (e .expr-mul .result) (asked d _ (not-false _ (tested .if1 .left)) s t ls lt)
-          (e .expr-mul .ensures .1 s t ls lt),
-    )))
+          made .mul-one .ensures .1 s t (subst (λ (n : ℕ). Lies (B st) (st .args .i) (st .args .i + n) 4 s) (one .0) ls) (subst (λ (m : ℕ). Lies (B st) (st .args .j) (st .args .j + m) 4 t) (one .1) lt),
+    ))
+    (λ c κs. c .before .before .before .before .before .before .pre)
+    (λ c. search needs)
+    (λ c. search needs)
+    (λ c. search needs)
+    (λ c. c .before .before .before .before .before .mul-some .ensures))

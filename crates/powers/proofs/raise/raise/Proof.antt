@@ -1,13 +1,15 @@
 -- `powers::raise::raise` meets its contract: no product is a copy. Assumes nothing.
-use Prim.Native.Nat.{_+_}
+use Prim.Native.Nat.{ℕ, _+_}
 use native.Mathlib.Omega.{arith}
 use borrow.Author.Needs.{needs}
-use mathlib.Core.Path.{_≡_, ap, _∙_}
+use mathlib.Core.Path.{_≡_, ap, subst, _∙_}
 use Rattle.cells.specs.Contract.Book.{Book, book}
 use Rattle.cells.proofs.Laws.{room-less, kept-wider, copied-kept}
 use Rattle.arithmetic.proofs.Agree.{raised-none}
 use Rattle.arithmetic.specs.Power.{raised}
+use Rattle.sums.specs.Contract.Lies.{Lies}
 use Rattle.sums.proofs.order.Walk.{lies-copied}
+use Rattle.arithmetic.specs.Add.Contract.Operands.{Source}
 use Rattle.arithmetic.proofs.add.Lying.{apart-copy, agree-done}
 use Rattle.arithmetic.proofs.add.Places.{apart-result, room-result}
 use Rattle.powers.proofs.raise.raise.Statement.{statement}
@@ -16,6 +18,9 @@ use Rattle.powers.proofs.raise.raise.Tie as tie
 -- the book with the base copied
 abbrev B′ : tie.After-copy-within → Book
 B′ c = let last = c .copy-within .last in book (last .0) (last .1 .0) (last .1 .1 .0)
+
+abbrev B : tie.Start → Book
+B c = book (c .args .kinds .now) (c .args .insides .now) (c .args .numbers .now)
 
 abbrev copied : tie.After-numbers → tie.After-copy-within
 copied c = c .before .before .before .before .before
@@ -42,9 +47,23 @@ raise-spec =
           agree-done (B′ copy) (st .args .w) (st .args .n) _ s (ap (λ m. raised m s s) (test .if1 .taken) ∙ raised-none s s) (pre .0 .few)
           (lies-copied (copy .copy-within .ensures) (room-less {n = st .args .w + (64 + 64)} (omega (arith, pre .0 .few)) (pre .1)) ls),
     ))
-    -- some
+    -- some, of one cell
     (λ c κs.
-    let test = c .before .before .before in
+    let one = c .before .before .before in
+    let test = one .before in
+    let st = test .before .before .before in
+    (omega (arith, test .if1 .left), subst (λ (n : ℕ). Source (B st) (st .args .i) n (st .args .w)) (one .if2 .taken) (st .pre .0), st .pre .1))
+    (λ c. search needs)
+    (λ c. search needs)
+    (λ c. search needs)
+    (λ c.
+    let made = c .before .before .before .before .before in
+    let one = made .before .before .before .before in
+    let st = one .before .before .before .before in
+    (made .raise-one .ensures .0, λ s ls. made .raise-one .ensures .1 s (subst (λ (n : ℕ). Lies (B st) (st .args .i) (st .args .i + n) 4 s) (one .if2 .taken) ls)))
+    -- some, of others
+    (λ c κs.
+    let test = c .before .before .before .before in
     let pre = test .before .before .before .pre in
     (omega (arith, test .if1 .left), pre .0, pre .1))
     (λ c. search needs)
