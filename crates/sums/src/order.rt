@@ -192,7 +192,7 @@ pub fn eq_sum(
 }
 
 // Whether the sum of n cells from i on has at most `left` levels.
-pub fn nests_within(insides: &[u8], i: usize, n: usize, left: usize) -> bool
+fn nests_inside(insides: &[u8], i: usize, n: usize, left: usize) -> bool
     requires { ⌜ Nested (now insides) i (i + n) ⌝ }
     ensures { λ r. ⌜ ((s : Sum) → Nests (now (insides .entry)) i (i + n) s → r ≡ leb (levels s) left) ⌝ }
 {
@@ -203,12 +203,23 @@ pub fn nests_within(insides: &[u8], i: usize, n: usize, left: usize) -> bool
     let mut k = i;
     while k < end {
         let d = insides[k] as usize;
-        if !nests_within(insides, k + 1, d, left - 1) {
+        if !nests_inside(insides, k + 1, d, left - 1) {
             return false;
         }
         k = k + 1 + d;
     }
     true
+}
+
+// Whether the sum has no more than so many levels. Nothing has none, and most terms have nothing inside: a call of a function on itself isn't begun for them.
+pub fn nests_within(insides: &[u8], i: usize, n: usize, left: usize) -> bool
+    requires { ⌜ Nested (now insides) i (i + n) ⌝ }
+    ensures { λ r. ⌜ ((s : Sum) → Nests (now (insides .entry)) i (i + n) s → r ≡ leb (levels s) left) ⌝ }
+{
+    if n == 0 {
+        return true;
+    }
+    nests_inside(insides, i, n, left)
 }
 
 // Where the term x, whose inside lies from i on, stands or belongs in the sum of n entries from p on.

@@ -1,4 +1,4 @@
--- `sums::order::nests_within` meets its contract: it calls itself with one level less. The loop's invariant: what is left of the sum decides. Assumes nothing.
+-- `sums::order::nests_inside` meets its contract: it calls itself with one level less. The loop's invariant: what is left of the sum decides. Assumes nothing.
 use Prim.Native.Nat.{ℕ, _+_, _-_, _^_, _<_}
 use native.Mathlib.Omega.{arith}
 use borrow.Author.Tests.{not-true, not-false}
@@ -10,23 +10,23 @@ use lib.ListN.{getD}
 use Rattle.sums.specs.Tree.Sums.{Sum}
 use Rattle.sums.specs.Contract.Nests.{Nests}
 use Rattle.sums.proofs.order.Nesting.{nests-zero, Rest, Entered, entered, nests-none}
-use Rattle.sums.proofs.order.nests_within.Reads as nests-within
-use Rattle.sums.proofs.order.nests_within.Kinds as nests-within-kinds
-use Rattle.sums.proofs.order.+nests_within.Lts-nests_within as lts
-use Rattle.sums.proofs.order.+nests_within.{statement}
-use Rattle.sums.proofs.order.+nests_within.Tie.{close}
+use Rattle.sums.proofs.order.nests_inside.Reads as nests-inside
+use Rattle.sums.proofs.order.nests_inside.Kinds as nests-inside-kinds
+use Rattle.sums.proofs.order.+nests_inside.Lts-nests_inside as lts
+use Rattle.sums.proofs.order.+nests_inside.{statement}
+use Rattle.sums.proofs.order.+nests_inside.Tie.{close}
 
-abbrev μ : Measures 1 nests-within-kinds.ps ℕ
+abbrev μ : Measures 1 nests-inside-kinds.ps ℕ
 μ κs a = a .1 .1 .1 .0
 
-abbrev at : ℕ → In 1 nests-within-kinds.ps
-at t = and 1 nests-within-kinds.ps (is 1 nests-within-kinds.ps μ t) nests-within.Pre
+abbrev at : ℕ → In 1 nests-inside-kinds.ps
+at t = and 1 nests-inside-kinds.ps (is 1 nests-inside-kinds.ps μ t) nests-inside.Pre
 
-abbrev below : ℕ → In 1 nests-within-kinds.ps
-below t = and 1 nests-within-kinds.ps (falls 1 nests-within-kinds.ps _<_ μ t) nests-within.Pre
+abbrev below : ℕ → In 1 nests-inside-kinds.ps
+below t = and 1 nests-inside-kinds.ps (falls 1 nests-inside-kinds.ps _<_ μ t) nests-inside.Pre
 
 abbrev claims : ℕ → lts.Claims
-claims t = (below t, nests-within.Post)
+claims t = (below t, nests-inside.Post)
 
 abbrev Inv-loop : lts.InvT-loop
 Inv-loop insides i n left end k₀ k = (s : Sum) → Nests insides i (i + n) s → Rest insides k (i + n) left s
@@ -35,8 +35,8 @@ abbrev μ-loop : lts.MeasureT-loop
 μ-loop insides i n left end k₀ k = i + n - k
 
 -- in a turn: the entry that is read, its inside and the rest, of every sum that nests there
-module _ (t : ℕ) (c : lts.In-loop (claims t) (at t) nests-within.Post Inv-loop μ-loop) where
-  abbrev start : lts.Start (claims t) (at t) nests-within.Post Inv-loop μ-loop
+module _ (t : ℕ) (c : lts.In-loop (claims t) (at t) nests-inside.Post Inv-loop μ-loop) where
+  abbrev start : lts.Start (claims t) (at t) nests-inside.Post Inv-loop μ-loop
   start = c .before .before .before .before
 
   abbrev insides : List ℕ
@@ -56,8 +56,8 @@ module _ (t : ℕ) (c : lts.In-loop (claims t) (at t) nests-within.Post Inv-loop
   fits : k + 1 + getD insides k 0 < 2 ^ 64
   fits = omega (arith, held .within, start .pre .1 .1 .room, start .good)
 
-pub +nests-within-spec : {M : Type 1} → statement M
-+nests-within-spec = close μ λ t. lts.spec (claims t) (at t) nests-within.Post Inv-loop μ-loop
+pub +nests-inside-spec : {M : Type 1} → statement M
++nests-inside-spec = close μ λ t. lts.spec (claims t) (at t) nests-inside.Post Inv-loop μ-loop
     (λ c s h. rw (c .if1 .taken) (nests-zero _ _ _ s h))
     (λ c. omega (arith, c .before .before .pre .1 .1 .room, c .before .before .good))
     (λ c s h. record { s′ = s; nests = h; same = refl })
@@ -69,14 +69,14 @@ pub +nests-within-spec : {M : Type 1} → statement M
     (λ c s h.
     let called = c .before in
     let e = turn t (called .before .before) s h in
-    let inner = called .nests-within .ensures (e .inner) (e .nests-inner) in
-    sym (e .deeper (sym inner ∙ not-true (called .nests-within .result) (c .if2 .taken))))
+    let inner = called .nests-inside .ensures (e .inner) (e .nests-inner) in
+    sym (e .deeper (sym inner ∙ not-true (called .nests-inside .result) (c .if2 .taken))))
     (λ c. omega (arith, fits t (c .before .before .before)))
     (λ c. omega (arith, fits t (c .before .before .before)))
     (λ c. omega (arith, held t (c .before .before .before) .within))
     (λ c s h.
     let called = c .before in
     let e = turn t (called .before .before) s h in
-    let inner = called .nests-within .ensures (e .inner) (e .nests-inner) in
-    record { s′ = e .rest; nests = e .nests-rest; same = e .shallow (sym inner ∙ not-false (called .nests-within .result) (c .if2 .left)) })
+    let inner = called .nests-inside .ensures (e .inner) (e .nests-inner) in
+    record { s′ = e .rest; nests = e .nests-rest; same = e .shallow (sym inner ∙ not-false (called .nests-inside .result) (c .if2 .left)) })
     (λ c s h. sym (nests-none _ _ _ _ s (c .before .loop .inv s h) (c .loop-test .left)))
