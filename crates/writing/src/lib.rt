@@ -19,6 +19,7 @@ ghost use Rattle.numbers.specs.Signs.{zero64};
 ghost use Rattle.sums.specs.Contract.Lies.{Held, OfOne};
 ghost use Rattle.writing.specs.Contract.Steps.{TermSpoken, TurnSpoken};
 ghost use Rattle.writing.specs.Contract.Turns.{meetsX, withCoef, finished};
+ghost use Rattle.writing.specs.Contract.Room.{Spacious, fewEntries};
 ghost use Rattle.writing.specs.Draft.Contract.Growing.{Ready, Drawn, Spoken};
 ghost use Rattle.writing.specs.Draft.Contract.Lying.{Answered};
 ghost use Rattle.writing.specs.Draft.Writing.{push, does, append, two};
@@ -316,6 +317,63 @@ const FRONT: usize = 2 * SUM_ENTRIES;
 
 const DRAFT_RECORDS: usize = FRONT + 9 * SUM_ENTRIES + 2;
 
+// Most sums are short, and clearing room for the longest takes more time than writing them.
+const FEW_ENTRIES: usize = 16;
+
+const FEW_FRONT: usize = 2 * FEW_ENTRIES;
+
+const FEW_RECORDS: usize = FEW_FRONT + 9 * FEW_ENTRIES + 2;
+
+// The sum of m cells from j on, written into a draft that begins at the place `front` of b.
+fn write_in(
+    kinds: &[u8],
+    insides: &[u8],
+    numbers: &[[u64; 3]],
+    j: usize,
+    m: usize,
+    complex: bool,
+    b: &mut [u8],
+    front: usize,
+    out: &mut [u8],
+) -> Wrote
+    requires { ⌜ Held (lent kinds insides numbers) j (j + m) sumLevels × Spacious (now b) front m ⌝ }
+    ensures { λ r. ⌜ OfOne (entering kinds insides numbers) j (j + m) sumLevels (λ s. Answered (now (out .entry)) (now (out .exit)) r (toNodes complex s)) ⌝ }
+{
+    let d = Draft {
+        from: front,
+        end: front,
+    };
+    let s = write_sum(kinds, insides, numbers, j, m, complex, SUM_LEVELS, b, d);
+    crate::draft::answer(b, s, out)
+}
+
+// A sum of few entries.
+fn write_few(
+    kinds: &[u8],
+    insides: &[u8],
+    numbers: &[[u64; 3]],
+    j: usize,
+    m: usize,
+    complex: bool,
+    out: &mut [u8],
+) -> Wrote
+    requires { ⌜ Held (lent kinds insides numbers) j (j + m) sumLevels × (m ≤ fewEntries) ⌝ }
+    ensures { λ r. ⌜ OfOne (entering kinds insides numbers) j (j + m) sumLevels (λ s. Answered (now (out .entry)) (now (out .exit)) r (toNodes complex s)) ⌝ }
+{
+    let mut b = [0u8; RECORD_BYTES * FEW_RECORDS];
+    write_in(
+        kinds,
+        insides,
+        numbers,
+        j,
+        m,
+        complex,
+        &mut b,
+        FEW_FRONT,
+        out,
+    )
+}
+
 // The sum of m cells from j on goes to the front of out as a list of records, or is refused: 15 where a number cannot be written, then 17 where there is no room.
 pub fn expr_to_node(
     kinds: &[u8],
@@ -329,21 +387,9 @@ pub fn expr_to_node(
     requires { ⌜ Held (lent kinds insides numbers) j (j + m) sumLevels × (m ≤ sumEntries) ⌝ }
     ensures { λ r. ⌜ OfOne (entering kinds insides numbers) j (j + m) sumLevels (λ s. Answered (now (out .entry)) (now (out .exit)) r (toNodes complex s)) ⌝ }
 {
+    if m <= FEW_ENTRIES {
+        return write_few(kinds, insides, numbers, j, m, complex, out);
+    }
     let mut b = [0u8; RECORD_BYTES * DRAFT_RECORDS];
-    let d = Draft {
-        from: FRONT,
-        end: FRONT,
-    };
-    let s = write_sum(
-        kinds,
-        insides,
-        numbers,
-        j,
-        m,
-        complex,
-        SUM_LEVELS,
-        &mut b,
-        d,
-    );
-    crate::draft::answer(&b, s, out)
+    write_in(kinds, insides, numbers, j, m, complex, &mut b, FRONT, out)
 }

@@ -1,28 +1,19 @@
--- The sum is written into a buffer with room for it, and what was said is answered. Assumes nothing.
+-- Both buffers have room for the sums that are written into them. Assumes nothing.
 use borrow.Author.Needs.{needs}
 use native.Mathlib.Omega.{arith}
-use Rattle.writing.specs.ToNodes.{toNodes}
-use Rattle.writing.proofs.Whole.{ready-start, said-whole}
+use mathlib.Core.Path.{refl}
+use Rattle.writing.proofs.Whole.{spacious}
 use Rattle.writing.proofs.expr_to_node.Statement.{statement}
 use Rattle.writing.proofs.expr_to_node.Tie as tie
-
-abbrev from-start : tie.After-write-sum → tie.Start
-from-start c = c .before .before .before .before .before
 
 pub expr-to-node-spec : {M : Type 1} → statement M
 expr-to-node-spec =
     tie.close
     (tie.spec
+    (λ c κs. search needs)
     (λ c. search needs)
-    (λ c κs. let st = c .before .before .before .before in (st .pre .0, ready-start (st .args .m) (st .pre .1)))
     (λ c. search needs)
-    (λ c κs.
-    let written = c .before .before .before in
-    let st = from-start written in
-    let h = st .pre .0 in
-    (toNodes (st .args .complex) (h .0), said-whole 16944 (st .args .complex) (h .0) (omega arith) (written .write-sum .ensures (h .0) (h .1))))
     (λ c. search needs)
-    (λ c s l.
-    let written = c .before .before .before .before .before .before in
-    let st = from-start written in
-    c .before .before .answer .ensures (toNodes (st .args .complex) s) (said-whole 16944 (st .args .complex) s (omega arith) (written .write-sum .ensures s l))))
+    (λ c κs. let st = c .before .before .before .before .before .before in (st .pre .0, spacious 16944 64 (st .args .m) (st .pre .1) (omega arith) refl))
+    (λ c. search needs)
+    (λ c. search needs))
