@@ -1,4 +1,5 @@
 // What a primitive takes and leaves in reading, and whether it counts as handled: a table of 256 places, one for each code.
+use crate::record::Primitive;
 ghost use mathlib.Core.Path.{_≡_};
 ghost use Rattle.formats.specs.Names.{primitiveOf};
 ghost use Rattle.formats.specs.Table.{row, packed};
@@ -270,23 +271,42 @@ fn table_at(code: u8) -> u8
     TABLE[i]
 }
 
+// What the table has at a code. The primitives that formulas are made of have it here too: wherever the table is asked it is laid out anew, which takes longer than most steps.
+fn row_of(code: u8) -> u8
+    ensures { λ r. ⌜ r ≡ packed (row (primitiveOf code)) ⌝ }
+{
+    match crate::record::primitive_of(code) {
+        Primitive::Pop => 1,
+        Primitive::Dup => 9,
+        Primitive::Flip => 10,
+        Primitive::Over => 14,
+        Primitive::Neg => 21,
+        Primitive::Sqrt => 21,
+        Primitive::Add => 22,
+        Primitive::Sub => 22,
+        Primitive::Mul => 22,
+        Primitive::Pow => 22,
+        _ => table_at(code),
+    }
+}
+
 // How many operands the primitive takes, in reading.
 pub fn taken(code: u8) -> usize
     ensures { λ r. ⌜ r ≡ row (primitiveOf code) .taken ⌝ }
 {
-    table_at(code) as usize % 4
+    row_of(code) as usize % 4
 }
 
 // How many results it leaves.
 pub fn left(code: u8) -> usize
     ensures { λ r. ⌜ r ≡ row (primitiveOf code) .left ⌝ }
 {
-    table_at(code) as usize / 4 % 4
+    row_of(code) as usize / 4 % 4
 }
 
 // Whether it counts as handled.
 pub fn handled(code: u8) -> bool
     ensures { λ r. ⌜ r ≡ row (primitiveOf code) .handled ⌝ }
 {
-    table_at(code) / 16 == 1
+    row_of(code) / 16 == 1
 }

@@ -6,4 +6,4 @@ use Rattle.formats.proofs.table.left.Statement.{statement}
 use Rattle.formats.proofs.table.left.Tie as tie
 
 pub left-spec : {M : Type 1} → statement M
-left-spec = tie.close (tie.spec (λ c κs. search needs) (λ c. search needs) (λ c. rw (c .table-at .ensures, unpacked (primitiveOf (c .before .args .code)) .1)))
+left-spec = tie.close (tie.spec (λ c κs. search needs) (λ c. search needs) (λ c. rw (c .row-of .ensures, unpacked (primitiveOf (c .before .args .code)) .1)))

@@ -6,4 +6,4 @@ use Rattle.formats.proofs.table.taken.Statement.{statement}
 use Rattle.formats.proofs.table.taken.Tie as tie
 
 pub taken-spec : {M : Type 1} → statement M
-taken-spec = tie.close (tie.spec (λ c κs. search needs) (λ c. search needs) (λ c. rw (c .table-at .ensures, unpacked (primitiveOf (c .before .args .code)) .0)))
+taken-spec = tie.close (tie.spec (λ c κs. search needs) (λ c. search needs) (λ c. rw (c .row-of .ensures, unpacked (primitiveOf (c .before .args .code)) .0)))
