@@ -5,7 +5,8 @@ pub mod Bytes
 pub mod Forest
 pub mod Shapes
 pub mod Fit
-pub mod Heights
+pub mod Stands
+pub mod Nest
 pub mod Codes
 pub mod Theorem
 pub mod Walk

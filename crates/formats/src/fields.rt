@@ -2,12 +2,16 @@
 use crate::record::Kind;
 use crate::record::KindFound;
 use crate::record::Record;
+use limits::RECORD_BYTES;
 ghost use mathlib.Core.Path.{_≡_};
-ghost use Prim.Native.Nat.{_≤_, _<_};
-ghost use Rattle.limits.specs.Limits.{listRecords};
+ghost use mathlib.Core.Bool.{true};
+ghost use Prim.Native.Nat.{_+_, _*_, _≤_, _<_};
+ghost use lib.ListN.{length};
+ghost use Rattle.limits.specs.Limits.{listRecords, recordBytes};
 ghost use Rattle.formats.specs.Names.{kindOf};
 ghost use Rattle.formats.specs.Rules.{fieldsOk, isKnown};
-ghost use Rattle.formats.specs.Contract.Measure.{mayStand};
+ghost use Rattle.formats.specs.Tree.{recAt};
+ghost use Rattle.formats.specs.Contract.Measure.{Simple, mayStand};
 
 fn is_known(b: u8) -> bool
     ensures { λ r. ⌜ r ≡ isKnown (kindOf b) ⌝ }
@@ -19,8 +23,8 @@ fn is_known(b: u8) -> bool
     }
 }
 
-// Whether the kind is one of the listed, and what it does not use is zero.
-pub fn fields_ok(r: Record) -> bool
+// Whether the kind is one of the listed, and what it does not use is zero: field by field.
+fn each_field_ok(r: Record) -> bool
     ensures { λ b. ⌜ b ≡ fieldsOk r ⌝ }
 {
     let known = is_known(r.kind);
@@ -38,6 +42,33 @@ pub fn fields_ok(r: Record) -> bool
         & (modifier | body | run | custom | (r.inside == 0))
         & (real | complex | (r.re == 0))
         & (complex | (r.im == 0))
+}
+
+// The same, quickly for modifiers and bodies, which hold most of what is inside others.
+pub fn fields_ok(r: Record) -> bool
+    ensures { λ b. ⌜ b ≡ fieldsOk r ⌝ }
+{
+    if crate::record::is_a(r.kind, Kind::Modifier) {
+        return (r.blank == 0) & (r.args == 0) & (r.re == 0) & (r.im == 0);
+    }
+    if crate::record::is_a(r.kind, Kind::Body) {
+        return (r.blank == 0) & (r.code == 0) & (r.re == 0) & (r.im == 0);
+    }
+    each_field_ok(r)
+}
+
+// Whether the record at place `i` is a push of a real number or a primitive, and nothing else is set, by its three words. Most records are.
+pub fn is_simple(list: &[u8], i: usize) -> bool
+    requires { ⌜ recordBytes * i + recordBytes ≤ length (now list) ⌝ }
+    ensures { λ b. ⌜ (b ≡ true → Simple (recAt (now (list .entry)) i)) ⌝ }
+{
+    let at = RECORD_BYTES * i;
+    let head = crate::record::eight(list, at);
+    let re = crate::record::eight(list, at + 8);
+    let im = crate::record::eight(list, at + 16);
+    let push = head == 1;
+    let primitive = (head % 256 == 5) & (head < 65536) & (re == 0);
+    (push | primitive) & (im == 0)
 }
 
 // Whether the record at `at` may stand in a stretch that ends at `to`, of bodies or of others.

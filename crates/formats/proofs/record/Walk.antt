@@ -1,22 +1,23 @@
 -- Laws for a function that walks a stretch of records by index: the whole of a good list is a stretch; the first record of a stretch tells its kind and what it
 -- uses; what is inside it is a stretch with a level less, and what comes after it is one. Assumes nothing.
 use mathlib.Core.Path.{_≡_, refl}
-use mathlib.Core.Bool.{Bool, true, false}
-use mathlib.Core.List.{List}
+use mathlib.Core.Bool.{Bool, true, false, _&&_}
+use mathlib.Core.List.{List, [], _∷_}
 use Prim.Native.Nat.{ℕ, suc, _+_, _-_, _/_, _≤_, _<_}
 use native.Mathlib.Omega.{arith}
+use lib.Dec.{eqb}
 use lib.ListN.{length}
 use Rattle.formats.specs.Names.{kindOf}
 use Rattle.formats.specs.Tree.{rec, count, recAt, nextOf, forest}
-use Rattle.formats.specs.Rules.{isA, isKnown, fieldsOk, verdict}
+use Rattle.formats.specs.Rules.{isA, isKnown, oneOf, usedOrZero, fieldsOk, verdict}
 use Rattle.formats.specs.Contract.Walk.{Stretch, Walkable}
 use Rattle.formats.proofs.record.Forest.{forest-none}
-use Rattle.formats.proofs.record.Shapes.{and-left}
+use Rattle.formats.proofs.record.Shapes.{and-left, and-right}
 use Rattle.formats.proofs.record.Fit.{Told, ok-next, ok-told, forest-split, height-split, count-split}
 use Rattle.formats.proofs.record.Theorem.{good-sound, good-height, whole, few, ok}
 use Rattle.formats.specs.declared.record.Record.{Record}
 use Rattle.formats.specs.declared.record.Kind.{Kind}
-use Rattle.formats.specs.declared.record.Kind.the-variants.{Modifier}
+use Rattle.formats.specs.declared.record.Kind.the-variants as kind
 use Rattle.formats.specs.declared.record.KindFound.{KindFound}
 use Rattle.formats.specs.declared.record.KindFound.the-variants.{Known, Unknown}
 use Rattle.formats.specs.declared.record.Verdict.the-variants.{Good}
@@ -35,6 +36,16 @@ found Unknown h = let z : _≡_ {A = ℕ} 0 1 = cc in absurd (omega arith)
 pub fields-kind : (r : Record) → fieldsOk r ≡ true → (k : Kind) × (kindOf (r .kind) ≡ Known k)
 unfolding fieldsOk
 fields-kind r h = found (kindOf (r .kind)) (and-left (isKnown (kindOf (r .kind))) _ (and-left _ _ (and-left _ _ (and-left _ _ (and-left _ _ (and-left _ _ h))))))
+
+-- and a record holds others, or none
+pub fields-inside : (r : Record) → fieldsOk r ≡ true → usedOrZero (oneOf r (kind.Modifier ∷ kind.Body ∷ kind.Run ∷ kind.CustomInverse ∷ [])) (r .inside) ≡ true
+unfolding fieldsOk
+fields-inside r f =
+    let a : Bool = isKnown (kindOf (r .kind)) && eqb (r .blank) 0 && usedOrZero (oneOf r (kind.Primitive ∷ kind.Modifier ∷ [])) (r .code) && usedOrZero (oneOf r (kind.Body ∷ [])) (r .args) in
+    let i : Bool = usedOrZero (oneOf r (kind.Modifier ∷ kind.Body ∷ kind.Run ∷ kind.CustomInverse ∷ [])) (r .inside) in
+    let c : Bool = usedOrZero (oneOf r (kind.RealPush ∷ kind.ComplexPush ∷ [])) (r .re) in
+    let g : Bool = usedOrZero (oneOf r (kind.ComplexPush ∷ [])) (r .im) in
+    and-right a i (and-left (a && i) c (and-left (a && i && c) g f))
 
 -- an empty stretch holds nothing
 pub count-none : (s : List ℕ) (a e : ℕ) → e ≤ a → count (forest s a e) ≡ 0
@@ -63,7 +74,7 @@ module _ (s : List ℕ) (a e : ℕ) (b : Bool) (levels : ℕ) (t : Stretch s a e
     pub stretch-levels : 0 < levels
     stretch-levels = omega (arith, t .low, height-split s a e h stretch-next)
 
-    pub stretch-inside : Stretch s (a + 1) (nextOf s a) (isA (recAt s a) Modifier) (levels - 1)
+    pub stretch-inside : Stretch s (a + 1) (nextOf s a) (isA (recAt s a) kind.Modifier) (levels - 1)
     stretch-inside =
         record {
           order = omega arith;
