@@ -5,6 +5,7 @@ use crate::Left;
 use crate::Pair;
 use crate::Single;
 use crate::Work;
+use formats::record::Primitive;
 use formats::record::Record;
 use limits::Refusal;
 use numbers::SmallWhole;
@@ -13,8 +14,9 @@ ghost use mathlib.Core.List.{List};
 ghost use Prim.Native.Nat.{_+_, _-_, _≤_, _<_};
 ghost use lib.ListN.{length};
 ghost use lib.Ieee.{Float, binary64, ofBits};
-ghost use Rattle.running.specs.Primitives.{times, power, squareRoot, ofOne, ofTwo, leave, apply, act};
+ghost use Rattle.running.specs.Primitives.{times, power, squareRoot, workOf, ofOne, ofTwo, leave, apply, act};
 ghost use Rattle.running.specs.declared.Left.the-variants.{One};
+ghost use Rattle.running.specs.declared.Work.the-variants.{OfOne, OfTwo};
 ghost use Rattle.running.specs.Contract.Views.{stackOf, viewDid, Under};
 
 // b multiplied by itself, n factors from the left.
@@ -117,6 +119,32 @@ fn leave(l: Left, stack: &mut [f64], n: usize) -> Did
     }
 }
 
+// A primitive that takes one value, on the first n.
+fn single(o: Single, stack: &mut [f64], n: usize) -> Did
+    requires { ⌜ n + 2 ≤ length (now stack) ⌝ }
+    ensures { λ r. ⌜ viewDid (now (stack .exit)) r ≡ apply (OfOne o) (stackOf (now (stack .entry)) n) ⌝ }
+    ensures { λ r. ⌜ Under (n + 3) r ⌝ }
+{
+    if n < 1 {
+        return Did::Stop(Refusal::TooManyVariables);
+    }
+    let l = of_one(o, stack[n - 1]);
+    leave(l, stack, n - 1)
+}
+
+// A primitive that takes two values, on the first n.
+fn pair(o: Pair, stack: &mut [f64], n: usize) -> Did
+    requires { ⌜ n + 1 ≤ length (now stack) ⌝ }
+    ensures { λ r. ⌜ viewDid (now (stack .exit)) r ≡ apply (OfTwo o) (stackOf (now (stack .entry)) n) ⌝ }
+    ensures { λ r. ⌜ Under (n + 3) r ⌝ }
+{
+    if n < 2 {
+        return Did::Stop(Refusal::TooManyVariables);
+    }
+    let l = of_two(o, stack[n - 1], stack[n - 2]);
+    leave(l, stack, n - 2)
+}
+
 // A primitive, on the first n values.
 fn apply(w: Work, stack: &mut [f64], n: usize) -> Did
     requires { ⌜ n + 2 ≤ length (now stack) ⌝ }
@@ -125,20 +153,26 @@ fn apply(w: Work, stack: &mut [f64], n: usize) -> Did
 {
     match w {
         Work::Lacks(q) => Did::Stop(q),
-        Work::OfOne(o) => {
-            if n < 1 {
-                return Did::Stop(Refusal::TooManyVariables);
-            }
-            let l = of_one(o, stack[n - 1]);
-            leave(l, stack, n - 1)
-        }
-        Work::OfTwo(o) => {
-            if n < 2 {
-                return Did::Stop(Refusal::TooManyVariables);
-            }
-            let l = of_two(o, stack[n - 1], stack[n - 2]);
-            leave(l, stack, n - 2)
-        }
+        Work::OfOne(o) => single(o, stack, n),
+        Work::OfTwo(o) => pair(o, stack, n),
+    }
+}
+
+// The same by the primitive's name: the frequent ones are told apart once, the others go the general way.
+fn perform(p: Primitive, stack: &mut [f64], n: usize) -> Did
+    requires { ⌜ n + 2 ≤ length (now stack) ⌝ }
+    ensures { λ r. ⌜ viewDid (now (stack .exit)) r ≡ apply (workOf p) (stackOf (now (stack .entry)) n) ⌝ }
+    ensures { λ r. ⌜ Under (n + 3) r ⌝ }
+{
+    match p {
+        Primitive::Dup => single(Single::Dup, stack, n),
+        Primitive::Add => pair(Pair::Add, stack, n),
+        Primitive::Sub => pair(Pair::Sub, stack, n),
+        Primitive::Mul => pair(Pair::Mul, stack, n),
+        Primitive::Div => pair(Pair::Div, stack, n),
+        Primitive::Pow => pair(Pair::Pow, stack, n),
+        Primitive::Over => pair(Pair::Over, stack, n),
+        _ => apply(crate::work_of(p), stack, n),
     }
 }
 
@@ -160,11 +194,7 @@ pub fn act(d: Deed, r: Record, stack: &mut [f64], n: usize) -> Did
 {
     match d {
         Deed::Pushes => leave(number(r.re), stack, n),
-        Deed::Works => apply(
-            crate::work_of(formats::record::primitive_of(r.code)),
-            stack,
-            n,
-        ),
+        Deed::Works => perform(formats::record::primitive_of(r.code), stack, n),
         Deed::Refuses(q) => Did::Stop(q),
     }
 }
