@@ -2,7 +2,7 @@
 use Prim.Native.Nat.{ℕ, suc, _+_, _-_, max}
 use native.Mathlib.Omega.{arith}
 use mathlib.Core.Path.{_≡_, refl, ap, _∙_, sym}
-use mathlib.Core.Bool.{Bool, true, false, _&&_}
+use mathlib.Core.Bool.{Bool, true, false}
 use mathlib.Core.List.{List, [], _∷_}
 use lib.Dec.{eqb, leb}
 use lib.ListN.{length}
@@ -20,12 +20,11 @@ use Rattle.formats.specs.declared.record.Verdict.{Verdict}
 use Rattle.formats.specs.declared.record.Verdict.the-variants as verdicts
 use Rattle.formats.specs.Names.{kindNo, kindOf, modifierNo}
 use Rattle.formats.specs.Tree.{Nodes, end, rec, size, count, forest, parse, recordsIn}
-use Rattle.formats.specs.Rules.{isA, isKnown, oneOf, usedOrZero, fieldsOk, okNodes, verdict}
+use Rattle.formats.specs.Rules.{isA, oneOf, usedOrZero, fieldsOk, okNodes, verdict}
 use Rattle.formats.proofs.record.Names.{kind-found}
-use Rattle.formats.proofs.record.Shapes.{and-left, and-right}
 use Rattle.formats.proofs.record.Fit.{told}
 use Rattle.formats.proofs.record.Forest.{size-forest}
-use Rattle.formats.proofs.record.Walk.{fields-kind, whole-stretch}
+use Rattle.formats.proofs.record.Walk.{fields-kind, fields-inside, whole-stretch}
 use Rattle.running.specs.Primitives.{Act, went, stop, act, wayOf}
 use Rattle.running.specs.Running.{Running, Out, done, refusedAt, andThen, ifRoom, settle, copied, giveBack, modify, stepped, runBy, runs, lastOf, ended, start, runNodes, judged, runList}
 use Rattle.running.specs.declared.Deed.{Deed}
@@ -77,15 +76,9 @@ module _ (r : Record) (d : Deed) (s l : List Float) (q : act d r s ≡ went l) (
   kind-inside kind.AnythingElse v e = eqb-true (r .inside) 0 (rw v at i)
 
 no-inside : (r : Record) (d : Deed) (s l : List Float) → fieldsOk r ≡ true → wayOf (kindOf (r .kind)) ≡ Acts d → act d r s ≡ went l → r .inside ≡ 0
-unfolding fieldsOk
 no-inside r d s l f e q =
     let k = fields-kind r f in
-    let a : Bool = isKnown (kindOf (r .kind)) && eqb (r .blank) 0 && usedOrZero (oneOf r (kind.Primitive ∷ kind.Modifier ∷ [])) (r .code) && usedOrZero (oneOf r (kind.Body ∷ [])) (r .args) in
-    let i : Bool = usedOrZero (oneOf r (kind.Modifier ∷ kind.Body ∷ kind.Run ∷ kind.CustomInverse ∷ [])) (r .inside) in
-    let c : Bool = usedOrZero (oneOf r (kind.RealPush ∷ kind.ComplexPush ∷ [])) (r .re) in
-    let g : Bool = usedOrZero (oneOf r (kind.ComplexPush ∷ [])) (r .im) in
-    let u = and-right a i (and-left (a && i) c (and-left (a && i && c) g f)) in
-    kind-inside r d s l q u (k .0) (sym (kind-found (r .kind) (k .0) (k .1))) (sym (ap wayOf (k .1)) ∙ e)
+    kind-inside r d s l q (fields-inside r f) (k .0) (sym (kind-found (r .kind) (k .0) (k .1))) (sym (ap wayOf (k .1)) ∙ e)
 
 -- ---- steps
 

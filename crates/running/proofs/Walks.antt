@@ -1,10 +1,12 @@
 -- Laws of a walk over a stretch of records, a turn at a time, and of a record by the way it is run. Assumes nothing.
-use Prim.Native.Nat.{ℕ, _+_, _-_, _/_, _≤_, _<_}
+use Prim.Native.Nat.{ℕ, _+_, _-_, _/_, _≤_, _<_, min}
 use native.Mathlib.Omega.{arith}
 use mathlib.Core.Path.{_≡_, refl, ap, _∙_, sym}
 use mathlib.Core.Bool.{Bool, true, false}
-use mathlib.Core.List.{List, [], _∷_}
+use mathlib.Core.Logic.{⊎-elim}
+use mathlib.Core.List.{List}
 use lib.Dec.{eqb, leb}
+use borrow.Author.Tests.{eqb-true, eq-eqb}
 use lib.ListN.{length, getD, set}
 use lib.Ieee.{Float, nan}
 use Rattle.limits.specs.declared.Refusal.{Refusal}
@@ -15,14 +17,16 @@ use Rattle.formats.specs.declared.record.Modifier.the-variants.{On}
 use Rattle.formats.specs.declared.record.Verdict.the-variants.{Good}
 use Rattle.formats.specs.Names.{kindOf, modifierNo}
 use Rattle.formats.specs.Tree.{Nodes, rec, size, count, recAt, nextOf, forest}
-use Rattle.formats.specs.Rules.{isA, verdict}
+use Rattle.formats.specs.Rules.{isA, fieldsOk, verdict}
 use Rattle.formats.specs.Contract.Walk.{Stretch}
-use Rattle.formats.proofs.record.Forest.{forest-none, size-forest}
-use Rattle.formats.proofs.record.Walk.{whole-stretch, stretch-next, stretch-split, stretch-levels, stretch-inside, stretch-after}
+use Rattle.formats.proofs.record.Forest.{below, forest-none, size-forest}
+use Rattle.formats.proofs.record.Stands.{or-cases}
+use Rattle.formats.proofs.record.Walk.{fields-inside, whole-stretch, count-none, stretch-next, stretch-told, stretch-split, stretch-count, stretch-levels, stretch-inside, stretch-after}
 use Rattle.running.specs.Primitives.{Act, went, stop, act, wayOf}
 use Rattle.running.specs.Running.{Running, Out, done, refusedAt, andThen, ifRoom, settle, copied, giveBack, stepped, runs, modified, runOne}
-use Rattle.running.specs.Contract.Views.{stackOf, viewState, viewRan, Room, Under, Ready, ReadyOne}
+use Rattle.running.specs.Contract.Views.{plain, stackOf, viewDid, viewState, viewRan, Room, Under, Ready, ReadyOne}
 use Rattle.running.specs.declared.Deed.{Deed}
+use Rattle.running.specs.declared.Deed.the-variants.{Refuses}
 use Rattle.running.specs.declared.Way.the-variants.{Acts, Runs, Modifies}
 use Rattle.running.specs.declared.Did.{Did}
 use Rattle.running.specs.declared.Did.the-variants.{Went, Stop}
@@ -42,11 +46,11 @@ split-runs : (r : Record) (ns ms : Nodes) (at h n : ℕ) (st : Running) → size
 unfolding runs runOne
 split-runs r ns ms at h n st q = rw (← q)
 
-pub runs-more : (s : List ℕ) (a e : ℕ) (b : Bool) (left : ℕ) → Stretch s a e b left → a < e → (r : Record) → r ≡ recAt s a → (h : ℕ) (st : Running)
-    → runs (forest s a e) a h st ≡ andThen (runOne r (forest s (a + 1) (a + 1 + r .inside)) a h st) (runs (forest s (a + 1 + r .inside) e) (a + 1 + r .inside) h)
-runs-more s a e b left t k r q h st =
+pub runs-more : (s : List ℕ) (a e : ℕ) (b : Bool) (left : ℕ) → Stretch s a e b left → a < e → (r : Record) → r ≡ recAt s a → (x : ℕ) → a + 1 + r .inside ≡ x → (h : ℕ) (st : Running)
+    → runs (forest s a e) a h st ≡ andThen (runOne r (forest s (a + 1) x) a h st) (runs (forest s x e) x h)
+runs-more s a e b left t k r q x p h st =
     let n : size (forest s (a + 1) (nextOf s a)) ≡ recAt s a .inside = omega (arith, size-forest s (a + 1) (nextOf s a)) in
-    rw q
+    rw (← p, q)
     (ap (λ x. runs x a h st) (stretch-split s a e b left t k)
     ∙ split-runs (recAt s a) (forest s (a + 1) (nextOf s a)) (forest s (nextOf s a) e) a h (recAt s a .inside) st n)
 
@@ -88,6 +92,53 @@ module _ (r : Record) (ns : Nodes) (at h : ℕ) (st : Running) where
     unfolding modified
     on-one-body m = rw (q, m)
 
+-- a record that acts by itself, run on the numbers xs, which are then ys
+pub acted : (r : Record) (ns : Nodes) (at h : ℕ) (st : State) (xs ys : List Float) (d : Deed) → wayOf (kindOf (r .kind)) ≡ Acts d → (o : Did) → viewDid ys o ≡ act d r (stackOf xs (st .n))
+    → (ran : Ran) → viewRan ys ran ≡ settle h at (viewState ys st) (viewDid ys o) → viewRan ys ran ≡ runOne r ns at h (viewState xs st)
+acted r ns at h st xs ys d w o a ran e =
+    e ∙ same-settle h at ys xs st (viewDid ys o) ∙ ap (settle h at (viewState xs st)) a ∙ sym (one-acts r ns at h (viewState xs st) d w)
+
+-- one that is refused
+pub one-refused : (r : Record) (ns : Nodes) (at h : ℕ) (st : Running) (d : Deed) → wayOf (kindOf (r .kind)) ≡ Acts d → (p : (q : Refusal) × (d ≡ Refuses q)) → runOne r ns at h st ≡ refusedAt (p .0) at
+unfolding act
+one-refused r ns at h st d w p = one-acts r ns at h st d w ∙ rw (p .1)
+
+-- ---- one body
+
+end-done : (o : Out) (f : Running → Out) → ((st : Running) → f st ≡ done st) → andThen o f ≡ o
+end-done (done st) f h = h st
+end-done (refusedAt q at) f h = refl
+
+body-way : (k : ℕ) → eqb k 7 ≡ true → wayOf (kindOf k) ≡ Runs
+unfolding kindOf
+body-way k q = rw (eqb-true k 7 q)
+
+module _ (s : List ℕ) (a e left : ℕ) (t : Stretch s a e true left) (c : count (forest s a e) ≡ 1) where
+  pub one-there : a < e
+  one-there = ⊎-elim (λ k. k) (λ k. absurd (omega (arith, count-none s a e k))) (below a e)
+
+  -- it ends where the stretch ends
+  pub body-ends : nextOf s a ≡ e
+  body-ends =
+      let n = stretch-next s a e true left t one-there in
+      let m = stretch-count s a e true left t one-there in
+      ⊎-elim (λ k. absurd (omega (arith, stretch-count s (nextOf s a) e true left (stretch-after s a e true left t one-there) k))) (λ k. omega arith) (below (nextOf s a) e)
+
+  -- its records are a stretch
+  pub body-stretch : (0 < left) × ((b : Bool) × Stretch s (a + 1) e b (left - 1))
+  body-stretch = (stretch-levels s a e true left t one-there, (isA (recAt s a) Modifier, rw body-ends at (stretch-inside s a e true left t one-there)))
+
+  -- it is a step, with what is inside it
+  pub runs-body : (h : ℕ) (st : Running) → runs (forest s a e) a h st ≡ runs (forest s (a + 1) e) (a + 1) h (stepped st)
+  runs-body h st =
+      let r = recAt s a in
+      let w = body-way (r .kind) (stretch-told s a e true left t one-there .body) in
+      runs-more s a e true left t one-there r refl e body-ends h st
+      ∙ end-done (runOne r (forest s (a + 1) e) a h st) (runs (forest s e e) e h) (λ st′. runs-none s e e e h st′ (omega arith))
+      ∙ one-runs r (forest s (a + 1) e) a h st w
+
+-- ---- On
+
 -- the run of what is inside On with one more number held, which then goes on top
 abbrev pub thenBack : ℕ → ℕ → Nodes → List Float → Running → Out
 thenBack h at ns s st = andThen (runs ns (at + 1) (h + 1) st) (giveBack s)
@@ -124,11 +175,11 @@ after-done xs o f e = rw e
 pub room-refused : (h m : ℕ) (o : Ran) {q : Refusal} {at : ℕ} → o ≡ Refused q at → Room h m o
 room-refused h m o e = rw e tt
 
-pub room-done : (h m : ℕ) (o : Ran) {st : State} → o ≡ Done st → Room h m o → (st .n + h ≤ 256) × (st .steps ≤ m)
+pub room-done : (h m : ℕ) (o : Ran) {st : State} → o ≡ Done st → Room h m o → (st .n + h ≤ 256) × (st .n + h ≤ st .steps + 1) × (st .steps ≤ m)
 room-done h m o e k = rw e at k
 
 pub room-more : (h : ℕ) {m m′ : ℕ} (o : Ran) → m ≤ m′ → Room h m o → Room h m′ o
-room-more h (Done st) k r = (r .0, omega arith)
+room-more h (Done st) k r = (r .0, r .1, omega arith)
 room-more h (Refused q at) k r = tt
 
 pub under-more : {m m′ : ℕ} (d : Did) → m ≤ m′ → Under m d → Under m′ d
@@ -137,35 +188,114 @@ under-more (Stop q) k u = tt
 
 -- ---- a turn of a walk, at the record r
 
+plain-inside : (r : Record) → fieldsOk r ≡ true → plain (r .kind) ≡ true → r .inside ≡ 0
+unfolding plain
+plain-inside r f p =
+    let i = fields-inside r f in
+    ⊎-elim
+    (λ k. eqb-true (r .inside) 0 (rw (eqb-true (r .kind) 1 k) at i))
+    (λ k. eqb-true (r .inside) 0 (rw (eqb-true (r .kind) 5 k) at i))
+    (or-cases (eqb (r .kind) 1) (eqb (r .kind) 5) p)
+
 module _ {s : List ℕ} {a e : ℕ} {xs : List Float} {st : State} {h l : ℕ} (y : Ready s a e xs st h l) (k : a < e) {r : Record} (q : r ≡ recAt s a) where
   pub next-in : a + 1 + r .inside ≤ e
   next-in = rw q (stretch-next s a e (y .stretch .0) l (y .stretch .1) k)
+
+  -- there is room for what it adds
+  pub values-in : (st .n + 3 ≤ length xs) × (st .steps < 2048)
+  values-in = (omega (arith, y .values, y .room, y .adds, y .steps), omega (arith, y .steps, y .few))
 
   pub ready-one : ReadyOne s a r xs st h l
   ready-one =
       record {
         levels = stretch-levels s a e (y .stretch .0) l (y .stretch .1) k;
         inside = rw q (stretch-inside s a e (y .stretch .0) l (y .stretch .1) k);
+        most = y .most;
+        few = y .few;
+        steps = omega (arith, next-in, y .steps);
         values = y .values;
         room = y .room;
-        steps = omega (arith, next-in, y .steps);
+        adds = y .adds;
       }
 
-  pub ready-next : (ys : List Float) (then : State) → length ys ≡ 259 → then .n + h ≤ 256 → then .steps ≤ st .steps + 1 + r .inside → Ready s (a + 1 + r .inside) e ys then h l
-  ready-next ys then v m u =
+  -- what comes after it, at x
+  pub ready-next : (x : ℕ) → a + 1 + r .inside ≡ x → (ys : List Float) → length ys ≡ length xs → (then : State)
+      → (then .n + h ≤ 256) × (then .n + h ≤ then .steps + 1) × (then .steps ≤ st .steps + 1 + r .inside) → Ready s x e ys then h l
+  ready-next x p ys v then m =
       record {
-        stretch = (y .stretch .0, rw q (stretch-after s a e (y .stretch .0) l (y .stretch .1) k));
-        values = v;
-        room = m;
-        steps = omega (arith, next-in, y .steps);
+        stretch = (y .stretch .0, rw (← p, q) (stretch-after s a e (y .stretch .0) l (y .stretch .1) k));
+        most = y .most;
+        few = y .few;
+        steps = omega (arith, next-in, y .steps, m .2);
+        values = omega (arith, y .values);
+        room = m .0;
+        adds = m .1;
       }
+
+  -- it is run, and then what comes after it
+  pub turn : (x : ℕ) → a + 1 + r .inside ≡ x → (ys : List Float) (o : Ran) → viewRan ys o ≡ runOne r (forest s (a + 1) (a + 1 + r .inside)) a h (viewState xs st)
+      → runs (forest s a e) a h (viewState xs st) ≡ andThen (viewRan ys o) (runs (forest s x e) x h)
+  turn x p ys o w =
+      let n : ℕ = a + 1 + r .inside in
+      rw (← p)
+      (runs-more s a e (y .stretch .0) l (y .stretch .1) k r q n refl h (viewState xs st) ∙ ap (λ z. andThen z (runs (forest s n e) n h)) (sym w))
+
+  -- a plain record holds nothing
+  pub plain-next : plain (r .kind) ≡ true → a + 1 + r .inside ≡ a + 1
+  plain-next p = omega (arith, plain-inside r (rw q (stretch-told s a e (y .stretch .0) l (y .stretch .1) k .fields)) p)
 
 -- what is inside a record is ready, after its step
 pub ready-in : {s : List ℕ} {a : ℕ} {r : Record} {xs : List Float} {st : State} {h l : ℕ} → ReadyOne s a r xs st h l
-    → (h′ : ℕ) (st′ : State) → st′ .n + h′ ≤ 256 → st′ .steps ≤ st .steps + 1 → Ready s (a + 1) (a + 1 + r .inside) xs st′ h′ (l - 1)
-ready-in {s} {a} {r} y h′ st′ m u = record { stretch = (isA r Modifier, y .inside); values = y .values; room = m; steps = omega (arith, y .steps) }
+    → (st′ : State) → st′ .n ≡ st .n → st′ .steps ≡ st .steps + 1 → Ready s (a + 1) (a + 1 + r .inside) xs st′ h (l - 1)
+ready-in {s} {a} {r} y st′ m u =
+    record {
+      stretch = (isA r Modifier, y .inside);
+      most = y .most;
+      few = y .few;
+      steps = omega (arith, y .steps);
+      values = y .values;
+      room = omega (arith, y .room);
+      adds = omega (arith, y .adds);
+    }
 
-pub start-ready : (s : List ℕ) → verdict s ≡ Good → (xs : List Float) → length xs ≡ 259 → (st : State) → st .n ≡ 1 → st .steps ≡ 0 → Ready s 0 (length s / 24) xs st 0 129
+-- what is inside the one body of a modifier, after the steps of both, with one number more held
+module _ {s : List ℕ} {a : ℕ} {r : Record} {xs : List Float} {st : State} {h l : ℕ} (y : ReadyOne s a r xs st h l)
+    (k : isA r Modifier ≡ true) (c : count (forest s (a + 1) (a + 1 + r .inside)) ≡ 1) where
+  bodies : Stretch s (a + 1) (a + 1 + r .inside) true (l - 1)
+  bodies = rw k at (y .inside)
+
+  pub body-levels : (1 < l) × (0 < r .inside)
+  body-levels = (omega (arith, body-stretch s (a + 1) (a + 1 + r .inside) (l - 1) bodies c .0), omega (arith, one-there s (a + 1) (a + 1 + r .inside) (l - 1) bodies c))
+
+  pub ready-body : (st′ : State) → (st′ .n + (h + 1) ≤ 256) × (st′ .n + (h + 1) ≤ st′ .steps + 1) × (st′ .steps ≤ st .steps + 2) → Ready s (a + 2) (a + 1 + r .inside) xs st′ (h + 1) (l - 2)
+  ready-body st′ m =
+      let p : a + 1 + 1 ≡ a + 2 = omega arith in
+      let q : l - 1 - 1 ≡ l - 2 = omega arith in
+      record {
+        stretch = rw (p, q) at (body-stretch s (a + 1) (a + 1 + r .inside) (l - 1) bodies c .1);
+        most = y .most;
+        few = y .few;
+        steps = omega (arith, y .steps, m .2, body-levels .1);
+        values = y .values;
+        room = m .0;
+        adds = m .1;
+      }
+
+  -- On, once it holds the top number: its body's records, and then that number on top
+  pub on-begun : eqb (r .code) (modifierNo On) ≡ true → 0 < st .n → (o : Ran) → viewRan xs o ≡ settle (h + 1) a (viewState xs st) (went (stackOf xs (st .n))) → {begun : State} → o ≡ Done begun
+      → modified r (forest s (a + 1) (a + 1 + r .inside)) a h (viewState xs st)
+      ≡ andThen (runs (forest s (a + 2) (a + 1 + r .inside)) (a + 2) (h + 1) (stepped (viewState xs begun))) (giveBack (stackOf xs (st .n)))
+  on-begun z n o e {begun} d =
+      let x : ℕ = a + 1 + r .inside in
+      let ns = forest s (a + 1) x in
+      let b = stackOf xs (st .n) in
+      let p : a + 1 + 1 ≡ a + 2 = omega arith in
+      on-held r ns a h st xs z (eq-eqb (count ns) 1 c) n o e
+      ∙ after-done xs o (thenBack h a ns b) d
+      ∙ ap (λ w. andThen w (giveBack b)) (runs-body s (a + 1) x (l - 1) bodies c (h + 1) (viewState xs begun)
+      ∙ ap (λ i. runs (forest s i x) i (h + 1) (stepped (viewState xs begun))) p)
+
+pub start-ready : (s : List ℕ) → verdict s ≡ Good → (xs : List Float) → min 256 (length s / 24 + 1) + 3 ≤ length xs → (st : State) → st .n ≡ 1 → st .steps ≡ 0 → Ready s 0 (length s / 24) xs st 0 129
 start-ready s g xs v st n m =
     let t = whole-stretch s g in
-    record { stretch = (false, t); values = v; room = omega arith; steps = omega (arith, t .few) }
+    record { stretch = (false, t); most = length s / 24; few = t .few; steps = omega arith; values = v; room = omega arith; adds = omega arith }

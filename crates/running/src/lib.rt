@@ -10,7 +10,12 @@ ghost use Rattle.formats.specs.Names.{kindOf};
 ghost use Rattle.formats.specs.declared.record.KindFound.the-variants.{Known};
 ghost use Rattle.running.specs.Primitives.{workOf, wayOf};
 ghost use Rattle.running.specs.Running.{numbersOf};
+ghost use Rattle.running.specs.Contract.Views.{plain};
+ghost use Rattle.running.specs.declared.Way.the-variants.{Acts};
+ghost use Rattle.running.specs.declared.Deed.the-variants.{Refuses};
+ghost use Rattle.limits.specs.declared.Refusal.{Refusal};
 ghost use mathlib.Core.Path.{_≡_};
+ghost use mathlib.Core.Bool.{true};
 
 // What a primitive leaves in place of what it takes, named from the top; or why it is refused. One value is a value formed.
 pub enum Left {
@@ -158,6 +163,35 @@ pub fn way_of(kind: u8) -> Way
     match formats::record::kind_of(kind) {
         KindFound::Known(k) => way_of_kind(k),
         KindFound::Unknown => Way::Acts(Deed::Refuses(Refusal::NotSupported)),
+    }
+}
+
+// Whether a record of the kind is a push of a real number or a primitive: most are.
+pub fn is_plain(kind: u8) -> bool
+    ensures { λ b. ⌜ b ≡ plain kind ⌝ }
+{
+    formats::record::is_a(kind, Kind::RealPush) | formats::record::is_a(kind, Kind::Primitive)
+}
+
+// What such a record does.
+pub fn deed_of(kind: u8) -> Deed
+    requires { ⌜ plain kind ≡ true ⌝ }
+    ensures { λ d. ⌜ wayOf (kindOf kind) ≡ Acts d ⌝ }
+{
+    if formats::record::is_a(kind, Kind::RealPush) {
+        return Deed::Pushes;
+    }
+    Deed::Works
+}
+
+// Why any other record that acts by itself is refused.
+pub fn refusal_of(d: Deed) -> Refusal
+    ensures { λ q. ⌜ ((p : Refusal) → d ≡ Refuses p → q ≡ p) ⌝ }
+{
+    match d {
+        Deed::Refuses(q) => q,
+        Deed::Pushes => Refusal::NotSupported,
+        Deed::Works => Refusal::NotSupported,
     }
 }
 

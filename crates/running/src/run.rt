@@ -11,16 +11,18 @@ use limits::LIST_LEVELS;
 use limits::RUN_VALUES;
 use limits::Refusal;
 ghost use mathlib.Core.Path.{_≡_};
+ghost use mathlib.Core.Bool.{true, false};
 ghost use mathlib.Core.List.{List};
-ghost use Prim.Native.Nat.{_+_, _-_, _≤_, _<_, max};
+ghost use Prim.Native.Nat.{_+_, _-_, _≤_, _<_, min, max};
 ghost use lib.ListN.{length};
 ghost use lib.Ieee.{Float};
 ghost use Rattle.limits.specs.Limits.{listRecords, runValues};
 ghost use Rattle.formats.specs.declared.record.Verdict.the-variants.{Good};
-ghost use Rattle.formats.specs.Tree.{forest, parse};
-ghost use Rattle.formats.specs.Rules.{verdict};
+ghost use Rattle.formats.specs.declared.record.Kind.the-variants as kinds;
+ghost use Rattle.formats.specs.Tree.{forest, recordsIn, parse};
+ghost use Rattle.formats.specs.Rules.{isA, verdict};
 ghost use Rattle.running.specs.Running.{settle, runs, modified, runOne, ended, runNodes, runList};
-ghost use Rattle.running.specs.Contract.Views.{viewDid, viewState, viewRan, Under, Room, Ready, ReadyOne};
+ghost use Rattle.running.specs.Contract.Views.{plain, viewDid, viewState, viewRan, Within, Room, Ready, ReadyOne};
 
 fn larger(a: usize, b: usize) -> usize
     ensures { λ r. ⌜ r ≡ max a b ⌝ }
@@ -30,7 +32,7 @@ fn larger(a: usize, b: usize) -> usize
 
 // One step more, at most RUN_VALUES on the stack and held, and the peak.
 fn settled(d: Did, at: usize, st: State, held: usize) -> Ran
-    requires { ⌜ Under (runValues + 3) d × (held ≤ runValues + 1) × (st .steps < listRecords) ⌝ }
+    requires { ⌜ Within held (st .steps + 2) d × (st .steps < listRecords) ⌝ }
     ensures { λ r. ⌜ ((xs : List Float) → viewRan xs r ≡ settle held at (viewState xs st) (viewDid xs d)) ⌝ }
     ensures { λ r. ⌜ Room held (st .steps + 1) r ⌝ }
 {
@@ -51,7 +53,7 @@ fn settled(d: Did, at: usize, st: State, held: usize) -> Ran
     }
 }
 
-// Runs the records from `from` up to `to` on the first values, with `held` values held.
+// Runs the records from `from` up to `to` on the first values, with `held` values held. Most are plain, and hold nothing.
 fn walk(
     list: &[u8],
     from: usize,
@@ -69,6 +71,16 @@ fn walk(
     let mut cur = st;
     while at < to {
         let r = formats::record::record_at(list, at);
+        if crate::is_plain(r.kind) {
+            let did = crate::act::act(crate::deed_of(r.kind), r, stack, cur.n);
+            let ran = settled(did, at, cur, held);
+            let Ran::Done(then) = ran else {
+                return ran;
+            };
+            cur = then;
+            at = at + 1;
+            continue;
+        }
         let ran = step(list, at, r, stack, cur, held, left);
         let Ran::Done(then) = ran else {
             return ran;
@@ -79,7 +91,7 @@ fn walk(
     Ran::Done(cur)
 }
 
-// Runs one record, and what is inside it.
+// Runs one record that isn't plain, and what is inside it.
 fn step(
     list: &[u8],
     at: usize,
@@ -89,15 +101,12 @@ fn step(
     held: usize,
     left: usize,
 ) -> Ran
-    requires { ⌜ ReadyOne (now list) at r (now stack) st held left ⌝ }
+    requires { ⌜ ReadyOne (now list) at r (now stack) st held left × (plain (r .kind) ≡ false) ⌝ }
     ensures { λ o. ⌜ viewRan (now (stack .exit)) o ≡ runOne r (forest (now (list .entry)) (at + 1) (at + 1 + r .inside)) at held (viewState (now (stack .entry)) st) ⌝ }
     ensures { λ o. ⌜ Room held (st .steps + 1 + r .inside) o ⌝ }
 {
     match crate::way_of(r.kind) {
-        Way::Acts(d) => {
-            let did = crate::act::act(d, r, stack, st.n);
-            settled(did, at, st, held)
-        }
+        Way::Acts(d) => Ran::Refused(crate::refusal_of(d), at),
         Way::Runs => {
             let counted = State {
                 n: st.n,
@@ -118,7 +127,7 @@ fn step(
     }
 }
 
-// A modifier: On holds the top value while its one body runs, and then puts it on top.
+// A modifier: On holds the top value while its one body runs, and then puts it on top. The body is a step, and its records are run right away.
 fn modify(
     list: &[u8],
     at: usize,
@@ -128,7 +137,7 @@ fn modify(
     held: usize,
     left: usize,
 ) -> Ran
-    requires { ⌜ ReadyOne (now list) at r (now stack) st held left ⌝ }
+    requires { ⌜ ReadyOne (now list) at r (now stack) st held left × (isA r kinds.Modifier ≡ true) ⌝ }
     ensures { λ o. ⌜ viewRan (now (stack .exit)) o ≡ modified r (forest (now (list .entry)) (at + 1) (at + 1 + r .inside)) at held (viewState (now (stack .entry)) st) ⌝ }
     ensures { λ o. ⌜ Room held (st .steps + 1 + r .inside) o ⌝ }
 {
@@ -148,7 +157,12 @@ fn modify(
     let Ran::Done(begun) = first else {
         return first;
     };
-    let ran = walk(list, at + 1, next, stack, begun, held + 1, left - 1);
+    let in_body = State {
+        n: begun.n,
+        steps: begun.steps + 1,
+        peak: begun.peak,
+    };
+    let ran = walk(list, at + 2, next, stack, in_body, held + 1, left - 2);
     let Ran::Done(then) = ran else {
         return ran;
     };
@@ -180,21 +194,36 @@ fn last_of(ran: Ran, stack: &[f64]) -> RunAnswer
     }
 }
 
-// Runs a list that keeps the rules.
-fn run_nodes(list: &[u8], x: f64) -> RunAnswer
-    requires { ⌜ verdict (now list) ≡ Good ⌝ }
+// Runs the n records of a list that keeps the rules. Each adds one value at most, so there is room for x and n more, up to RUN_VALUES, and for three that a step writes above those.
+fn run_in(list: &[u8], n: usize, x: f64, stack: &mut [f64]) -> RunAnswer
+    requires { ⌜ (verdict (now list) ≡ Good) × (n ≡ recordsIn (now list)) × (min runValues (n + 1) + 3 ≤ length (now stack)) ⌝ }
     ensures { λ r. ⌜ r ≡ runNodes (parse (now (list .entry))) x ⌝ }
 {
-    let mut stack = [0.0; RUN_VALUES + 3];
     stack[0] = x;
     let st = State {
         n: 1,
         steps: 0,
         peak: 1,
     };
+    let ran = walk(list, 0, n, stack, st, 0, LIST_LEVELS);
+    last_of(ran, stack)
+}
+
+// A list this short has room for few values, since clearing room for all costs more than many a run.
+const FEW_RECORDS: usize = 64;
+
+// Runs a list that keeps the rules.
+fn run_nodes(list: &[u8], x: f64) -> RunAnswer
+    requires { ⌜ verdict (now list) ≡ Good ⌝ }
+    ensures { λ r. ⌜ r ≡ runNodes (parse (now (list .entry))) x ⌝ }
+{
     let n = formats::record::count_records(list);
-    let ran = walk(list, 0, n, &mut stack, st, 0, LIST_LEVELS);
-    last_of(ran, &stack)
+    if n <= FEW_RECORDS {
+        let mut few = [0.0; FEW_RECORDS + 4];
+        return run_in(list, n, x, &mut few);
+    }
+    let mut stack = [0.0; RUN_VALUES + 3];
+    run_in(list, n, x, &mut stack)
 }
 
 // Runs a list of records at x.

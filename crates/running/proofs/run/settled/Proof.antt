@@ -1,7 +1,7 @@
 -- What the answer is of any array that the numbers may lie in. Assumes nothing.
 use borrow.Author.Needs.{needs}
 use native.Mathlib.Omega.{arith}
-use mathlib.Core.Path.{refl, sym, _∙_}
+use mathlib.Core.Path.{sym, _∙_}
 use borrow.Author.Tests.{le-leb, lt-leb}
 use Rattle.running.specs.Contract.Views.{viewState}
 use Rattle.running.proofs.Laws.{settle-went}
@@ -21,9 +21,10 @@ settled-spec =
     (λ c. (λ xs. rw (c .before .d .given .1), tt))
     (λ c.
     let a = c .before .before .before .before .before .before .args in
-    let g = c .before .before .before .before .d2 .given in (
+    let g = c .before .before .before .before .d2 .given in
+    let w = rw (g .1) at (c .before .before .before .before .before .before .pre .0) in (
       λ xs. rw (g .1) (sym (settle-went xs (a .held) (a .at) (viewState xs (a .st)) (g .0 .0) ∙ rw (le-leb _ _ (c .before .before .if1 .taken), ← c .before .larger .ensures))),
-      (omega arith, omega arith),
+      (omega arith, omega (arith, w), omega arith),
     ))
     (λ c.
     let a = c .before .before .before .before .args in
