@@ -1,7 +1,7 @@
 -- Laws of what reading gave, and of the answer of `read`. Assumes nothing.
 use Prim.Native.Nat.{ℕ, _+_, _≤_}
 use native.Mathlib.Omega.{arith}
-use mathlib.Core.Path.{_≡_, refl, ap, subst}
+use mathlib.Core.Path.{_≡_, refl, sym, ap, subst}
 use mathlib.Core.Bool.{Bool, false}
 use mathlib.Core.List.{List}
 use Rattle.cells.specs.Contract.Book.{Book, Room}
@@ -15,7 +15,9 @@ use Rattle.formats.specs.declared.record.Verdict.the-variants as verdict
 use Rattle.formats.specs.Rules as rules
 use Rattle.formats.specs.Tree.{parse}
 use Rattle.sums.specs.Entry.Encoding.{entriesIn}
-use Rattle.modifiers.specs.Reading.{Read, done, refusedAt, readNodes}
+use Rattle.modifiers.specs.Reading.{Read, done, refusedAt}
+use Rattle.modifiers.specs.Contract.Room.{readHeld}
+use Rattle.modifiers.proofs.Room.{none-held}
 use Rattle.reading.specs.declared.env.AlgebraData.{AlgebraData}
 use Rattle.reading.specs.declared.env.AlgebraData.the-variants as gave
 use Rattle.reading.specs.Contract.Data.{DataAs}
@@ -39,9 +41,9 @@ unfolding readList
 list-refused l b e = rw e (record { refusal = refl; place = refl; handled = refl })
 
 -- the list keeps the rules
-pub list-good : (l : List ℕ) → rules.verdict l ≡ verdict.Good → readList l ≡ readNodes (parse l)
+pub list-good : (l : List ℕ) → rules.verdict l ≡ verdict.Good → readList l ≡ readHeld 0 (parse l)
 unfolding readList
-list-good l e = rw e refl
+list-good l e = rw e (sym (none-held (parse l)))
 
 -- ---- what reading gave
 

@@ -76,7 +76,7 @@ fn read_sum(
 {
     match formats::rules::check(list) {
         Verdict::Refused(q) => AlgebraData::Refused(q, 0, false),
-        Verdict::Good => reading::env::nodes_expr(list, kinds, insides, numbers, sizes),
+        Verdict::Good => reading::env::nodes_expr(list, kinds, insides, numbers, sizes, ARENA),
     }
 }
 

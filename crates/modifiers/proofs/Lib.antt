@@ -4,3 +4,4 @@ pub mod Runs
 pub mod Plans
 pub mod Keeps
 pub mod Good
+pub mod Room

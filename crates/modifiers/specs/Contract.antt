@@ -3,3 +3,4 @@ pub mod Plans
 pub mod Walks
 pub mod Begins
 pub mod Manners
+pub mod Room

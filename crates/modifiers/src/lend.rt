@@ -6,10 +6,10 @@ use stack::state::AlgebraEnv;
 use stack::state::Ran;
 ghost use mathlib.Core.Path.{_≡_};
 ghost use mathlib.Core.List.{List};
-ghost use Prim.Native.Nat.{_+_, _-_, _≤_};
+ghost use Prim.Native.Nat.{_+_, _-_};
 ghost use lib.ListN.{length};
 ghost use Rattle.sums.specs.Tree.Sums.{Sum};
-ghost use Rattle.stack.specs.Contract.Arena.{arena, arenaIn, arenaOut, places};
+ghost use Rattle.stack.specs.Contract.Arena.{arena, arenaIn, arenaOut, Space, places};
 ghost use Rattle.stack.specs.Contract.Stacked.{Stacked};
 ghost use Rattle.stack.specs.State.{lend};
 ghost use Rattle.stack.specs.Contract.Agree.{Ready, Does};
@@ -29,7 +29,8 @@ pub fn lend_deepest(
     v: usize,
     env: AlgebraEnv,
 ) -> Ran
-    requires { ⌜ Ready (arena kinds insides numbers sizes) v env × (v + m ≤ places) × ((ss : List Sum) × Stacked (arena kinds insides numbers sizes) v (v + m) ss × (length ss ≡ k)) ⌝ }
+    requires { ⌜ Ready (arena kinds insides numbers sizes) v env × Space (arena kinds insides numbers sizes) (v + m)
+        × ((ss : List Sum) × Stacked (arena kinds insides numbers sizes) v (v + m) ss × (length ss ≡ k)) ⌝ }
     ensures { λ r. ⌜ ((ss : List Sum) → Stacked (arenaIn kinds insides numbers sizes) v (v + m) ss → length ss ≡ k → Does (arenaIn kinds insides numbers sizes)
         (arenaOut kinds insides numbers sizes) v env r (λ st. lend at (places - v) (deepest c ss) st)) ⌝ }
 {
@@ -87,7 +88,7 @@ pub fn put_back(
     v: usize,
     env: AlgebraEnv,
 ) -> AlgebraEnv
-    requires { ⌜ Ready (arena kinds insides numbers sizes) v env × (v + m ≤ places) × ((ss : List Sum) × Stacked (arena kinds insides numbers sizes) v (v + m) ss) ⌝ }
+    requires { ⌜ Ready (arena kinds insides numbers sizes) v env × Space (arena kinds insides numbers sizes) (v + m) × ((ss : List Sum) × Stacked (arena kinds insides numbers sizes) v (v + m) ss) ⌝ }
     ensures { λ r. ⌜ PutsBack (arenaIn kinds insides numbers sizes) (arenaOut kinds insides numbers sizes) v m env r ⌝ }
 {
     let used = env.used;

@@ -4,11 +4,10 @@ use crate::slots::WORKING;
 use crate::state::Stepped;
 ghost use mathlib.Core.Path.{_≡_};
 ghost use mathlib.Core.List.{List, [], _∷_};
-ghost use Prim.Native.Nat.{_≤_};
 ghost use Rattle.sums.specs.Tree.Sums.{Sum};
 ghost use Rattle.formats.specs.Names.{primitiveOf};
 ghost use Rattle.formats.specs.Table.{row};
-ghost use Rattle.stack.specs.Contract.Arena.{arena, arenaIn, arenaOut, Space, working, places};
+ghost use Rattle.stack.specs.Contract.Arena.{arena, arenaIn, arenaOut, Space, working};
 ghost use Rattle.stack.specs.Contract.Stacked.{Stacked};
 ghost use Rattle.stack.specs.Contract.Agree.{Prepared};
 ghost use Rattle.stack.specs.Contract.Parts.{Tops};
@@ -25,7 +24,7 @@ pub fn flip(
     m: usize,
     u: usize,
 )
-    requires { ⌜ (u ≤ places) × Space (arena kinds insides numbers sizes) places ⌝ }
+    requires { ⌜ Space (arena kinds insides numbers sizes) u ⌝ }
     requires { ⌜ Tops (arena kinds insides numbers sizes) u (n ∷ m ∷ []) × ((ss : List Sum) × Stacked (arena kinds insides numbers sizes) working u ss) ⌝ }
     ensures { λ _. ⌜ Turned (arenaIn kinds insides numbers sizes) (arenaOut kinds insides numbers sizes) u ⌝ }
 {

@@ -21,6 +21,9 @@ pub const WORKING: usize = SUM_ENTRIES + SUM_ENTRIES;
 
 pub const ARENA: usize = WORKING + STACK_ENTRIES;
 
+// Enough for most lists, and sooner cleared: a sum as large as there may be, and as many entries beside it.
+pub const SMALL_ARENA: usize = WORKING + SUM_ENTRIES + SUM_ENTRIES;
+
 // Where the top sums begin, if there are as many.
 pub enum Deep {
     From(usize),

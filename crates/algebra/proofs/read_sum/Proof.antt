@@ -1,4 +1,5 @@
 -- The verdict on the list comes first. Assumes nothing.
+use native.Mathlib.Omega.{arith}
 use mathlib.Core.Path.{sym, _∙_}
 use Rattle.algebra.proofs.Reading.{list-refused, list-good}
 use borrow.Author.Needs.{needs}
@@ -10,7 +11,7 @@ nodes-expr-requires c κs =
     let after-enum-told = c .before .before .before .before in
     let after-check = after-enum-told .before .before in
     let start = after-check .before .before .before .before .before in
-    (sym (after-check .check .ensures .0) ∙ after-enum-told .enum-told .given .1, start .pre)
+    (sym (after-check .check .ensures .0) ∙ after-enum-told .enum-told .given .1, record { space = start .pre; some = omega arith; most = omega arith })
 
 returns : tie.Need-returns
 returns c = list-refused (c .before .before .before .before .before .before .before .before .args .list .now) _ (sym (c .before .before .before .check .ensures .0) ∙ c .before .q .given .1)

@@ -15,7 +15,7 @@ use Rattle.stack.specs.Contract.Arena.{Arena}
 use Rattle.stack.specs.Stack.{total, anyComplex}
 use Rattle.stack.specs.Contract.Stacked.{Stacked}
 use Rattle.stack.specs.Contract.Blocks.{Outside}
-use Rattle.stack.proofs.slots.Laws.{space-same}
+use Rattle.stack.proofs.slots.Laws.{space-less, space-same}
 use Rattle.stack.specs.State.{State, Walked, went, stopped, withStack, takingIf, taking, lend}
 use Rattle.stack.specs.Contract.Agree.{Ready}
 use Rattle.stack.specs.declared.state.AlgebraEnv.{AlgebraEnv}
@@ -49,4 +49,4 @@ holds-count at k st h = count-of at k st (h .sums) (h .state) (h .same)
 
 -- what lies in the arena after a step that wrote below v only
 pub ready-held : {a a′ : Arena} {v m : ℕ} {env e : AlgebraEnv} {G : (List Sum → State → Walked) → Walked} → Ready a v env → Outside a a′ 0 v → Holds a′ v m e G → Ready a′ (v - m) e
-ready-held r o h = record { space = space-same (o .long) (r .space); within = let w = r .within in omega arith; some = (h .state, h .stands) }
+ready-held r o h = record { space = space-less (omega arith) (space-same (o .long) (r .space)); within = let w = r .within in omega arith; some = (h .state, h .stands) }

@@ -63,19 +63,17 @@ too-few k ss f st = deep-few k ss (sym (f (sizesOf ss) (stacked-sized st))) st
 pub search-asks : {a : Arena} {v : ℕ} {env : AlgebraEnv} → Ready a v env → (env .used ≤ length (a .sizes)) × ((ns : List ℕ) × Sized (a .sizes) 128 (env .used) ns)
 search-asks ready =
     let below = ready .some .1 .below in
-    let within = ready .within in
     let room = ready .space .sizes in
     (omega arith, (sizesOf (ready .some .0 .stack), stacked-sized (ready .some .1 .stack)))
 
-pub search-held : {a : Arena} {v : ℕ} {env : AlgebraEnv} (lo hi : ℕ) (ss : List Sum) → Ready a v env → hi ≤ 1152 → Stacked a lo hi ss
+pub search-held : {a : Arena} (lo hi : ℕ) (ss : List Sum) → Space a hi → Stacked a lo hi ss
     → (hi ≤ length (a .sizes)) × ((ns : List ℕ) × Sized (a .sizes) lo hi ns)
-search-held lo hi ss ready few st = let room = ready .space .sizes in (omega arith, (sizesOf ss, stacked-sized st))
+search-held lo hi ss space st = (space .sizes, (sizesOf ss, stacked-sized st))
 
 pub raise-asks : {a : Arena} {v : ℕ} {env : AlgebraEnv} (k w : ℕ) → Ready a v env → Found a 128 (env .used) k (From w) → (w ≤ env .used) × Space a (env .used + (v - env .used))
 raise-asks k w ready found =
     let s = ready .some .1 in
     let below = s .below in
-    let within = ready .within in
     (cut k w (ready .some .0 .stack) found (s .stack) .high, space-less (omega arith) (ready .space))
 
 -- the same of the top k
@@ -83,9 +81,7 @@ pub search-top : {a : Arena} {v : ℕ} {env : AlgebraEnv} (k w : ℕ) → Ready 
     → (env .used ≤ length (a .sizes)) × ((ns : List ℕ) × Sized (a .sizes) w (env .used) ns)
 search-top {env = env} k w ready found =
     let s = ready .some .1 in
-    let below = s .below in
-    let within = ready .within in
-    search-held w (env .used) (take k (ready .some .0 .stack)) ready (omega arith) (cut k w (ready .some .0 .stack) found (s .stack) .top)
+    search-held w (env .used) (take k (ready .some .0 .stack)) (space-less (s .below) (ready .space)) (cut k w (ready .some .0 .stack) found (s .stack) .top)
 
 -- ---- held
 
@@ -106,7 +102,6 @@ pub held-under : {a a′ : Arena} {v : ℕ} {env : AlgebraEnv} (at k w : ℕ) �
     → Begins a a′ v env (Held (upTo w env) (env .used - w)) (λ st f. taking at k st f)
 held-under {a} {a′} {v} {env} at k w ready found moved =
     let below = ready .some .1 .below in
-    let within = ready .within in
     record {
       kept = outside-wider (omega arith) (omega arith) (moved .outside);
       begins = λ st s.
@@ -176,9 +171,6 @@ lowest-within k w ss found st =
     let high = c .high in
     (low, omega arith)
 
-pub sink-asks : {a : Arena} {v : ℕ} {env : AlgebraEnv} (n : ℕ) → Ready a v env → v + n ≤ 1152 → (env .used ≤ v) × Space a (v + n)
-sink-asks n ready room = (ready .some .1 .below, space-less room (ready .space))
-
 pub lent-never : {a : Arena} {lo hi : ℕ} (k c : ℕ) (ss : List Sum) → Found a lo hi (k - c) Short → length ss ≡ k → Stacked a lo hi ss → ⊥
 lent-never k c ss found len st = let few = too-few (k - c) ss found st in omega arith
 
@@ -189,9 +181,9 @@ agree-stopped : (a : Arena) (v : ℕ) {x : Walked} (q : Refusal) (at : ℕ) → 
 agree-stopped a v q at e = subst (λ (y : Walked). Agree (Stopped q at false) a v y) (sym e) (record { refusal = refl; place = refl; handled = refl })
 
 -- n cells with the sums ds are there; they go on the stack if there is room
-pub lent-fits : {a a′ : Arena} {v : ℕ} {env : AlgebraEnv} (at n : ℕ) (ds : List Sum) → Ready a v env → v + n ≤ 1152 → Stacked a v (v + n) ds → env .used + n ≤ v → Sunk a a′ v (env .used) n
+pub lent-fits : {a a′ : Arena} {v : ℕ} {env : AlgebraEnv} (at n : ℕ) (ds : List Sum) → Ready a v env → Space a (v + n) → Stacked a v (v + n) ds → env .used + n ≤ v → Sunk a a′ v (env .used) n
     → Does a a′ v env (Went (upTo (env .used + n) env)) (λ st. lend at (1152 - v) ds st)
-lent-fits {a} {a′} {v} {env} at n ds ready room low fits moved =
+lent-fits {a} {a′} {v} {env} at n ds ready space low fits moved =
     let within = ready .within in
     let cells = stacked-total low in
     record {
@@ -199,7 +191,7 @@ lent-fits {a} {a′} {v} {env} at n ds ready room low fits moved =
       agrees = λ st s.
           let below = s .below in
           let taken = stacked-total (s .stack) in
-          let both = stacked-sunk moved low (s .stack) (space-less (omega arith) (ready .space)) below in
+          let both = stacked-sunk moved low (s .stack) space below in
           agree-went (withStack (ds ++ st .stack) st) (lend-fits at (1152 - v) ds st (omega arith))
           (record { stack = stacked-join (both .0) (both .1); below = fits; handled = s .handled; complex = s .complex });
     }
@@ -235,12 +227,11 @@ pub held-few : {a a′ : Arena} {v m : ℕ} {env e : AlgebraEnv} {G : State → 
 held-few ready b = b .begins (ready .some .0) (ready .some .1) .few
 
 pub lend-asks : {a a′ : Arena} {v m : ℕ} {env e : AlgebraEnv} (at k : ℕ) → Ready a v env → Begins a a′ v env (Held e m) (λ st f. taking at k st f)
-    → Ready a′ (v - m) e × (v - m + m ≤ 1152) × ((ss : List Sum) × Stacked a′ (v - m) (v - m + m) ss × (length ss ≡ k))
+    → Ready a′ (v - m) e × Space a′ (v - m + m) × ((ss : List Sum) × Stacked a′ (v - m) (v - m + m) ss × (length ss ≡ k))
 lend-asks at k ready b =
-    let within = ready .within in
     let h = b .begins (ready .some .0) (ready .some .1) in
     let few = h .few in
-    (ready-held ready (b .kept) h, omega arith, (h .sums, stacked-at refl (omega arith) (h .held), holds-count at k (ready .some .0) h))
+    (ready-held ready (b .kept) h, space-less (omega arith) (space-same (b .kept .long) (ready .space)), (h .sums, stacked-at refl (omega arith) (h .held), holds-count at k (ready .some .0) h))
 
 -- one state, after what was lent
 lent-as : {a : Arena} {v m : ℕ} {G : (List Sum → State → Walked) → Walked} (r : Ran) (x : Walked) (ss : List Sum) → Agree r a (v - m) x → Stacked a (v - m) v ss → total ss ≡ m → m ≤ v
@@ -314,7 +305,6 @@ copied-fits {a} {b} {c} {v} {env} w n at ready inside fits up down =
 
 pub copy-asks : {a b : Arena} {v : ℕ} {env : AlgebraEnv} (w n : ℕ) → Ready a v env → w + n ≤ env .used → env .used + n ≤ v → Raised a b w (env .used) n → (w ≤ w + n) × Space b (w + n + n)
 copy-asks w n ready inside fits up =
-    let within = ready .within in
     (omega arith, space-less (omega arith) (space-same (up .outside .long) (ready .space)))
 
 begun-same : (a : Arena) (v : ℕ) {G G′ : (List Sum → State → Walked) → Walked} (r : Begun) → ((f : List Sum → State → Walked) → G′ f ≡ G f) → BegunAs r a v G → BegunAs r a v G′
@@ -355,13 +345,13 @@ copied-never k w ss found next st = let c = cut k w ss found st in lent-never k 
 
 -- ---- put back
 
-pub put-back : {a a′ : Arena} {v : ℕ} {env : AlgebraEnv} (m : ℕ) → Ready a v env → v + m ≤ 1152 → Sunk a a′ v (env .used) m → PutsBack a a′ v m env (upTo (env .used + m) env)
-put-back m ready room moved =
+pub put-back : {a a′ : Arena} {v : ℕ} {env : AlgebraEnv} (m : ℕ) → Ready a v env → Space a (v + m) → Sunk a a′ v (env .used) m → PutsBack a a′ v m env (upTo (env .used + m) env)
+put-back m ready space moved =
     let under = ready .some .1 .below in
     record {
       kept = outside-wider (omega arith) (omega arith) (moved .outside);
       back = λ ss st up s.
           let below = s .below in
-          let both = stacked-sunk moved up (s .stack) (space-less room (ready .space)) below in
+          let both = stacked-sunk moved up (s .stack) space below in
           record { stack = stacked-join (both .0) (both .1); below = omega arith; handled = s .handled; complex = s .complex };
     }

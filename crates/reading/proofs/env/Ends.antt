@@ -39,11 +39,12 @@ use Rattle.stack.specs.State.{State, Walked, isHandled, went, stopped}
 use Rattle.stack.specs.Contract.Agree.{Stands, Ready, Agree, Does}
 use Rattle.stack.specs.declared.state.AlgebraEnv.{AlgebraEnv}
 use Rattle.stack.specs.declared.state.Ran.the-variants.{Went, Stopped}
-use Rattle.modifiers.specs.Reading.{start, ended, lastOf, readNodes}
+use Rattle.modifiers.specs.Reading.{start, ended, lastOf}
+use Rattle.modifiers.specs.Contract.Room.{readHeld}
 use Rattle.modifiers.specs.Contract.Walks.{walkOf}
 use Rattle.reading.specs.declared.env.AlgebraData.{AlgebraData}
 use Rattle.reading.specs.declared.env.AlgebraData.the-variants as answer
-use Rattle.reading.specs.Contract.Data.{DataAs}
+use Rattle.reading.specs.Contract.Data.{Reaches, DataAs}
 
 -- ---- the start
 
@@ -73,24 +74,25 @@ x-lies p r =
     record { laid = (put-at p f, tt, tt); good = x-good .good; ends = refl; room = r }
 
 -- x stands in the arena
-pub x-stands : {b b′ : Book} {z : List ℕ} → Put b b′ 128 x → Space (record { cells = b′; sizes = z }) 1152 → getD z 128 0 ≡ 1
-    → Stands (record { cells = b′; sizes = z }) 1152 (record { used = 129; handled = 0; complex = false }) start
+x-stands : {b b′ : Book} {z : List ℕ} (top : ℕ) → 128 < top → Put b b′ 128 x → Space (of b′ z) top → getD z 128 0 ≡ 1 → Stands (of b′ z) top (record { used = 129; handled = 0; complex = false }) start
 unfolding size
-x-stands {b} {b′} {z} p s q =
+x-stands {b} {b′} {z} top some p s q =
     record {
-      stack = on-top (record { lies = x-lies p (room-less {n = 1152} (omega arith) (s .cells)); good = x-good; told = q }) no-sum;
+      stack = on-top (record { lies = x-lies p (room-less {n = top} (omega arith) (s .cells)); good = x-good; told = q }) no-sum;
       below = omega arith;
       handled = refl;
       complex = refl;
     }
 
 -- and it is ready
-pub x-ready : {b b′ : Book} (z : List ℕ) → Space (of b z) 1152 → Put b b′ 128 x
-    → Ready (of b′ (set z 128 1)) 1152 (record { used = 129; handled = 0; complex = false }) × Stands (of b′ (set z 128 1)) 1152 (record { used = 129; handled = 0; complex = false }) start
-x-ready {b} {b′} z s p =
-    let y : Space (of b′ (set z 128 1)) 1152 = record { cells = room-same (p .long) (s .cells); sizes = omega (arith, length-set z 128 1, s .sizes) } in
-    let t = x-stands p y (getD-set-same z 128 1 0 (omega (arith, s .sizes))) in
-    (record { space = y; within = omega arith; some = (start, t) }, t)
+pub x-ready : {b b′ : Book} (z : List ℕ) (top : ℕ) → Reaches (of b z) top → Put b b′ 128 x
+    → Ready (of b′ (set z 128 1)) top (record { used = 129; handled = 0; complex = false }) × Stands (of b′ (set z 128 1)) top (record { used = 129; handled = 0; complex = false }) start
+x-ready {b} {b′} z top r p =
+    let s = r .space in
+    let some = r .some in
+    let y : Space (of b′ (set z 128 1)) top = record { cells = room-same (p .long) (s .cells); sizes = omega (arith, length-set z 128 1, s .sizes) } in
+    let t = x-stands top some p y (getD-set-same z 128 1 0 (omega (arith, s .sizes))) in
+    (record { space = y; within = r .most; some = (start, t) }, t)
 
 -- ---- the end
 
@@ -147,29 +149,29 @@ some-used y filled = ⊎-elim (λ e. absurd (filled (sym e))) (λ l. l) (eq-or-l
 pub all-records : (s : List ℕ) {n : ℕ} → n ≡ recordsIn s → verdict s ≡ Good → Stretch s 0 n false 129
 all-records s e g = rw e (whole-stretch s g)
 
-module _ {a b : Arena} {env : AlgebraEnv} (s : List ℕ) {n : ℕ} (all : n ≡ recordsIn s) (h : Stands a 1152 env start) where
+module _ {a b : Arena} {v : ℕ} {env : AlgebraEnv} (s : List ℕ) {n : ℕ} (all : n ≡ recordsIn s) (h : Stands a v env start) where
   -- reading refuses
-  pub read-stop : {q : Refusal} {at : ℕ} {z : Bool} (w : Book) → Does a b 1152 env (Stopped q at z) (λ st. walkOf s 0 n (1152 - 1152) st) → DataAs (answer.Refused q at z) w (readNodes (parse s))
-  unfolding readNodes parse
-  read-stop {q} {at} {z} w d = rw (← all) (go (walkOf s 0 n 0 start) (d .agrees start h))
+  pub read-stop : {q : Refusal} {at : ℕ} {z : Bool} (w : Book) → Does a b v env (Stopped q at z) (λ st. walkOf s 0 n (1152 - v) st) → DataAs (answer.Refused q at z) w (readHeld (1152 - v) (parse s))
+  unfolding readHeld parse
+  read-stop {q} {at} {z} w d = rw (← all) (go (walkOf s 0 n (1152 - v) start) (d .agrees start h))
     where
-      go : (x : Walked) → Agree (Stopped q at z) b 1152 x → DataAs (answer.Refused q at z) w (ended x)
+      go : (x : Walked) → Agree (Stopped q at z) b v x → DataAs (answer.Refused q at z) w (ended x)
       go (went st) e = absurd e
       go (stopped q′ at′ z′) e = e
 
-  module _ {e : AlgebraEnv} (d : Does a b 1152 env (Went e) (λ st. walkOf s 0 n (1152 - 1152) st)) where
-    pub read-ready : Ready a 1152 env → Ready b 1152 e
-    read-ready y = record { space = space-same (d .kept .long) (y .space); within = y .within; some = go (walkOf s 0 n 0 start) (d .agrees start h) }
+  module _ {e : AlgebraEnv} (d : Does a b v env (Went e) (λ st. walkOf s 0 n (1152 - v) st)) where
+    pub read-ready : Ready a v env → Ready b v e
+    read-ready y = record { space = space-same (d .kept .long) (y .space); within = y .within; some = go (walkOf s 0 n (1152 - v) start) (d .agrees start h) }
       where
-        go : (x : Walked) → Agree (Went e) b 1152 x → (st : State) × Stands b 1152 e st
+        go : (x : Walked) → Agree (Went e) b v x → (st : State) × Stands b v e st
         go (went st) k = (st, k)
         go (stopped q′ at′ z′) k = absurd k
 
     -- reading comes to its end
-    pub read-went : (r : AlgebraData) (w : Book) → ((st : State) → Stands b 1152 e st → DataAs r w (ended (went st))) → DataAs r w (readNodes (parse s))
-    unfolding readNodes parse
-    read-went r w f = rw (← all) (go (walkOf s 0 n 0 start) (d .agrees start h))
+    pub read-went : (r : AlgebraData) (w : Book) → ((v : ℕ) (st : State) → Stands b v e st → DataAs r w (ended (went st))) → DataAs r w (readHeld (1152 - v) (parse s))
+    unfolding readHeld parse
+    read-went r w f = rw (← all) (go (walkOf s 0 n (1152 - v) start) (d .agrees start h))
       where
-        go : (x : Walked) → Agree (Went e) b 1152 x → DataAs r w (ended x)
-        go (went st) k = f st k
+        go : (x : Walked) → Agree (Went e) b v x → DataAs r w (ended x)
+        go (went st) k = f v st k
         go (stopped q′ at′ z′) k = absurd k

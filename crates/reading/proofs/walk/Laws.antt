@@ -23,11 +23,11 @@ use Rattle.formats.specs.Names.{kindOf, modifierOf}
 use Rattle.formats.specs.Tree.{forest, height, recAt, nextOf, count}
 use Rattle.formats.specs.Contract.Walk.{Stretch}
 use Rattle.formats.proofs.record.Walk.{stretch-count, stretch-after, stretch-levels, stretch-inside, stretch-next}
-use Rattle.stack.specs.Contract.Arena.{Arena}
+use Rattle.stack.specs.Contract.Arena.{Arena, Space}
 use Rattle.stack.specs.Stack.{total, anyComplex}
 use Rattle.stack.specs.Contract.Stacked.{Stacked}
 use Rattle.stack.specs.Contract.Blocks.{Outside}
-use Rattle.stack.proofs.slots.Laws.{space-same, outside-refl, outside-trans, outside-wider, stacked-total, stacked-above}
+use Rattle.stack.proofs.slots.Laws.{space-less, space-same, outside-refl, outside-trans, outside-wider, stacked-total, stacked-above}
 use Rattle.stack.specs.State.{State, Walked, went, stopped, andThen, stop, lend, taking, takingIf}
 use Rattle.stack.specs.Contract.Agree.{Stands, Ready, Agree, Does}
 use Rattle.stack.specs.declared.state.AlgebraEnv.{AlgebraEnv}
@@ -161,8 +161,8 @@ module _ {a : Arena} {v m : ℕ} {env : AlgebraEnv} (s : List ℕ) (p : Plan) (y
           let w = went-of (walkOf s (p .from) (p .to) (1152 - (v - m)) (y .ready .some .0)) (d .agrees (y .ready .some .0) (y .ready .some .1)) in
           record { space = space-same (d .kept .long) (y .ready .space); within = y .ready .within; some = (w .0, w .2) }
 
-      pub round-held : (ss : List Sum) × Stacked b (v - m) (v - m + m) ss
-      round-held = (y .held .0, held-then (y .held .1))
+      pub round-held : Space b (v - m + m) × ((ss : List Sum) × Stacked b (v - m) (v - m + m) ss)
+      round-held = (space-less (omega (arith, y .few)) (space-same (d .kept .long) (y .space)), (y .held .0, held-then (y .held .1)))
 
       module _ {c : Arena} {back : AlgebraEnv} (g : PutsBack b c (v - m) m cur back) where
         kept-then : Outside b c 0 v
@@ -176,7 +176,7 @@ module _ {a : Arena} {v m : ℕ} {env : AlgebraEnv} (s : List ℕ) (p : Plan) (y
         round-back =
             let w = round-ready in
             record {
-              space = space-same (g .kept .long) (w .space);
+              space = space-same (g .kept .long) (space-same (d .kept .long) (y .space));
               within = y .within;
               some = (backTo (y .held .0) (w .some .0), back-then (y .held .0) (w .some .0) (y .held .1) (w .some .1));
             }
@@ -206,8 +206,9 @@ module _ {a b : Arena} {v : ℕ} {env : AlgebraEnv} {s : List ℕ} {at left : �
     plan-round y =
         let h = e .begins (y .some .0) (y .some .1) in
         record {
-          ready = record { space = space-same (e .kept .long) (y .space); within = omega (arith, y .within); some = (h .state, h .stands) };
+          ready = record { space = space-less (omega arith) (space-same (e .kept .long) (y .space)); within = omega (arith, y .within); some = (h .state, h .stands) };
           few = h .few;
+          space = space-same (e .kept .long) (y .space);
           within = y .within;
           held = (h .sums, h .held);
         }
@@ -278,8 +279,8 @@ module _ {a b : Arena} {v : ℕ} {env : AlgebraEnv} (s : List ℕ) (at : ℕ) (r
     pub fork-many : Ready a v env → Ready b (v - m) cur × Many b (v - m) m k
     fork-many y =
         let h = g .begins (y .some .0) (y .some .1) in (
-          record { space = space-same (g .kept .long) (y .space); within = omega (arith, y .within); some = (h .state, h .stands) },
-          record { within = omega (arith, h .few, y .within); held = (h .sums, held-at (y .some .0) h .0, held-at (y .some .0) h .1) },
+          record { space = space-less (omega arith) (space-same (g .kept .long) (y .space)); within = omega (arith, y .within); some = (h .state, h .stands) },
+          record { space = space-less (omega (arith, h .few)) (space-same (g .kept .long) (y .space)); held = (h .sums, held-at (y .some .0) h .0, held-at (y .some .0) h .1) },
         )
 
     pub fork-end : {c : Arena} {o : Ran} → Ready a v env → Forks b c (v - m) m k cur o s at (at + 1) (at + 1 + r .inside) → Does a c v env o (λ st. modified s at r (1152 - v) st)
@@ -318,7 +319,7 @@ module _ {a : Arena} {v m k : ℕ} {env : AlgebraEnv} (s : List ℕ) (at from to
     forking-ready y n g =
         let w = g .forks (n .held .0) (n .held .1) (n .held .2) (y .some .0) (y .some .1) in (
           record { space = space-same (g .kept .long) (y .space); within = y .within; some = (w .0, w .1) },
-          record { within = n .within; held = (n .held .0, stacked-above (g .kept) (omega arith) (n .held .1), n .held .2) },
+          record { space = space-same (g .kept .long) (n .space); held = (n .held .0, stacked-above (g .kept) (omega arith) (n .held .1), n .held .2) },
         )
 
     -- all have run
@@ -515,7 +516,7 @@ bodily-of s at r p q t = subst (λ b. Keeps s (at + 1) (at + 1 + r .inside) b) (
 
 -- what is asked for when a stack is looked at
 pub halt-asks : {a : Arena} {v : ℕ} {env : AlgebraEnv} → Ready a v env → (env .used ≤ length (a .sizes)) × ((ss : List Sum) × Stacked a 128 (env .used) ss)
-halt-asks y = (omega (arith, y .space .sizes, y .within, y .some .1 .below), (y .some .0 .stack, y .some .1 .stack))
+halt-asks y = (omega (arith, y .space .sizes, y .some .1 .below), (y .some .0 .stack, y .some .1 .stack))
 
 -- ---- a turn over the bodies of a Fork, in the words of the code
 

@@ -1,16 +1,22 @@
 -- What reading a list answers, held to the definition.
-use Prim.Native.Nat.{ℕ, _+_}
+use Prim.Native.Nat.{ℕ, _+_, _≤_, _<_}
 use mathlib.Core.Path.{_≡_}
 use Rattle.limits.specs.Limits.{sumLevels}
 use Rattle.cells.specs.Contract.Book.{Book}
 use Rattle.arithmetic.specs.Singles.{GoodSum}
 use Rattle.sums.specs.Tree.Sums.{Sum}
 use Rattle.sums.specs.Contract.Lies.{Lies}
-use Rattle.stack.specs.Contract.Arena.{working}
+use Rattle.stack.specs.Contract.Arena.{Arena, Space, working, places}
 use Rattle.stack.specs.Contract.Agree.{Same}
 use Rattle.modifiers.specs.Reading.{Read, done, refusedAt}
 use Rattle.reading.specs.declared.env.AlgebraData.{AlgebraData}
 use Rattle.reading.specs.declared.env.AlgebraData.the-variants as answer
+
+-- an arena of `top` places in which a list can be read: x has one, and there are no more than there may be
+pub record Reaches (a : Arena) (top : ℕ) : Type 0 where
+  pub space : Space a top
+  pub some : working < top
+  pub most : top ≤ places
 
 -- the sum that was read lies in n cells behind the working places
 pub record Given (b : Book) (n : ℕ) (s : Sum) : Type 0 where

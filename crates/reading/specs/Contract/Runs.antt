@@ -10,7 +10,7 @@ use Rattle.formats.specs.declared.record.Kind.the-variants.{Modifier}
 use Rattle.formats.specs.Tree.{forest, height}
 use Rattle.formats.specs.Rules.{isA}
 use Rattle.formats.specs.Contract.Walk.{Stretch}
-use Rattle.stack.specs.Contract.Arena.{Arena, places}
+use Rattle.stack.specs.Contract.Arena.{Arena, Space, places}
 use Rattle.stack.specs.Contract.Stacked.{Stacked}
 use Rattle.stack.specs.Contract.Blocks.{Outside}
 use Rattle.stack.specs.State.{State}
@@ -49,6 +49,7 @@ pub record Planned (s : List ℕ) (p : Plan) : Type 0 where
 pub record Round (a : Arena) (v m : ℕ) (env : AlgebraEnv) : Type 0 where
   pub ready : Ready a (v - m) env
   pub few : m ≤ v
+  pub space : Space a v
   pub within : v ≤ places
   pub held : (ss : List Sum) × Stacked a (v - m) v ss
 
@@ -58,7 +59,7 @@ pub record Rounds (a a′ : Arena) (v m : ℕ) (env : AlgebraEnv) (r : Ran) (s :
 
 -- k sums of m cells are held from v on
 pub record Many (a : Arena) (v m k : ℕ) : Type 0 where
-  pub within : v + m ≤ places
+  pub space : Space a (v + m)
   pub held : (ss : List Sum) × Stacked a v (v + m) ss × (length ss ≡ k)
 
 pub record Forks (a a′ : Arena) (v m k : ℕ) (env : AlgebraEnv) (r : Ran) (s : List ℕ) (at from to : ℕ) : Type 0 where

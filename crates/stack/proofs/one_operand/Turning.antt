@@ -42,10 +42,10 @@ below {a} {u} {n} {m} f k =
     record { enough = omega arith; first = x .first .some; first-few = x .first .few; second = x .second .some; second-few = x .second .few }
 
 -- b with the copy, c with the upper one sunk, d with the copy brought up
-pub turned : {a c d : Arena} {b : Book} (u n m : ℕ) → u ≤ 1152 → Space a 1152 → Tops a u (n ∷ m ∷ []) → Below u n m
+pub turned : {a c d : Arena} {b : Book} (u n m : ℕ) → Space a u → Tops a u (n ∷ m ∷ []) → Below u n m
     → Copied (a .cells) (a .cells) b (u - n - m) m 0 → Sunk (of b (a .sizes)) c (u - n - m + m) (u - n - m) n
     → Outside c d (u - n - m + n) (u - n - m + n + m) → OfOne (c .cells) 0 (0 + m) 4 (λ s. Top d (u - n - m + n) (u - n - m + n + m) s) → Turned a d u
-turned {a} {c} {d} {b} u n m le space f low copied sunk outside top =
+turned {a} {c} {d} {b} u n m space f low copied sunk outside top =
     let enough = low .enough in
     let few = low .second-few in
     let first = kept-outside (a .sizes) (copied-kept copied) in
@@ -57,10 +57,10 @@ turned {a} {c} {d} {b} u n m le space f low copied sunk outside top =
           let is = sizes-two a u n m s t ss f k in
           let one = stacked-one (is .0) k in
           let two = stacked-one (is .1) (one .rest) in
-          let copy = lies-copied copied (room-less {n = 1152} (omega arith) (space .cells)) (two .lies) in
+          let copy = lies-copied copied (room-less {n = u} (omega arith) (space .cells)) (two .lies) in
           let lies = lies-below 0 (0 + m) 4 t (outside-kept (sunk .outside)) (omega arith) copy in
           let upper = stacked-above first (omega arith) (one-stacked {lo′ = u - n - m + m} {hi′ = u - n - m + m + n} (omega arith) (omega arith) (one .top)) in
-          let room = space-less {m = u - n - m + m + n} {n = 1152} (omega arith) (space-same (first .long) space) in
+          let room = space-less {m = u - n - m + m + n} {n = u} (omega arith) (space-same (first .long) space) in
           let down = stacked-sunk sunk upper (stacked-above first (omega arith) (two .rest)) room (omega arith) in
           let all : Stacked d 128 (u - n - m + n + m) (t ∷ s ∷ ss) = stacked-push outside (top t lies) (stacked-join (down .0) (down .1)) in
           subst (λ (z : ℕ). Stacked d 128 z (t ∷ s ∷ ss)) (omega arith) all;

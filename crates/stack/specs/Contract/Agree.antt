@@ -20,9 +20,9 @@ pub record Stands (a : Arena) (v : ℕ) (env : AlgebraEnv) (st : State) : Type 0
   pub handled : env .handled ≡ st .handled
   pub complex : env .complex ≡ st .complex
 
--- what a step asks for
+-- what a step asks for: no place from v on, so that what is held there, or a smaller arena, is all one to it
 pub record Ready (a : Arena) (v : ℕ) (env : AlgebraEnv) : Type 0 where
-  pub space : Space a places
+  pub space : Space a v
   pub within : v ≤ places
   pub some : (st : State) × Stands a v env st
 

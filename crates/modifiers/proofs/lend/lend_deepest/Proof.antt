@@ -5,8 +5,9 @@ use borrow.Author.Needs.{needs}
 use Rattle.stack.specs.Contract.Arena.{Arena, arena}
 use Rattle.stack.specs.declared.slots.Deep.{Deep}
 use Rattle.stack.specs.declared.slots.Deep.the-variants.{From, Short}
+use Rattle.stack.proofs.slots.Laws.{space-less}
 use Rattle.modifiers.specs.Holding.{deepest}
-use Rattle.modifiers.proofs.hold.Moves.{Found, found-is, found-for, search-held, lowest-at, lowest-within, sink-asks, lent-never, lent-fits, lent-full}
+use Rattle.modifiers.proofs.hold.Moves.{Found, found-is, found-for, search-held, lowest-at, lowest-within, lent-never, lent-fits, lent-full}
 use Rattle.modifiers.proofs.lend.lend_deepest.Statement.{statement}
 use Rattle.modifiers.proofs.lend.lend_deepest.Tie as tie
 
@@ -50,10 +51,8 @@ returns-3 c ss up len =
     let d = after-if1 .before .before in
     let s = start d in
     let w = d .d .given .0 .0 in
-    let room = within d .1 in
-    let few = s .pre .1 in
-    lent-fits (s .args .at) (w - s .args .v) (deepest (s .args .c) ss) (s .pre .0) (omega arith) (lowest-at (s .args .k) (s .args .c) w ss (found d) len up) (after-if1 .if1 .left)
-    (after-sink .sink .ensures)
+    lent-fits (s .args .at) (w - s .args .v) (deepest (s .args .c) ss) (s .pre .0) (space-less (within d .1) (s .pre .1))
+    (lowest-at (s .args .k) (s .args .c) w ss (found d) len up) (after-if1 .if1 .left) (after-sink .sink .ensures)
 
 pub lend-deepest-spec : {M : Type 1} → statement M
 lend-deepest-spec =
@@ -61,7 +60,7 @@ lend-deepest-spec =
     (tie.spec
     (λ c. search needs)
     (λ c κs. search needs)
-    (λ c κs. let s = c .before .before .before .before .before in search-held (s .args .v) (s .args .v + s .args .m) (s .pre .2 .0) (s .pre .0) (s .pre .1) (s .pre .2 .1))
+    (λ c κs. let s = c .before .before .before .before .before in search-held (s .args .v) (s .args .v + s .args .m) (s .pre .2 .0) (s .pre .1) (s .pre .2 .1))
     (λ c. search needs)
     (λ c. search needs)
     (λ c. search needs)
@@ -77,9 +76,7 @@ lend-deepest-spec =
     (λ c κs.
     let d = c .before .before .before .before .before .before in
     let s = start d in
-    let room = within d .1 in
-    let few = s .pre .1 in
-    sink-asks (d .d .given .0 .0 - s .args .v) (s .pre .0) (omega arith))
+    (s .pre .0 .some .1 .below, space-less (within d .1) (s .pre .1)))
     (λ c. search needs)
     (λ c. search needs)
     (λ c. search needs)

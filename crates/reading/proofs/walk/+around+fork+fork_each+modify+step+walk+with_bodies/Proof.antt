@@ -218,12 +218,10 @@ around-put-back-requires t c κs =
     let after-ran = c .before .before .before .before .before in
     let after-walk = after-ran .before .before .before .before .before .before .before .before .before in
     let start = after-walk .before .before .before .before .before .before .before .before .before in
-    let args = start .args in (
-      round-ready (args .list .now) (args .p) (start .pre .1 .0) (does-told (after-ran .ran .given .1) (after-walk .walk .ensures)),
-      omega
-          (arith, start .pre .1 .0 .few, start .pre .1 .0 .within),
-      round-held (args .list .now) (args .p) (start .pre .1 .0) (does-told (after-ran .ran .given .1) (after-walk .walk .ensures)),
-    )
+    let args = start .args in
+    let does = does-told (after-ran .ran .given .1) (after-walk .walk .ensures) in
+    let held = round-held (args .list .now) (args .p) (start .pre .1 .0) does in
+    (round-ready (args .list .now) (args .p) (start .pre .1 .0) does, held .0, held .1)
 
 around-walk-requires-2 : (t : ℕ) → around-lts.Need-walk-requires-2 (around-claims t) (around-at t) around.Post
 around-walk-requires-2 t c κs =
@@ -370,7 +368,7 @@ fork-each-lend-deepest-requires t c κs =
     let start = at-loop .before .before .before .before .before .before in
     let args = start .args in
     (let w = forking-ready (args .list .now) (args .at) (args .at + 1) (args .to) _ (start .pre .1 .1) (start .pre .1 .0) (start .pre .1 .2) (at-loop .loop .inv .1) in
-    (w .0, w .1 .within, w .1 .held))
+    (w .0, w .1 .space, w .1 .held))
 
 fork-each-enum-known-lent : (t : ℕ) → fork-each-lts.Need-enum-known-lent (fork-each-claims t) (fork-each-at t) fork-each.Post fork-each-Inv-loop fork-each-μ-loop
 fork-each-enum-known-lent t c = search needs

@@ -28,22 +28,22 @@ abbrev copied-of : tie.After-sink → tie.After-copy-within
 copied-of c = c .before .before .before .before .before .before .before .before .before .before
 
 -- the arena is as large as it was
-space : (c : tie.After-copy-within) → Space (of (B c) (start c .args .sizes .now)) 1152
-space c = space-same (kept-outside (start c .args .sizes .now) (copied-kept (c .copy-within .ensures)) .long) (start c .pre .0 .1)
+space : (c : tie.After-copy-within) → Space (of (B c) (start c .args .sizes .now)) (start c .args .u)
+space c = space-same (kept-outside (start c .args .sizes .now) (copied-kept (c .copy-within .ensures)) .long) (start c .pre .0)
 
 copy-within-requires : tie.Need-copy-within-requires
 copy-within-requires c κs =
     let st = c .before .before .before .before .before .before in
     let b = low st in
-    let room = st .pre .0 .1 .cells in
-    (room-less {n = 1152} (omega arith) room, room-less {n = 1152} (omega arith) room, over (omega arith))
+    let room = st .pre .0 .cells in
+    (room-less {n = st .args .u} (omega arith) room, room-less {n = st .args .u} (omega arith) room, over (omega arith))
 
 sink-requires : tie.Need-sink-requires
 sink-requires c κs =
     let copied = c .before .before .before .before .before .before .before .before .before in
     let st = start copied in
     let b = low st in
-    (omega arith, space-less {n = 1152} (omega arith) (space copied))
+    (omega arith, space-less {n = st .args .u} (omega arith) (space copied))
 
 bring-requires : tie.Need-bring-requires
 bring-requires c κs =
@@ -51,7 +51,7 @@ bring-requires c κs =
     let copied = copied-of sunk in
     let st = start copied in
     let b = low st in
-    (b .second, b .second-few, omega arith, space-less {n = 1152} (omega arith) (space-same {a′ = C sunk} (sunk .sink .ensures .outside .long) (space copied)))
+    (b .second, b .second-few, omega arith, space-less {n = st .args .u} (omega arith) (space-same {a′ = C sunk} (sunk .sink .ensures .outside .long) (space copied)))
 
 returns : tie.Need-returns
 returns c =
@@ -59,7 +59,7 @@ returns c =
     let sunk = c .before .before .before .before .before .before .before .before .before .before .before .before .before .before .before .before .before .before .before in
     let copied = copied-of sunk in
     let st = start copied in
-    turned {b = B copied} (st .args .u) (st .args .n) (st .args .m) (st .pre .0 .0) (st .pre .0 .1) (st .pre .1 .0) (low st) (copied .copy-within .ensures) (sunk .sink .ensures)
+    turned {b = B copied} (st .args .u) (st .args .n) (st .args .m) (st .pre .0) (st .pre .1 .0) (low st) (copied .copy-within .ensures) (sunk .sink .ensures)
     (brought .bring .ensures .0) (brought .bring .ensures .1)
 
 pub flip-spec : {M : Type 1} → statement M

@@ -46,7 +46,8 @@ form-one-requires : tie.Need-form-one-requires
 form-one-requires c κs =
     let st = c .before .before .before .before .before .before .before in
     let x = top st .one in
-    (x .some, record { few = x .few; held = (top st .s, x .lies); apart = over (x .low) }, room-less {n = 1152} (omega arith) (st .pre .2 .space .cells))
+    let below = st .pre .2 .some .1 .below in
+    (x .some, record { few = x .few; held = (top st .s, x .lies); apart = over (x .low) }, room-less {n = st .args .v} (omega arith) (st .pre .2 .space .cells))
 
 push-formed-requires : tie.Need-push-formed-requires
 push-formed-requires c κs =

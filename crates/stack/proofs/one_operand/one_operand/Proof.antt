@@ -38,7 +38,6 @@ top-size-requires c κs =
     let y = c .before .before .before .before .before .pre in
     let low = stacked-le (y .some .1 .stack) in
     let below = y .some .1 .below in
-    let within = y .within in
     let long = y .space .sizes in
     (omega arith, omega arith)
 

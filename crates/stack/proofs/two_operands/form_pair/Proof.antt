@@ -61,20 +61,21 @@ top-size-requires c κs =
     let st = c .before .before .before .before .before in
     let some = st .pre .2 in
     let below = st .pre .3 .some .1 .below in
-    let within = st .pre .3 .within in
     let long = st .pre .3 .space .sizes in
     (omega arith, omega arith)
 
 form-two-requires : tie.Need-form-two-requires
 form-two-requires c κs =
+    let st = start (c .before .before .before) in
     let x = both (c .before .before .before) in
     let first = x .first in
-    let second = x .second in (
+    let second = x .second in
+    let below = st .pre .3 .some .1 .below in (
       second .some,
       first .some,
       record { few = second .few; held = (x .t, second .lies); apart = over (second .low) },
       record { few = first .few; held = (x .s, first .lies); apart = over (first .low) },
-      room-less {n = 1152} (omega arith) (start (c .before .before .before) .pre .3 .space .cells),
+      room-less {n = st .args .v} (omega arith) (st .pre .3 .space .cells),
     )
 
 push-formed-requires : tie.Need-push-formed-requires

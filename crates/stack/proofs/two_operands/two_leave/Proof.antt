@@ -9,6 +9,7 @@ use Rattle.formats.specs.Names.{primitiveOf}
 use Rattle.formats.specs.Table.{row}
 use Rattle.stack.specs.Contract.Arena.{Arena, of}
 use Rattle.stack.specs.Contract.Parts.{Tops}
+use Rattle.stack.proofs.slots.Laws.{space-less}
 use Rattle.stack.proofs.state.Laws.{tops-one, tops-two, Topmost, topmost, Pair, pair}
 use Rattle.stack.proofs.one_operand.Table.{rows}
 use Rattle.stack.proofs.one_operand.Working.{any-flag}
@@ -45,7 +46,6 @@ top-size-requires c κs =
     let st = c .before .before .before .before .before .before in
     let some = st .pre .2 in
     let below = st .pre .3 .some .1 .below in
-    let within = st .pre .3 .within in
     let long = st .pre .3 .space .sizes in
     (omega arith, omega arith)
 
@@ -53,9 +53,7 @@ flip-requires : tie.Need-flip-requires
 flip-requires c κs =
     let sized = c .before .before .before .before .before in
     let ready = start sized .pre .3 in
-    let within = ready .within in
-    let below = ready .some .1 .below in
-    ((omega arith, ready .space), (tops sized, (ready .some .0 .stack, ready .some .1 .stack)))
+    (space-less (ready .some .1 .below) (ready .space), (tops sized, (ready .some .0 .stack, ready .some .1 .stack)))
 
 returns-2 : tie.Need-returns-2
 returns-2 c at complex =
