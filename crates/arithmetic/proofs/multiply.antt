@@ -2,3 +2,4 @@
 pub mod Shapes
 pub mod Singles
 pub mod Laws
+pub mod Rows

@@ -17,6 +17,7 @@ ghost use Rattle.sums.specs.Tree.Map.{andThenSum, eachInto};
 ghost use Rattle.arithmetic.specs.Product.{pairable, rowable, mulable, mulTerm, mulInto, product};
 ghost use Rattle.sums.specs.Contract.Lies.{OfTwo, Agrees};
 ghost use Rattle.arithmetic.specs.Add.Contract.Operands.{Operand, Growing};
+ghost use Rattle.arithmetic.specs.Multiply.Contract.Rows.{PowerOperand, PowersGrow, FormedPowers, powerInto};
 ghost use Rattle.arithmetic.specs.Multiply.Contract.Shapes.{Shaped, OfShapes};
 ghost use Rattle.arithmetic.specs.Multiply.Contract.Factors.{Pair, Row, Sums, Beside, Fits, Inner, OfThree, OfInner, divInto};
 
@@ -372,7 +373,68 @@ fn expr_mul(
     Formed::Done(len)
 }
 
-// The product of two sums: whether there is one is asked first.
+// The products of the power x with each of the m powers from j on go into the sum of the n powers from p on: each is looked for from its last power down.
+fn power_row(
+    kinds: &mut [u8],
+    insides: &mut [u8],
+    numbers: &mut [[u64; 3]],
+    x: Entry,
+    j: usize,
+    m: usize,
+    p: usize,
+    n: usize,
+) -> Formed
+    requires { ⌜ PowerOperand (lent kinds insides numbers) j m p × PowersGrow (lent kinds insides numbers) p n ⌝ }
+    ensures { λ r. ⌜ Kept (entering kinds insides numbers) (leaving kinds insides numbers) p (p + sumEntries) × FormedPowers r (leaving kinds insides numbers) p ⌝ }
+    ensures { λ r. ⌜ OfTwo (entering kinds insides numbers) p (p + n) j (j + m) sumLevels
+        (λ s v. Agrees r (leaving kinds insides numbers) p (eachInto (powerInto x) s v)) ⌝ }
+{
+    let end = j + m;
+    let mut q = j;
+    let mut len = n;
+    while q < end {
+        let y = cells::load(kinds, insides, numbers, q);
+        let a = x.num + y.num;
+        let v = x.coef.mul(y.coef);
+        match sums::map::put_below(kinds, insides, numbers, Merge::Add, a, v, p, len, p + len) {
+            Formed::Done(k) => len = k,
+            Formed::Refused(r) => return Formed::Refused(r),
+        }
+        q = q + 1;
+    }
+    Formed::Done(len)
+}
+
+// The product of two sums of powers, which always is one: row by row, and only powers come of it.
+fn mul_powers(
+    kinds: &mut [u8],
+    insides: &mut [u8],
+    numbers: &mut [[u64; 3]],
+    i: usize,
+    n: usize,
+    j: usize,
+    m: usize,
+    p: usize,
+) -> Formed
+    requires { ⌜ PowerOperand (lent kinds insides numbers) i n p × PowerOperand (lent kinds insides numbers) j m p × Room (lent kinds insides numbers) (p + sumEntries) ⌝ }
+    ensures { λ r. ⌜ Kept (entering kinds insides numbers) (leaving kinds insides numbers) p (p + sumEntries) ⌝ }
+    ensures { λ r. ⌜ OfTwo (entering kinds insides numbers) i (i + n) j (j + m) sumLevels (λ s t. Agrees r (leaving kinds insides numbers) p (product s t)) ⌝ }
+{
+    let end = i + n;
+    let mut q = i;
+    let mut len = 0usize;
+    while q < end {
+        let x = cells::load(kinds, insides, numbers, q);
+        match power_row(kinds, insides, numbers, x, j, m, p, len) {
+            Formed::Done(k) => len = k,
+            Formed::Refused(r) => return Formed::Refused(r),
+        }
+        q = q + 1;
+    }
+    Formed::Done(len)
+}
+
+// The product of two sums: of nothing but powers it is formed row by row, and of any others whether there is one is asked first.
 fn mul_some(
     kinds: &mut [u8],
     insides: &mut [u8],
@@ -387,6 +449,9 @@ fn mul_some(
     ensures { λ r. ⌜ Kept (entering kinds insides numbers) (leaving kinds insides numbers) p (p + sumEntries) ⌝ }
     ensures { λ r. ⌜ OfTwo (entering kinds insides numbers) i (i + n) j (j + m) sumLevels (λ s t. Agrees r (leaving kinds insides numbers) p (product s t)) ⌝ }
 {
+    if sums::order::all_powers(kinds, i, n) & sums::order::all_powers(kinds, j, m) {
+        return mul_powers(kinds, insides, numbers, i, n, j, m, p);
+    }
     if !can_mul(i, n, j, m, kinds, insides, SUM_LEVELS) {
         return Formed::Refused(Refusal::TooComplex);
     }

@@ -18,6 +18,7 @@ ghost use Rattle.sums.specs.Tree.Sums.{none, entry};
 ghost use Rattle.sums.specs.Tree.Map.{merged, formed};
 ghost use Rattle.sums.specs.declared.order.Found.the-variants as Found;
 ghost use Rattle.sums.specs.Contract.Lies.{Held, OfOne, OfTwo, Agrees};
+ghost use Rattle.sums.specs.Contract.Place.{powers};
 ghost use Rattle.sums.specs.Contract.Heads.{GoodHead};
 ghost use Rattle.sums.specs.Contract.Putting.{Places, Puts};
 
@@ -131,8 +132,40 @@ pub fn put_block(
     }
 }
 
-// Puts c times the power num of x into the sum of n entries from p on, which has room for SUM_ENTRIES. A power has no inside, so p
-// stands for where it would lie.
+// Puts c times the power num of x into the sum of n entries from p on, which has room for SUM_ENTRIES and whose powers end before the cell `end`. A power has no
+// inside, so p stands for where it would lie.
+pub fn put_below(
+    kinds: &mut [u8],
+    insides: &mut [u8],
+    numbers: &mut [[u64; 3]],
+    how: Merge,
+    num: f64,
+    c: Complex,
+    p: usize,
+    n: usize,
+    end: usize,
+) -> Formed
+    requires { ⌜ (n ≤ sumEntries) × Room (lent kinds insides numbers) (p + sumEntries) × Held (lent kinds insides numbers) p (p + n) sumLevels ⌝ }
+    requires { ⌜ OfOne (lent kinds insides numbers) p (p + n) sumLevels (λ s. end ≡ p + powers s) ⌝ }
+    ensures { λ r. ⌜ Kept (entering kinds insides numbers) (leaving kinds insides numbers) p (p + sumEntries) ⌝ }
+    ensures { λ r. ⌜ OfOne (entering kinds insides numbers) p (p + n) sumLevels (λ s. Agrees r (leaving kinds insides numbers) p (formed how (entry X 0 num c) none s)) ⌝ }
+{
+    if !numbers::is_finite(num) {
+        return Formed::Refused(Refusal::PowerNotFinite);
+    }
+    let x = Entry {
+        kind: crate::tree::X,
+        inside: 0,
+        num: num,
+        coef: c,
+    };
+    match crate::order::find_power(kinds, insides, numbers, num, p, n, end) {
+        Found::Same(k) => put_same(kinds, insides, numbers, how, x, p, p, n, k),
+        Found::Before(k) => put_new(kinds, insides, numbers, how, x, p, p, n, k),
+    }
+}
+
+// Puts c times the power num of x into the sum of n entries from p on, which has room for SUM_ENTRIES.
 pub fn put_power(
     kinds: &mut [u8],
     insides: &mut [u8],
@@ -147,17 +180,6 @@ pub fn put_power(
     ensures { λ r. ⌜ Kept (entering kinds insides numbers) (leaving kinds insides numbers) p (p + sumEntries) ⌝ }
     ensures { λ r. ⌜ OfOne (entering kinds insides numbers) p (p + n) sumLevels (λ s. Agrees r (leaving kinds insides numbers) p (formed how (entry X 0 num c) none s)) ⌝ }
 {
-    if !numbers::is_finite(num) {
-        return Formed::Refused(Refusal::PowerNotFinite);
-    }
-    let x = Entry {
-        kind: crate::tree::X,
-        inside: 0,
-        num: num,
-        coef: c,
-    };
-    match crate::order::find_power(kinds, insides, numbers, num, p, n) {
-        Found::Same(k) => put_same(kinds, insides, numbers, how, x, p, p, n, k),
-        Found::Before(k) => put_new(kinds, insides, numbers, how, x, p, p, n, k),
-    }
+    let end = crate::order::powers_end(kinds, p, n);
+    put_below(kinds, insides, numbers, how, num, c, p, n, end)
 }

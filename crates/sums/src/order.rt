@@ -4,6 +4,8 @@ use cells::Entry;
 use limits::Refusal;
 use numbers::Ordering;
 ghost use mathlib.Core.Path.{_≡_};
+ghost use mathlib.Core.Bool.{true};
+ghost use mathlib.Core.Logic.{_↔_};
 ghost use Prim.Native.Nat.{ℕ, _+_, _≤_};
 ghost use lib.Dec.{T, leb};
 ghost use lib.Ieee.Scale.{finite};
@@ -16,9 +18,9 @@ ghost use Rattle.sums.specs.Tree.Kinds.{X};
 ghost use Rattle.sums.specs.Tree.Good.{Good};
 ghost use Rattle.sums.specs.Tree.Order.{cmpNat, cmpHead, cmpTerm, cmpSum};
 ghost use Rattle.sums.specs.Tree.Same.{sameHead, sameTerm, sameSum};
-ghost use Rattle.sums.specs.Contract.Lies.{At, Lies, Held, OfTwo};
+ghost use Rattle.sums.specs.Contract.Lies.{At, Lies, Held, OfOne, OfTwo};
 ghost use Rattle.sums.specs.Contract.Nests.{Nests, Nested};
-ghost use Rattle.sums.specs.Contract.Place.{place, powers};
+ghost use Rattle.sums.specs.Contract.Place.{place, powers, OnlyPowers};
 
 // A sum was formed and has so many entries, insides counted; or it was refused.
 pub enum Formed {
@@ -251,6 +253,22 @@ pub fn find(
     Found::Before(k)
 }
 
+// Whether each of the n cells from p on is a power of x. It looks at all of them whatever it finds: a loop with no way out in its middle is compiled to one that
+// takes many cells at once.
+pub fn all_powers(kinds: &[u8], p: usize, n: usize) -> bool
+    requires { ⌜ p + n ≤ length (now kinds) ⌝ }
+    ensures { λ r. ⌜ (r ≡ true) ↔ OnlyPowers (now (kinds .entry)) p (p + n) ⌝ }
+{
+    let end = p + n;
+    let mut k = p;
+    let mut all = true;
+    while k < end {
+        all = all & (kinds[k] == crate::tree::X);
+        k = k + 1;
+    }
+    all
+}
+
 // Up to which cell the powers of x go that stand first in the sum of n cells from p on: they have no inside, and come before every
 // other term.
 pub fn powers_end(kinds: &[u8], p: usize, n: usize) -> usize
@@ -258,6 +276,9 @@ pub fn powers_end(kinds: &[u8], p: usize, n: usize) -> usize
     ensures { λ r. ⌜ (p ≤ r) × (r ≤ p + n) ⌝ }
     ensures { λ r. ⌜ ((f : ℕ → Entry) (s : Sum) → ((k : ℕ) → f k .kind ≡ getD (now (kinds .entry)) k 0) → At f p s → Good sumLevels s → n ≡ size s → r ≡ p + powers s) ⌝ }
 {
+    if all_powers(kinds, p, n) {
+        return p + n;
+    }
     let end = p + n;
     let mut k = p;
     while k < end {
@@ -269,7 +290,7 @@ pub fn powers_end(kinds: &[u8], p: usize, n: usize) -> usize
     k
 }
 
-// Where a power of x stands or belongs in the sum of n cells from p on: kinds and numbers tell, from the last power down.
+// Where a power of x stands or belongs in the sum of n cells from p on, whose powers end before the cell `end`: numbers tell, from the last power down.
 pub fn find_power(
     kinds: &[u8],
     insides: &[u8],
@@ -277,11 +298,13 @@ pub fn find_power(
     num: f64,
     p: usize,
     n: usize,
+    end: usize,
 ) -> Found
     requires { ⌜ T (finite num) × Held (lent kinds insides numbers) p (p + n) sumLevels ⌝ }
+    requires { ⌜ OfOne (lent kinds insides numbers) p (p + n) sumLevels (λ s. end ≡ p + powers s) ⌝ }
     ensures { λ r. ⌜ ((s : Sum) (x : Entry) → Lies (entering kinds insides numbers) p (p + n) sumLevels s → x .kind ≡ X → x .num ≡ num → r ≡ place x none s p) ⌝ }
 {
-    let mut k = powers_end(kinds, p, n);
+    let mut k = end;
     while p < k {
         let words = numbers[k - 1];
         match numbers::cmp(num, f64::from_bits(words[0])) {

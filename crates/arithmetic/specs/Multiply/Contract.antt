@@ -1,3 +1,4 @@
 -- What contracts between own functions, or laws, cite, and no promise to a user.
 pub mod Shapes
 pub mod Factors
+pub mod Rows

@@ -3,12 +3,14 @@ use Prim.Native.Nat.{ℕ, zero, suc, _+_, _-_, _≤_, _<_}
 use native.Mathlib.Omega.{arith}
 use native.Mathlib.Nat.{eq-or-lt-of-le}
 use mathlib.Core.Path.{_≡_, refl, sym, ap, subst, _∙_}
-use mathlib.Core.Logic.{⊎-elim}
-use mathlib.Core.Bool.{Bool, true, false, true≢false}
+use mathlib.Core.Logic.{⊎-elim, _↔_}
+use mathlib.Core.List.{List}
+use mathlib.Core.Bool.{Bool, true, false, _&&_, true≢false}
 use lib.Dec.{T, eqb}
 use lib.Ieee.{Float, binary64, fits}
 use lib.Ieee.Fits.{and-l}
 use lib.Ieee.Scale.{finite}
+use lib.ListN.{getD}
 use borrow.Author.Tests.{eqb-true, eqb-false, eq-eqb, ne-eqb}
 use Rattle.limits.specs.Limits.{sumLevels}
 use Rattle.numbers.specs.declared.Ordering.{Ordering}
@@ -18,17 +20,20 @@ use Rattle.numbers.proofs.Order.{cmp-flip, cmp-less-trans, cmp-equal-right, the
 use Rattle.numbers.specs.declared.complex.Complex.{Complex}
 use Rattle.numbers.specs.Complex.Arith as complex
 use Rattle.cells.specs.declared.Entry.{Entry}
+use Rattle.cells.specs.Contract.Book.{Book, at}
 use Rattle.sums.specs.Tree.Kinds.{X}
 use Rattle.sums.specs.Tree.Sums.{Sum, none, and, size, len, entry}
 use Rattle.sums.specs.Tree.Order.{cmpEach, cmpTerm}
 use Rattle.sums.specs.Tree.Good.{Good, GoodEntry, isEmpty}
 use Rattle.sums.specs.Tree.Good as good
-use Rattle.sums.specs.Tree.Map.{byOrder}
+use Rattle.sums.specs.Tree.Map.{byOrder, putIn, formed, sum}
+use Rattle.sums.specs.declared.tree.Merge.{Merge}
 use Rattle.sums.proofs.tree.Order.{less-nat}
+use Rattle.sums.proofs.tree.Keeps.{putBy, formed-sum}
 use Rattle.sums.specs.declared.order.Found.{Found}
 use Rattle.sums.specs.declared.order.Found.the-variants.{Same, Before}
-use Rattle.sums.specs.Contract.Lies.{At}
-use Rattle.sums.specs.Contract.Place.{place, oneMore, powers}
+use Rattle.sums.specs.Contract.Lies.{At, Lies}
+use Rattle.sums.specs.Contract.Place.{place, oneMore, powers, OnlyPowers}
 
 -- ---- a power against an entry
 
@@ -46,7 +51,7 @@ empty-none none e = refl
 empty-none (and k p i c r) e = absurd (true≢false (sym e))
 
 -- a power has no inside
-no-inside : {l : ℕ} {q : Float} {j : Sum} {d : Complex} → GoodEntry l q j d → l ≡ X → j ≡ none
+pub no-inside : {l : ℕ} {q : Float} {j : Sum} {d : Complex} → GoodEntry l q j d → l ≡ X → j ≡ none
 no-inside {l} {j = j} g e = empty-none j (g .inside ∙ eq-eqb l X e)
 
 -- ---- a good sum whose first entry is a power
@@ -220,6 +225,76 @@ powers-size (and l q j d r) = go (eqb l X) (powers-size r)
     go : (b : Bool) → powers r ≤ size r → oneMore b (powers r) ≤ suc (size j + size r)
     go true h = omega arith
     go false h = omega arith
+
+-- ---- nothing but powers
+
+-- one cell more
+pub only-more : (ks : List ℕ) (p k : ℕ) (all : Bool) → p ≤ k → (all ≡ true) ↔ OnlyPowers ks p k → (all && eqb (getD ks k 0) X ≡ true) ↔ OnlyPowers ks p (k + 1)
+only-more ks p k all low w = (forth all (w .0), λ h. back all (w .1 (λ j lo hi. h j lo (omega arith))) (eq-eqb _ _ (h k low (omega arith))))
+  where
+    forth : (all : Bool) → (all ≡ true → OnlyPowers ks p k) → all && eqb (getD ks k 0) X ≡ true → OnlyPowers ks p (k + 1)
+    forth true w h j lo hi = ⊎-elim (λ (e : j ≡ k). ap (λ (u : ℕ). getD ks u 0) e ∙ eqb-true _ _ h) (λ (l : j < k). w refl j lo l) (eq-or-lt-of-le (omega arith))
+    forth false w h j lo hi = absurd (true≢false (sym h))
+
+    back : (all : Bool) → all ≡ true → eqb (getD ks k 0) X ≡ true → all && eqb (getD ks k 0) X ≡ true
+    back true a h = h
+    back false a h = absurd (true≢false (sym a))
+
+-- where each cell is a power, the sum has nothing else
+pub only-whole : (f : ℕ → Entry) (p left : ℕ) (s : Sum) → At f p s → Good (suc left) s → ((k : ℕ) → p ≤ k → k < p + size s → f k .kind ≡ X) → powers s ≡ size s
+unfolding powers size At
+only-whole f p left none a g h = refl
+only-whole f p left (and l q j d r) a g h =
+    let v = power-first f p left l q j d r a g (sym (ap (λ (u : Entry). u .kind) (a .0)) ∙ h p (omega arith) (omega arith)) in
+    let sized = v .sized in
+    let counted = v .counted in
+    let rest = only-whole f (p + 1) left r (v .laid) (v .good) (λ k lo hi. h k (omega arith) (omega arith)) in
+    omega arith
+
+-- the first of a sum of nothing but powers is one, with nothing inside, and the rest is such a sum
+pub record Whole (l : ℕ) (j r : Sum) : Type 0 where
+  pub power : eqb l X ≡ true
+  pub empty : size j ≡ 0
+  pub rest : powers r ≡ size r
+
+pub whole-first : (l : ℕ) (j r : Sum) → oneMore (eqb l X) (powers r) ≡ suc (size j + size r) → Whole l j r
+whole-first l j r h = go (eqb l X) refl h (powers-size r)
+  where
+    go : (b : Bool) → eqb l X ≡ b → oneMore b (powers r) ≡ suc (size j + size r) → powers r ≤ size r → Whole l j r
+    go true e h most = record { power = e; empty = omega arith; rest = omega arith }
+    go false e h most = absurd (omega arith)
+
+-- and the other way round: each cell of such a sum is a power
+pub whole-only : (f : ℕ → Entry) (p : ℕ) (s : Sum) → At f p s → powers s ≡ size s → (k : ℕ) → p ≤ k → k < p + size s → f k .kind ≡ X
+unfolding powers size At
+whole-only f p none a h k lo hi = absurd (omega arith)
+whole-only f p (and l q j d r) a h k lo hi =
+    let w = whole-first l j r h in
+    let nothing = w .empty in
+    ⊎-elim (λ (e : p ≡ k). ap (λ (u : ℕ). f u .kind) (sym e) ∙ ap (λ (u : Entry). u .kind) (a .0) ∙ eqb-true l X (w .power))
+    (λ (m : p < k). whole-only f (p + 1 + size j) r (a .2) (w .rest) k (omega arith) (omega arith)) (eq-or-lt-of-le lo)
+
+-- such a sum stays one where a power is put in
+put-whole : (m : Merge) (num : Float) (c : Complex) (s : Sum) → powers s ≡ size s → powers (putIn m (entry X 0 num c) none s) ≡ size (putIn m (entry X 0 num c) none s)
+unfolding powers size putIn
+put-whole m num c none h = refl
+put-whole m num c (and l q j d r) h = let w = whole-first l j r h in go (cmpTerm (entry X 0 num c) none (entry l (size j) q d) j) (w .empty) (w .power) (put-whole m num c r (w .rest))
+  where
+    go : (o : Ordering) → size j ≡ 0 → eqb l X ≡ true → powers (putIn m (entry X 0 num c) none r) ≡ size (putIn m (entry X 0 num c) none r)
+        → powers (putBy m (entry X 0 num c) none l q j d r o) ≡ size (putBy m (entry X 0 num c) none l q j d r o)
+    go Less n e ih = omega arith
+    go Equal n e ih = h
+    go Greater n e ih = rw e (omega arith)
+
+pub formed-whole : (m : Merge) (num : Float) (c : Complex) (s s′ : Sum) → formed m (entry X 0 num c) none s ≡ sum s′ → powers s ≡ size s → powers s′ ≡ size s′
+formed-whole m num c s s′ e h = subst (λ (u : Sum). powers u ≡ size u) (sym (formed-sum m (entry X 0 num c) none s s′ e .is)) (put-whole m num c s h)
+
+-- in a book
+pub lies-whole : {b : Book} {p e : ℕ} {s : Sum} → Lies b p e sumLevels s → OnlyPowers (b .kinds) p e → powers s ≡ size s
+lies-whole {b} {p} {e} {s} l h = let ends = l .ends in only-whole (at b) p (sumLevels - 1) s (l .laid) (l .good) (λ k lo hi. h k lo (omega arith))
+
+pub whole-lies : {b : Book} {p e : ℕ} {s : Sum} → Lies b p e sumLevels s → powers s ≡ size s → OnlyPowers (b .kinds) p e
+whole-lies {b} {p} {e} {s} l h k lo hi = let ends = l .ends in whole-only (at b) p s (l .laid) h k lo (omega arith)
 
 -- ---- from the last power down: those from k on come after num
 
