@@ -24,7 +24,7 @@ static const char *const function_names[FUNCTIONS] = {"read", "derivative", "int
 
 /* ---- the bounds */
 
-enum row { EMPTY, SQUARE, CUBE, LARGE, COMPLEX, CONSTANT, NOT, RECIPROCAL, QUOTIENT, PRIMITIVES, DIVS, RUNS, NESTED, ROWS };
+enum row { EMPTY, SQUARE, CUBE, LARGE, WHOLE, COMPLEX, CONSTANT, NOT, RECIPROCAL, QUOTIENT, PRIMITIVES, DIVS, RUNS, NESTED, ROWS };
 
 /* The most bytes that a call may take, in the order of the functions: a tenth above what was measured on x86-64. On Arm an
  * earlier library took as much within a tenth, and less for each of 128 levels, but this one was not measured there; so every
@@ -43,6 +43,7 @@ static const struct {
     [SQUARE] =      {"a square",       { 54200,  72900,  72900,  54700,   5000,   4900,   6300,   6300,  25000}},
     [CUBE] =        {"a cube",         { 54400,  73100,  73100,  54900,   5000,   4900,   6300,   6300,  25000}},
     [LARGE] =       {"(x + 1)^63",     { 54400,  73100,  73100,  54900,   5000,   4900,   6300,   6300,  25000}},
+    [WHOLE] =       {"whole arena",    { 54400,  73100,  73100,  54900,   5000,   4900,   6300,   6300,  25000}},
     [COMPLEX] =     {"Complex",        { 54200,  72900,  72900,  54800,   5000,   4900,   6300,   6300,  25000}},
     [CONSTANT] =    {"Exp2 of 5",      { 54400,  73100,  73100,  54900,   5000,   4900,   6300,   6300,  25000}},
     [NOT] =         {"Not",            { 46600,  65400,  65400,  47200,   5000,   4900,   6300,   6300,  25000}},
@@ -284,6 +285,7 @@ static const struct {
     {SQUARE, "Dup Mul"},
     {CUBE, "3 Pow"},
     {LARGE, "1 Add 63 Pow"},
+    {WHOLE, "1 Add 63 Pow Dup Dup Pop Pop"},
     {COMPLEX, "Dup Complex"},
     {CONSTANT, "Pop 5 Exp2"},
     {NOT, "Not"},
@@ -311,11 +313,23 @@ static void say_primitives(void) {
 }
 
 /* So many times what opens a level, Neg, and as often what closes it. */
-static void say_levels(enum row row, const char *name, const char *open, const char *close, int levels) {
-    char words[MOST_WORDS] = "";
+static void put_levels(char *words, const char *open, const char *close, int levels) {
     for (int i = 0; i < levels; i++) strcat(words, open);
     strcat(words, "Neg");
     for (int i = 0; i < levels; i++) strcat(words, close);
+}
+
+static void say_levels(enum row row, const char *name, const char *open, const char *close, int levels) {
+    char words[MOST_WORDS] = "";
+    put_levels(words, open, close, levels);
+    say_list(row, name, words);
+}
+
+/* The same in the whole arena, above two sums of 64 entries. */
+static void say_levels_above(enum row row, const char *name, const char *open, const char *close, int levels) {
+    char words[MOST_WORDS] = "1 Add 63 Pow Dup Dup ";
+    put_levels(words, open, close, levels);
+    strcat(words, " Pop Pop");
     say_list(row, name, words);
 }
 
@@ -328,6 +342,7 @@ static void say_nested(void) {
     say_levels(NESTED, "By", "By (1 ", " ) Add", PAIRS);
     say_levels(NESTED, "Bracket", "1 Bracket (1 ) (1 ", " ) Pop", PAIRS);
     say_levels(NESTED, "Fork", "Fork (1 ", " )", PAIRS);
+    say_levels_above(NESTED, "Dip, whole", "1 Dip (1 ", " ) Pop", PAIRS);
 }
 
 static void say_head(void) {

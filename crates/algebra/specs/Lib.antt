@@ -3,3 +3,4 @@ pub mod Reading
 pub mod Entries
 pub mod Replies
 pub mod Answer
+pub mod Contract

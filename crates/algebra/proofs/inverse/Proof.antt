@@ -1,53 +1,43 @@
--- A refusal of reading may become 10; what was read is undone. Assumes nothing.
-use mathlib.Core.Path.{refl}
+-- The first try's answer, or where that is 12 the second's. Assumes nothing.
+use mathlib.Core.Path.{refl, sym, _∙_}
+use Rattle.algebra.specs.declared.lists.Wanted.the-variants.{Inverse}
 use Rattle.algebra.specs.Reading.{readList}
 use Rattle.algebra.specs.Entries.{inverse}
-use Rattle.algebra.proofs.Reading.{gave-held}
-use Rattle.algebra.proofs.Lists.{inverse-refused, inverse-made}
+use Rattle.algebra.proofs.lists.Making.{flag-dropped}
+use Rattle.algebra.proofs.lists.Trying.{second-try}
 use borrow.Author.Needs.{needs}
 use Rattle.algebra.proofs.inverse.Statement.{statement}
 use Rattle.algebra.proofs.inverse.Tie as tie
 
-invert-read-requires : tie.Need-invert-read-requires
-invert-read-requires c κs =
-    let after-data2 = c .before .before .before .before .before in
-    let after-read-sum = after-data2 .before .before .before .before .before .before in
-    let start = after-read-sum .before .before .before .before .before .before .before in
-    gave-held (readList (start .args .list .now)) _ _ (after-data2 .data2 .given .1) (after-read-sum .read-sum .ensures)
-
 returns : tie.Need-returns
 unfolding inverse
 returns c =
-    let place = c .before .before in
-    let after-read-sum = place .before .before .before .before .before .before in
-    let start = after-read-sum .before .before .before .before .before .before .before in
-    (_, refl, inverse-refused (readList (start .args .list .now)) _ _ (start .args .out .now) (place .«data» .given .1) (after-read-sum .read-sum .ensures) (c .refuse-inverse .ensures))
+    let after-whole = c .before .before .before in
+    let after-if1 = after-whole .before .before in
+    let after-small = after-if1 .before .before .before .before in
+    let x = after-small .before .before .before .before .args in
+    let full = sym (after-if1 .before .no-room .ensures) ∙ after-if1 .if1 .taken in
+    let makes = second-try Inverse (x .list .now) (after-small .make-in-small .ensures) full (after-whole .make-in-whole .ensures) in
+    (c .unflagged .result, refl, rw (c .unflagged .ensures) (flag-dropped Inverse (readList (x .list .now)) makes))
 
 returns-2 : tie.Need-returns-2
 unfolding inverse
 returns-2 c =
-    let after-invert-read = c .before .before in
-    let after-data2 = after-invert-read .before .before .before .before .before .before in
-    let after-read-sum = after-data2 .before .before .before .before .before .before in
-    let start = after-read-sum .before .before .before .before .before .before .before in
-    (_, refl, inverse-made (readList (start .args .list .now)) _ _ (after-data2 .data2 .given .1) (after-read-sum .read-sum .ensures) (after-invert-read .invert-read .ensures))
+    let after-small = c .before .before .before .before .before in
+    let x = after-small .before .before .before .before .args in
+    let makes = after-small .make-in-small .ensures .made (sym (c .before .before .no-room .ensures) ∙ c .before .if1 .left) in
+    (c .unflagged2 .result, refl, rw (c .unflagged2 .ensures) (flag-dropped Inverse (readList (x .list .now)) makes))
 
 pub inverse-spec : {M : Type 1} → statement M
 inverse-spec =
     tie.close
     (tie.spec
-    (λ c. search needs)
-    (λ c. search needs)
-    (λ c. search needs)
-    (λ c. search needs)
+    (λ c κs. search needs)
+    (λ c κs. search needs)
+    (λ c κs. search needs)
     (λ c κs. search needs)
     (λ c. search needs)
-    (λ c κs. search needs)
-    (λ c. search needs)
-    (λ c. search needs)
-    (λ c. search needs)
-    (λ c. search needs)
-    invert-read-requires
     returns
+    (λ c κs. search needs)
     (λ c. search needs)
     returns-2)

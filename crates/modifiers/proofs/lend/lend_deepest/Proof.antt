@@ -1,6 +1,5 @@
 -- `modifiers::lend_deepest` meets its contract: the deepest c of the sums held lie from v on, and are copied down to the stack's end. Assumes nothing.
 use Prim.Native.Nat.{_+_, _-_, _≤_}
-use native.Mathlib.Omega.{arith}
 use borrow.Author.Needs.{needs}
 use Rattle.stack.specs.Contract.Arena.{Arena, arena}
 use Rattle.stack.specs.declared.slots.Deep.{Deep}

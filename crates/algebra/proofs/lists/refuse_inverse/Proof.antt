@@ -1,9 +1,9 @@
 -- By whether it counts as handled, and by the refusal's number. Assumes nothing.
 use native.Mathlib.Omega.{arith}
 use borrow.Author.Needs.{needs}
-use Rattle.algebra.proofs.Lists.{refused-handled, refused-replaced, refused-kept}
-use Rattle.algebra.proofs.refuse_inverse.Statement.{statement}
-use Rattle.algebra.proofs.refuse_inverse.Tie as tie
+use Rattle.algebra.proofs.lists.Making.{refused-handled, refused-replaced, refused-kept}
+use Rattle.algebra.proofs.lists.refuse_inverse.Statement.{statement}
+use Rattle.algebra.proofs.lists.refuse_inverse.Tie as tie
 
 pub refuse-inverse-spec : {M : Type 1} → statement M
 refuse-inverse-spec =

@@ -1,9 +1,9 @@
 -- By whether it counts as handled. Assumes nothing.
 use borrow.Author.Tests.{not-true, not-false}
-use Rattle.algebra.proofs.Lists.{sum-unhandled, sum-handled}
+use Rattle.algebra.proofs.lists.Making.{sum-unhandled, sum-handled}
 use borrow.Author.Needs.{needs}
-use Rattle.algebra.proofs.invert_read.Statement.{statement}
-use Rattle.algebra.proofs.invert_read.Tie as tie
+use Rattle.algebra.proofs.lists.invert_read.Statement.{statement}
+use Rattle.algebra.proofs.lists.invert_read.Tie as tie
 
 returns : tie.Need-returns
 returns c s l = let start = c .before .before .before .before in sum-unhandled s (start .args .complex) (start .args .out .now) (not-true (start .args .handled) (c .if1 .taken))

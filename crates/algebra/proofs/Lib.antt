@@ -1,3 +1,0 @@
--- The root of the laws of algebra.
-pub mod Reading
-pub mod Lists
