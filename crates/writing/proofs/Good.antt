@@ -1,6 +1,6 @@
--- What a good sum is written as is a good list. An entry adds at most ten records, and two levels. Assumes nothing.
-use Prim.Native.Nat.{ℕ, zero, suc, _+_, _*_, _≤_, _<_}
-use mathlib.Core.Path.{_≡_, refl, subst}
+-- What a good sum is written as is a good list, by any writer of the form that both have. An entry adds at most ten records, and two levels unless it is the first. Assumes nothing.
+use Prim.Native.Nat.{ℕ, zero, suc, _+_, _-_, _*_, _≤_, _<_, max}
+use mathlib.Core.Path.{_≡_, refl, sym, _∙_, subst}
 use mathlib.Core.Bool.{Bool, true, false, not, _&&_, _||_}
 use native.Mathlib.Omega.{arith}
 use lib.Dec.{T, eqb}
@@ -19,7 +19,7 @@ use Rattle.formats.specs.declared.record.Primitive.{Primitive}
 use Rattle.formats.specs.declared.record.Primitive.the-variants as prim
 use Rattle.formats.specs.declared.record.Verdict.the-variants as verdicts
 use Rattle.formats.specs.Names.{choose}
-use Rattle.formats.specs.Tree.{Nodes, end, rec, encode}
+use Rattle.formats.specs.Tree.{Nodes, end, rec, height, encode}
 use Rattle.formats.specs.Rules.{verdict}
 use Rattle.writing.specs.Draft.Writing.{push, does, append, one, two, Written, wrote, refused, andThen, number, numberRecord, canWrite, ifCan}
 use Rattle.writing.proofs.draft.Fine.{Fine, fine-more, fine-end, fine-one, fine-append, fine-two, fine-say, fine-wrapped, fine-good, plain-does, plain-push, plain-number}
@@ -28,17 +28,17 @@ use Rattle.writing.specs.ToNodes.{timesCoef, plus, close, turn, write, t
 
 -- ---- what is written is written in parts
 
-wrote-is : {a b : Nodes} → wrote a ≡ wrote b → a ≡ b
+pub wrote-is : {a b : Nodes} → wrote a ≡ wrote b → a ≡ b
 wrote-is h = cc
 
 never : {A : Type 0} {a : Nodes} (w : Written) → w ≡ wrote a → (q : _) → w ≡ refused q → A
 never w h q e = let z : _≡_ {A = ℕ} 0 1 = cc in absurd (omega arith)
 
-then-wrote : (w : Written) (f : Nodes → Written) (ns : Nodes) → andThen w f ≡ wrote ns → (ms : Nodes) × (w ≡ wrote ms) × (f ms ≡ wrote ns)
+pub then-wrote : (w : Written) (f : Nodes → Written) (ns : Nodes) → andThen w f ≡ wrote ns → (ms : Nodes) × (w ≡ wrote ms) × (f ms ≡ wrote ns)
 then-wrote (wrote ms) f ns h = (ms, refl, h)
 then-wrote (refused q) f ns h = never (refused q) h q refl
 
-if-wrote : (b : Bool) (w : Written) (ns : Nodes) → ifCan b w ≡ wrote ns → w ≡ wrote ns
+pub if-wrote : (b : Bool) (w : Written) (ns : Nodes) → ifCan b w ≡ wrote ns → w ≡ wrote ns
 if-wrote true w ns h = h
 if-wrote false w ns h = never (ifCan false w) h _ refl
 
@@ -103,59 +103,103 @@ module _ (h : ℕ) (low : 1 ≤ h) where
   close-fine false n end f =
       fine-more (n + 2) h (fine-two h (push zero64) (does prim.Mul) low (plain-push zero64 (ofBits-fits binary64 0)) (plain-does prim.Mul)) (omega arith) (omega arith)
 
-  before-fine : (b : Bool) (n : ℕ) (ns : Nodes) → n < 4294967295 → Fine n h ns → Fine (n + 2) (h + 2) (before b ns)
-  before-fine true n ns a f = fine-more (n + 2) (h + 2) f (omega arith) (omega arith)
-  before-fine false n end a f = fine-more (n + 2) (h + 2) (fine-one h (does prim.Dup) low (plain-does prim.Dup)) (omega arith) (omega arith)
-  before-fine false n (rec r xs ys) a f = fine-wrapped (rec r xs ys) a f
+-- ---- the whole sum, by any writer
 
--- ---- the whole sum
+-- So many records at most stand one inside the other after d entries, insides counted: what the first writes lies in nothing, and each that follows sets what came before it two
+-- levels down.
+abbrev pub levelsAfter : ℕ → ℕ
+levelsAfter d = 2 * d - 1
 
--- writing s keeps lists fine, with so many records and levels more
-abbrev Keeps : Bool → Sum → Type 0
-Keeps flag s = (id : Bool) (n h : ℕ) (ns ms : Nodes) → 1 ≤ h → n + 10 * size s < 4294967295 → Fine n h ns → write flag s id ns ≡ wrote ms → Fine (n + 10 * size s + 2) (h + 2 * size s) ms
+before-fine : (b : Bool) (n d : ℕ) (ns : Nodes) → n < 4294967295 → Fine n (levelsAfter d) ns → Fine (n + 2) (levelsAfter (d + 1)) (before b ns)
+unfolding height
+before-fine true n d ns a f = fine-more (n + 2) (levelsAfter (d + 1)) f (omega arith) (omega arith)
+before-fine false n d end a f = fine-more (n + 2) (levelsAfter (d + 1)) (fine-one 1 (does prim.Dup) (omega arith) (plain-does prim.Dup)) (omega arith) (omega arith)
+before-fine false n d (rec r xs ys) a f =
+    let one-level : 1 ≤ levelsAfter d = omega (arith, f .low) in
+    fine-more (n + 2) (levelsAfter (d + 1)) (fine-wrapped (rec r xs ys) a f) (omega arith) (omega arith)
 
-module _ (flag : Bool) (k : ℕ) (p : Float) (i : Sum) (c : Complex) (r : Sum) (fp : T (fits binary64 p)) (fr : T (fits binary64 (c .re))) (fi : T (fits binary64 (c .im)))
-    (inside : Keeps flag i) (rest : Keeps flag r) where
-  term-fine : (isX : Bool) (n h : ℕ) (ns ms : Nodes) → 1 ≤ h → n + 10 * size i < 4294967295 → Fine n h ns
-      → writeTerm isX (form p) k p c flag (λ ls. write flag i false ls) ns ≡ wrote ms → Fine (n + 10 * size i + 5) (h + 2 * size i) ms
-  term-fine true n h ns ms l a f e = fine-more (n + 10 * size i + 5) (h + 2 * size i) (power-fine h l p c fp fr fi (form p) flag n ns ms f e) (omega arith) (omega arith)
-  term-fine false n h ns ms l a f e =
+-- writing m entries keeps lists fine, with so many records and levels more; so does writing an argument of m entries, which stands in an entry
+abbrev pub Keeps : (Bool → Nodes → Written) → ℕ → Type 0
+Keeps w m = (id : Bool) (n d : ℕ) (ns ms : Nodes) → n + 10 * m < 4294967295 → Fine n (levelsAfter d) ns → w id ns ≡ wrote ms → Fine (n + 10 * m + 2) (levelsAfter (max 1 (d + m))) ms
+
+abbrev pub KeepsInside : (Nodes → Written) → ℕ → Type 0
+KeepsInside w m = (n d : ℕ) (ns ms : Nodes) → n + 10 * m < 4294967295 → 1 ≤ d → Fine n (levelsAfter d) ns → w ns ≡ wrote ms → Fine (n + 10 * m + 2) (levelsAfter (d + m)) ms
+
+module _ (flag : Bool) (k : ℕ) (p : Float) (c : Complex) (fp : T (fits binary64 p)) (fr : T (fits binary64 (c .re))) (fi : T (fits binary64 (c .im)))
+    (inside : Nodes → Written) (a : ℕ) (keeps-inside : KeepsInside inside a) (rest : Bool → Nodes → Written) (b : ℕ) (keeps-rest : Keeps rest b) where
+  term-fine : (isX : Bool) (n d : ℕ) (ns ms : Nodes) → n + 10 * a < 4294967295 → 1 ≤ d → Fine n (levelsAfter d) ns → writeTerm isX (form p) k p c flag inside ns ≡ wrote ms
+      → Fine (n + 10 * a + 5) (levelsAfter (d + a)) ms
+  term-fine true n d ns ms few l f e =
+      fine-more (n + 10 * a + 5) (levelsAfter (d + a)) (power-fine (levelsAfter d) (omega arith) p c fp fr fi (form p) flag n ns ms f e) (omega arith) (omega arith)
+  term-fine false n d ns ms few l f e =
       let unit = complex.same c complex.one in
-      let w = then-wrote (write flag i false ns) (λ ls. wrote (append ls (functionOf k p unit))) ms e in
-      let g = inside false n h ns (w .0) l a f (w .1) in
-      subst (Fine (n + 10 * size i + 5) (h + 2 * size i)) (wrote-is (w .2))
-      (fine-more (n + 10 * size i + 5) (h + 2 * size i) (fine-append (w .0) (functionOf k p unit) g (function-fine (h + 2 * size i) (omega arith) p c fp fr fi k unit)) (omega arith) (omega arith))
+      let w = then-wrote (inside ns) (λ ls. wrote (append ls (functionOf k p unit))) ms e in
+      let g = keeps-inside n d ns (w .0) few l f (w .1) in
+      subst (Fine (n + 10 * a + 5) (levelsAfter (d + a))) (wrote-is (w .2))
+      (fine-more (n + 10 * a + 5) (levelsAfter (d + a)) (fine-append (w .0) (functionOf k p unit) g (function-fine (levelsAfter (d + a)) (omega arith) p c fp fr fi k unit)) (omega arith)
+      (omega arith))
 
-  turn-fine : (zero isX : Bool) (id : Bool) (n h : ℕ) (ns ms : Nodes) → 1 ≤ h → n + 10 * (1 + size i + size r) < 4294967295 → Fine n h ns
-      → turn zero isX (form p) k p c flag (λ ls. write flag i false ls) (λ id ls. write flag r id ls) id ns ≡ wrote ms → Fine (n + 10 * (1 + size i + size r) + 2) (h + 2 * (1 + size i + size r)) ms
-  turn-fine true isX id n h ns ms l a f e =
-      fine-more (n + 10 * (1 + size i + size r) + 2) (h + 2 * (1 + size i + size r)) (rest id n h ns ms l (omega arith) f e) (omega arith) (omega arith)
-  turn-fine false isX id n h ns ms l a f e =
+  turn-fine : (zero isX : Bool) → Keeps (turn zero isX (form p) k p c flag inside rest) (1 + a + b)
+  turn-fine true isX id n d ns ms few f e =
+      fine-more (n + 10 * (1 + a + b) + 2) (levelsAfter (max 1 (d + (1 + a + b)))) (keeps-rest id n d ns ms (omega arith) f e) (omega arith) (omega arith)
+  turn-fine false isX id n d ns ms few f e =
       let first = not id && isEmpty ns in
       let times = not (complex.same c complex.one) && not (isX && isConstant (form p)) in
-      let after : Nodes → Written = λ ls. write flag r (id || (isX && isBare (form p))) (plus first ls) in
-      let w = then-wrote (writeTerm isX (form p) k p c flag (λ ls. write flag i false ls) (before first ns)) (λ ls. andThen (timesCoef times flag c ls) after) ms e in
+      let met = id || (isX && isBare (form p)) in
+      let after : Nodes → Written = λ ls. rest met (plus first ls) in
+      let w = then-wrote (writeTerm isX (form p) k p c flag inside (before first ns)) (λ ls. andThen (timesCoef times flag c ls) after) ms e in
       let v = then-wrote (timesCoef times flag c (w .0)) after ms (w .2) in
-      let a₁ = before-fine h l first n ns (omega arith) f in
-      let a₂ = term-fine isX (n + 2) (h + 2) (before first ns) (w .0) (omega arith) (omega arith) a₁ (w .1) in
-      let a₃ = times-fine (h + 2 + 2 * size i) (omega arith) p c fp fr fi times flag (n + 2 + 10 * size i + 5) (w .0) (v .0) a₂ (v .1) in
-      let a₄ = plus-fine (h + 2 + 2 * size i) (omega arith) first (n + 2 + 10 * size i + 5 + 2) (v .0) a₃ in
-      fine-more (n + 10 * (1 + size i + size r) + 2) (h + 2 * (1 + size i + size r))
-      (rest (id || (isX && isBare (form p))) (n + 2 + 10 * size i + 5 + 2 + 1) (h + 2 + 2 * size i) (plus first (v .0)) ms (omega arith) (omega arith) a₄ (v .2)) (omega arith) (omega arith)
+      let h = levelsAfter (d + 1 + a) in
+      let f₁ = before-fine first n d ns (omega arith) f in
+      let f₂ = term-fine isX (n + 2) (d + 1) (before first ns) (w .0) (omega arith) (omega arith) f₁ (w .1) in
+      let f₃ = times-fine h (omega arith) p c fp fr fi times flag (n + 2 + 10 * a + 5) (w .0) (v .0) f₂ (v .1) in
+      let f₄ = plus-fine h (omega arith) first (n + 2 + 10 * a + 5 + 2) (v .0) f₃ in
+      fine-more (n + 10 * (1 + a + b) + 2) (levelsAfter (max 1 (d + (1 + a + b))))
+      (keeps-rest met (n + 2 + 10 * a + 5 + 2 + 1) (d + 1 + a) (plus first (v .0)) ms (omega arith) f₄ (v .2)) (omega arith) (omega arith)
 
 good-fits : (x : Float) → T (finite x && fits binary64 x) → T (fits binary64 x)
 good-fits x t = and-r (finite x) (fits binary64 x) t
 
-keeps : (flag : Bool) (left : ℕ) (s : Sum) → Good left s → Keeps flag s
-unfolding Good write size
-keeps flag left none g id n h ns ms l a f e = subst (Fine (n + 0 + 2) (h + 0)) (wrote-is e) (fine-more (n + 0 + 2) (h + 0) (close-fine h l id n ns f) (omega arith) (omega arith))
-keeps flag zero (and k p i c r) g id n h ns ms l a f e = absurd g
-keeps flag (suc left) (and k p i c r) g id n h ns ms l a f e =
-    fine-more (n + 10 * size (and k p i c r) + 2) (h + 2 * size (and k p i c r))
-    (turn-fine flag k p i c r (good-fits p (g .0 .number)) (good-fits (c .re) (g .0 .re)) (good-fits (c .im) (g .0 .im)) (keeps flag left i (g .1)) (keeps flag (suc left) r (g .3))
-    (complex.same c complex.zero) (eqb k kinds.X) id n h ns ms l (omega arith) f e) (omega arith) (omega arith)
+-- a writer: the turns of the Rust's loop, with a way to write arguments that keeps lists fine where the writer itself does
+pub record Writer (flag : Bool) : Type 0 where
+  pub writes : Sum → Bool → Nodes → Written
+  pub argues : Sum → Nodes → Written
+  pub at-end : (id : Bool) (ns : Nodes) → writes none id ns ≡ wrote (close id ns)
+  pub at-entry : (k : ℕ) (p : Float) (i : Sum) (c : Complex) (r : Sum) (id : Bool) (ns : Nodes)
+      → writes (and k p i c r) id ns ≡ turn (complex.same c complex.zero) (eqb k kinds.X) (form p) k p c flag (argues i) (writes r) id ns
+  pub keeps-argument : (i : Sum) → Keeps (writes i) (size i) → KeepsInside (argues i) (size i)
+
+keeps : {flag : Bool} (w : Writer flag) (left : ℕ) (s : Sum) → Good left s → Keeps (w .writes s) (size s)
+unfolding Good size
+keeps w left none g id n d ns ms few f e =
+    let h = levelsAfter (max 1 (d + 0)) in
+    let c = close-fine h (omega arith) id n ns (fine-more n h f (omega arith) (omega arith)) in
+    subst (Fine (n + 0 + 2) h) (wrote-is (sym (w .at-end id ns) ∙ e)) (fine-more (n + 0 + 2) h c (omega arith) (omega arith))
+keeps w zero (and k p i c r) g id n d ns ms few f e = absurd g
+keeps {flag} w (suc left) (and k p i c r) g id n d ns ms few f e =
+    fine-more (n + 10 * size (and k p i c r) + 2) (levelsAfter (max 1 (d + size (and k p i c r))))
+    (turn-fine flag k p c (good-fits p (g .0 .number)) (good-fits (c .re) (g .0 .re)) (good-fits (c .im) (g .0 .im)) (w .argues i) (size i)
+    (w .keeps-argument i (keeps w left i (g .1))) (w .writes r) (size r) (keeps w (suc left) r (g .3)) (complex.same c complex.zero) (eqb k kinds.X) id n d ns ms (omega arith) f
+    (sym (w .at-entry k p i c r id ns) ∙ e)) (omega arith) (omega arith)
+
+-- a good sum is written as at most 642 records, of which none lies inside more than 126 others
+pub whole-fine : {flag : Bool} (w : Writer flag) (s : Sum) (ns : Nodes) → GoodSum s → w .writes s false end ≡ wrote ns → Fine 642 127 ns
+whole-fine w s ns g e =
+    fine-more 642 127 (keeps w 4 s (g .good) false 0 0 end ns (omega (arith, g .room)) (fine-end 0) e) (omega (arith, g .room)) (omega (arith, g .room))
+
+-- ---- the first writer
+
+first-writer : (flag : Bool) → Writer flag
+unfolding write
+first-writer flag = record {
+  writes = λ s id ns. write flag s id ns;
+  argues = λ s ns. write flag s false ns;
+  at-end = λ id ns. refl;
+  at-entry = λ k p i c r id ns. refl;
+  keeps-argument = λ i k n d ns ms few l f e. fine-more (n + 10 * size i + 2) (levelsAfter (d + size i)) (k false n d ns ms few f e) (omega arith) (omega arith);
+}
 
 -- what a good sum is written as is a good list
 pub written-good : (flag : Bool) (s : Sum) (ns : Nodes) → GoodSum s → toNodes flag s ≡ wrote ns → verdict (encode ns) ≡ verdicts.Good
-written-good flag s ns g e =
-    fine-good ns (omega (arith, g .room)) (omega (arith, g .room)) (keeps flag 4 s (g .good) false 0 1 end ns (omega arith) (omega (arith, g .room)) (fine-end 1) e)
+unfolding first-writer write
+written-good flag s ns g e = fine-good ns (omega arith) (omega arith) (whole-fine (first-writer flag) s ns g e)

@@ -2,6 +2,8 @@
 pub mod Count
 pub mod Good
 pub mod Refusals
+pub mod Writers
+pub mod Meaning
 pub mod Parts
 pub mod Whole
 pub mod Examples

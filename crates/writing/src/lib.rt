@@ -2,6 +2,7 @@
 // far is a draft in a buffer: a term is written at its end, and an On goes round all of it where it is needed again. A function's argument is written by the same
 // loop, with a level less left.
 pub mod draft;
+pub mod faithful;
 
 use crate::draft::Draft;
 use crate::draft::Said;

@@ -15,7 +15,8 @@ use Rattle.sums.proofs.order.Walk.{Next, next-at}
 use Rattle.writing.specs.Draft.Contract.Growing.{Ready}
 use Rattle.writing.proofs.draft.Growing.{ready-less, ready-drawn, ready-spoken}
 use Rattle.writing.proofs.Turning.{Left, outset, first, number-finite, turn-ready, left-stop, left-more, close-ready, left-end}
-use Rattle.writing.proofs.Turning.{term-power, term-stop, term-function, turn-zero, turn-stop, turn-more}
+use Rattle.writing.proofs.Turning.{rust-loop, term-power, term-stop, term-function, turn-zero, turn-stop, turn-more}
+use Rattle.writing.specs.Contract.Turns.{onList}
 use Rattle.writing.proofs.write_sum.Reads as write-sum
 use Rattle.writing.proofs.write_sum.Kinds as write-sum-kinds
 use Rattle.writing.proofs.+write_sum+write_term+write_turn.Lts-write_sum as write-sum-lts
@@ -109,7 +110,7 @@ write-turn-claims t = (
 
 abbrev Inv : write-sum-lts.InvT-loop
 Inv kinds insides numbers j m complex left b₀ q₀ identity₀ draft₀ b q identity draft =
-    (s : Sum) → Lies (book kinds insides numbers) j (j + m) left s → Left b₀ b draft₀ draft (book kinds insides numbers) j q (j + m) left complex identity s
+    (s : Sum) → Lies (book kinds insides numbers) j (j + m) left s → Left b₀ b draft₀ draft (book kinds insides numbers) j q (j + m) left (rust-loop complex) identity s
 
 abbrev μ : write-sum-lts.MeasureT-loop
 μ kinds insides numbers j m complex left b₀ q₀ identity₀ draft₀ b q identity draft = j + m - q
@@ -142,7 +143,7 @@ module _ (t : ℕ) where
   -- what is left of the sum that is held
   abbrev now-left : (c : Sum-loop) → (let st = sum-start c in
       Left (st .args .b .now) (c .loop .b) (st .args .d) (c .loop .draft) (sum-book st) (st .args .j) (c .loop .q) (st .args .j + st .args .m)
-      (st .args .left) (st .args .complex) (c .loop .identity) (st .pre .1 .0 .0))
+      (st .args .left) (rust-loop (st .args .complex)) (c .loop .identity) (st .pre .1 .0 .0))
   now-left c = let h = sum-start c .pre .1 .0 in c .loop .inv (h .0) (h .1)
 
   -- its next entry, which was read
@@ -158,7 +159,9 @@ module _ (t : ℕ) where
   ready c =
       let l = sum-loop c in
       let st = sum-start l in
-      turn-ready (st .args .m) (now-left l) (c .load .result) (c .load .ensures) (c .before .loop-test .taken) (st .pre .1 .1)
+      let m = st .args .m in
+      let same = ready-less {f′ = 2 * m} {r′ = 9 * m + 2 + 0} (st .pre .1 .1) (omega arith) (omega arith) in
+      ready-less (turn-ready m (now-left l) (c .load .result) (c .load .ensures) (c .before .loop-test .taken) 0 same) (omega arith) (omega arith)
 
   fine : (c : Sum-load) → T (finite (c .load .result .num))
   fine c = number-finite (sum-start (sum-loop c) .args .m) (now-left (sum-loop c)) (c .load .result) (c .load .ensures) (c .before .loop-test .taken)
@@ -200,7 +203,7 @@ module _ (t : ℕ) where
   term-refused c s l =
       let argument = c .before .before .before .before .before in
       let st = term-start argument in
-      term-stop (st .args .x) (st .args .complex) s (term-else argument .if1 .left) (argument .write-sum .ensures s l) (c .before .q .given .0 .0) (c .before .q .given .1)
+      term-stop (st .args .x) (st .args .complex) (onList (st .args .complex) s) (9 * st .args .x .inside) (term-else argument .if1 .left) (argument .write-sum .ensures s l) (c .before .q .given .0 .0) (c .before .q .given .1)
 
   -- the argument is written, and the function after it
   term-done : write-term-lts.Need-returns-3 (write-term-claims t) (write-term-at t) write-term.Post
@@ -208,7 +211,7 @@ module _ (t : ℕ) where
       let went = c .before .before .before .before .before .before in
       let argument = went .before .before .before .before in
       let st = term-start argument in
-      term-function (st .args .x) (st .args .complex) s (term-else argument .if1 .left) (argument .write-sum .ensures s l) (went .e .given .1)
+      term-function (st .args .x) (st .args .complex) (onList (st .args .complex) s) (9 * st .args .x .inside) (term-else argument .if1 .left) (argument .write-sum .ensures s l) (went .e .given .1)
       (c .before .before .before .is-one .ensures) (c .before .before .write-function .ensures)
 
 -- ---- write_turn
@@ -240,7 +243,7 @@ module _ (t : ℕ) where
       let kept = turn-kept term in
       let test = turn-else kept in
       let st = turn-start kept in
-      turn-stop (st .args .x) (st .args .complex) s (st .args .identity) (sym (test .before .is-zero .ensures) ∙ test .if1 .left) refl (kept .before2 .ensures)
+      turn-stop (st .args .x) (st .args .complex) (onList (st .args .complex) s) (9 * st .args .x .inside) (st .args .identity) (sym (test .before .is-zero .ensures) ∙ test .if1 .left) refl (kept .before2 .ensures)
       (term .write-term .ensures s l) (c .before .q .given .0 .0) (c .before .q .given .1)
 
   -- the term is written, and what follows it
@@ -251,7 +254,7 @@ module _ (t : ℕ) where
       let kept = turn-kept term in
       let test = turn-else kept in
       let st = turn-start kept in
-      turn-more (st .args .x) (st .args .complex) s (st .args .identity) (sym (test .before .is-zero .ensures) ∙ test .if1 .left) refl (kept .before2 .ensures)
+      turn-more (st .args .x) (st .args .complex) (onList (st .args .complex) s) (9 * st .args .x .inside) (st .args .identity) (sym (test .before .is-zero .ensures) ∙ test .if1 .left) refl (kept .before2 .ensures)
       (term .write-term .ensures s l) (went .f .given .1) (c .before .before .finish .ensures)
 
 pub +write-sum+write-term+write-turn-spec : {M : Type 1} → statement M
@@ -296,7 +299,7 @@ pub +write-sum+write-term+write-turn-spec : {M : Type 1} → statement M
     (λ c s l.
     let test = c .before .before .before .before in
     let st = test .before .before .before .before .before in
-    term-power (st .args .x) (st .args .complex) s (test .if1 .taken) (c .before .before .write-power .ensures))
+    term-power (st .args .x) (st .args .complex) (onList (st .args .complex) s) (9 * st .args .x .inside) (test .if1 .taken) (c .before .before .write-power .ensures))
     -- a function of a sum
     (λ c. search needs)
     (λ c κs.
@@ -319,7 +322,7 @@ pub +write-sum+write-term+write-turn-spec : {M : Type 1} → statement M
     -- the coefficient is zero
     (λ c s l.
     let st = c .before .before .before .before .before in
-    turn-zero (st .args .x) (st .args .complex) s (st .args .identity) (sym (c .before .is-zero .ensures) ∙ c .if1 .taken))
+    turn-zero (st .args .x) (st .args .complex) (onList (st .args .complex) s) (9 * st .args .x .inside) (st .args .identity) (sym (c .before .is-zero .ensures) ∙ c .if1 .taken))
     -- it is not
     (λ c κs. ready-less (c .before .before .before .before .before .before .before .pre .1 .1) (omega arith) (omega arith))
     (λ c κs.

@@ -32,7 +32,7 @@ fresh b k h = record { ends = omega arith; room = h; bytes = refl }
 
 -- ---- a record after the last
 
-part-take : (at n : ℕ) (l : List ℕ) → at ≤ length l → drop at (take (at + n) l) ≡ part at n l
+pub part-take : (at n : ℕ) (l : List ℕ) → at ≤ length l → drop at (take (at + n) l) ≡ part at n l
 part-take at n l h = ap (drop at) (take-add at n l) ∙ drop-at (take at l) (part at n l) at (length-take-le at l h)
 
 -- the part up to a written record, and the record
