@@ -3,3 +3,4 @@ pub mod Determined
 pub mod Giving
 pub mod Taking
 pub mod Told
+pub mod Writers

@@ -10,7 +10,7 @@ use Rattle.limits.specs.Refusals.{refusalNo}
 use Rattle.sums.specs.Tree.Sums.{Sum}
 use Rattle.modifiers.specs.Reading as reading
 use Rattle.modifiers.specs.Reading.{Read, done}
-use Rattle.algebra.specs.Answer.Making.{Made, refusedAt, invert, deriveAndWrite, integrateAndWrite}
+use Rattle.algebra.specs.Answer.Making.{Made, refusedAt, invert, deriveAndWrite, integrateAndWrite, deriveAndWriteFaithful, integrateAndWriteFaithful}
 use Rattle.algebra.specs.Reading.{readList}
 
 -- what was read goes on with its complex flag
@@ -23,6 +23,13 @@ derivative l = afterRead (readList l) deriveAndWrite
 
 unfoldable pub integral : List ℕ → Made
 integral l = afterRead (readList l) integrateAndWrite
+
+-- the same with the second writer
+unfoldable pub derivativeFaithful : List ℕ → Made
+derivativeFaithful l = afterRead (readList l) deriveAndWriteFaithful
+
+unfoldable pub integralFaithful : List ℕ → Made
+integralFaithful l = afterRead (readList l) integrateAndWriteFaithful
 
 -- 10, at place 0, where what was read doesn't count as handled: it replaces 1 to 9, never a number above them
 abbrev pub unhandled : Refusal → ℕ → Made

@@ -1,4 +1,4 @@
--- The nine entries side by side: what each may answer, in document 01's numbers.
+-- The twelve entries side by side: what each may answer, in document 01's numbers.
 use Prim.Native.Nat.{ℕ}
 use mathlib.Core.Path.{_≡_}
 use mathlib.Core.Bool.{Bool, false}
@@ -24,10 +24,10 @@ use Rattle.algebra.specs.declared.ReadAnswer.{ReadAnswer}
 use Rattle.algebra.specs.Reading.{readList, answerOf, bytesOf, readNumbers}
 use Rattle.algebra.specs.Entries as lists
 
--- write is handed a flag, and run a number
+-- both writes are handed a flag, and run a number; those called faithful have the second writer
 pub data Entry : Type 0 where
-  read derive integrate derivative integral inverse cost : Entry
-  write : Bool → Entry
+  read derive integrate derivative integral inverse cost derivativeFaithful integralFaithful : Entry
+  write writeFaithful : Bool → Entry
   run : Float → Entry
 
 -- number, place and counts; the flag is read's, value and peak are run's, steps are run's and cost's
@@ -74,6 +74,9 @@ Promised integrate l out out′ r = (a : Answer) × (r ≡ ofAnswer a) × OfByte
 Promised (write c) l out out′ r = (a : Answer) × (r ≡ ofAnswer a) × OfBytes recordsIn (making.write c) l out out′ a
 Promised derivative l out out′ r = (a : Answer) × (r ≡ ofAnswer a) × Gives recordsIn (lists.derivative l) out out′ a
 Promised integral l out out′ r = (a : Answer) × (r ≡ ofAnswer a) × Gives recordsIn (lists.integral l) out out′ a
+Promised (writeFaithful c) l out out′ r = (a : Answer) × (r ≡ ofAnswer a) × OfBytes recordsIn (making.writeFaithful c) l out out′ a
+Promised derivativeFaithful l out out′ r = (a : Answer) × (r ≡ ofAnswer a) × Gives recordsIn (lists.derivativeFaithful l) out out′ a
+Promised integralFaithful l out out′ r = (a : Answer) × (r ≡ ofAnswer a) × Gives recordsIn (lists.integralFaithful l) out out′ a
 Promised inverse l out out′ r = (a : Answer) × (r ≡ ofAnswer a) × Gives recordsIn (lists.inverse l) out out′ a
 Promised (run x) l out out′ r = (r ≡ ofRun (runList l x)) × (out′ ≡ out)
 Promised cost l out out′ r = (r ≡ ofCost (costList l)) × (out′ ≡ out)

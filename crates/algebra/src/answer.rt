@@ -11,12 +11,20 @@ ghost use Rattle.sums.specs.Contract.Lies.{Held, OfOne};
 ghost use Rattle.arithmetic.specs.Add.Contract.Operands.{Source};
 ghost use Rattle.formats.specs.Tree.{recordsIn};
 ghost use Rattle.sums.specs.Entry.Encoding.{entriesIn};
-ghost use Rattle.algebra.specs.Answer.Making.{ofSum, answerOf, Gives, answerNumbers, derive, integrate, write, invert, deriveAndWrite, integrateAndWrite};
+ghost use Rattle.writing.specs.Draft.Contract.Lying.{Answered};
+ghost use Rattle.algebra.specs.Answer.Making.{ofSum, answerOf, Gives, answerNumbers, derive, integrate, invert};
+ghost use Rattle.algebra.specs.Contract.Writers.{listBy, writeBy, deriveAndWriteBy, integrateAndWriteBy};
 
 // What an entry answers: so many entries or records written, or a refusal with its place.
 pub enum Answer {
     Done(usize),
     Refused(Refusal, usize),
+}
+
+// Which of the two writers writes a list: the Rust's, or the one whose lists mean what the sum says.
+pub enum Writer {
+    AsRust,
+    Faithful,
 }
 
 // Document 01's number, place, count and complex flag.
@@ -115,8 +123,30 @@ pub fn integrate(
     }
 }
 
-// The sum as a list.
+// The sum as a list, by either writer.
+fn list_by(
+    writer: Writer,
+    kinds: &[u8],
+    insides: &[u8],
+    numbers: &[[u64; 3]],
+    i: usize,
+    n: usize,
+    complex: bool,
+    out: &mut [u8],
+) -> Wrote
+    requires { ⌜ (n ≤ sumEntries) × Held (lent kinds insides numbers) i (i + n) sumLevels ⌝ }
+    ensures { λ r. ⌜ OfOne (entering kinds insides numbers) i (i + n) sumLevels (λ s. Answered (now (out .entry)) (now (out .exit)) r (listBy writer complex s)) ⌝ }
+{
+    match writer {
+        Writer::AsRust => writing::expr_to_node(kinds, insides, numbers, i, n, complex, out),
+        Writer::Faithful => {
+            writing::faithful::expr_to_node(kinds, insides, numbers, i, n, complex, out)
+        }
+    }
+}
+
 pub fn write_sum(
+    writer: Writer,
     kinds: &[u8],
     insides: &[u8],
     numbers: &[[u64; 3]],
@@ -126,14 +156,15 @@ pub fn write_sum(
     out: &mut [u8],
 ) -> Answer
     requires { ⌜ (n ≤ sumEntries) × Held (lent kinds insides numbers) i (i + n) sumLevels ⌝ }
-    ensures { λ r. ⌜ OfOne (entering kinds insides numbers) i (i + n) sumLevels (λ s. Gives recordsIn (write complex s) (now (out .entry)) (now (out .exit)) r) ⌝ }
+    ensures { λ r. ⌜ OfOne (entering kinds insides numbers) i (i + n) sumLevels (λ s. Gives recordsIn (writeBy writer complex s) (now (out .entry)) (now (out .exit)) r) ⌝ }
 {
-    let wrote = writing::expr_to_node(kinds, insides, numbers, i, n, complex, out);
+    let wrote = list_by(writer, kinds, insides, numbers, i, n, complex, out);
     answer_of(wrote)
 }
 
 // Its derivative as a list.
 pub fn derive_and_write(
+    writer: Writer,
     kinds: &mut [u8],
     insides: &mut [u8],
     numbers: &mut [[u64; 3]],
@@ -144,16 +175,17 @@ pub fn derive_and_write(
     out: &mut [u8],
 ) -> Answer
     requires { ⌜ Source (lent kinds insides numbers) i n w × Room (lent kinds insides numbers) (w + (sumEntries + sumEntries)) ⌝ }
-    ensures { λ r. ⌜ OfOne (entering kinds insides numbers) i (i + n) sumLevels (λ s. Gives recordsIn (deriveAndWrite complex s) (now (out .entry)) (now (out .exit)) r) ⌝ }
+    ensures { λ r. ⌜ OfOne (entering kinds insides numbers) i (i + n) sumLevels (λ s. Gives recordsIn (deriveAndWriteBy writer complex s) (now (out .entry)) (now (out .exit)) r) ⌝ }
 {
     match calculus::derivative::expr_deriv(kinds, insides, numbers, i, n, w) {
         Formed::Refused(q) => Answer::Refused(q, 0),
-        Formed::Done(m) => write_sum(kinds, insides, numbers, w, m, complex, out),
+        Formed::Done(m) => write_sum(writer, kinds, insides, numbers, w, m, complex, out),
     }
 }
 
 // Its integral as a list.
 pub fn integrate_and_write(
+    writer: Writer,
     kinds: &mut [u8],
     insides: &mut [u8],
     numbers: &mut [[u64; 3]],
@@ -164,11 +196,11 @@ pub fn integrate_and_write(
     out: &mut [u8],
 ) -> Answer
     requires { ⌜ Source (lent kinds insides numbers) i n w × Room (lent kinds insides numbers) (w + (sumEntries + sumEntries)) ⌝ }
-    ensures { λ r. ⌜ OfOne (entering kinds insides numbers) i (i + n) sumLevels (λ s. Gives recordsIn (integrateAndWrite complex s) (now (out .entry)) (now (out .exit)) r) ⌝ }
+    ensures { λ r. ⌜ OfOne (entering kinds insides numbers) i (i + n) sumLevels (λ s. Gives recordsIn (integrateAndWriteBy writer complex s) (now (out .entry)) (now (out .exit)) r) ⌝ }
 {
     match calculus::integral::expr_integral(kinds, insides, numbers, i, n, w) {
         Formed::Refused(q) => Answer::Refused(q, 0),
-        Formed::Done(m) => write_sum(kinds, insides, numbers, w, m, complex, out),
+        Formed::Done(m) => write_sum(writer, kinds, insides, numbers, w, m, complex, out),
     }
 }
 

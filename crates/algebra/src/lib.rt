@@ -4,6 +4,7 @@ pub mod lists;
 
 use crate::answer::Answer;
 use crate::answer::Numbers;
+use crate::answer::Writer;
 use crate::lists::Wanted;
 use limits::Refusal;
 use limits::SUM_ENTRIES;
@@ -11,7 +12,10 @@ use reading::cost::CostAnswer;
 use running::RunAnswer;
 use stack::slots::WORKING;
 use sums::entry::Taken;
+ghost use Rattle.algebra.specs.Answer.Making.{OfBytes};
+ghost use Rattle.algebra.specs.Contract.Writers.{writeBy};
 ghost use Rattle.algebra.specs.Reading.{readNumbers};
+ghost use Rattle.formats.specs.Tree.{recordsIn};
 ghost use Rattle.algebra.specs.Replies.{Promised, ofRead, ofAnswer, ofRun, ofCost};
 ghost use mathlib.Core.List.{[]};
 ghost use mathlib.Core.Path.{_≡_};
@@ -60,36 +64,35 @@ pub fn read(list: &[u8], out: &mut [u8]) -> ReadAnswer
 pub fn derivative(list: &[u8], out: &mut [u8]) -> Answer
     ensures { λ r. ⌜ Promised entry.derivative (now (list .entry)) (now (out .entry)) (now (out .exit)) (ofAnswer r) ⌝ }
 {
-    let tried = crate::lists::make_in_small(Wanted::Derivative, list, out);
-    if crate::lists::no_room(tried) {
-        let again = crate::lists::make_in_whole(Wanted::Derivative, list, out);
-        return crate::lists::unflagged(again);
-    }
-    crate::lists::unflagged(tried)
+    crate::lists::make_list(Wanted::Derivative(Writer::AsRust), list, out)
 }
 
 // From a list to the list of its integral.
 pub fn integral(list: &[u8], out: &mut [u8]) -> Answer
     ensures { λ r. ⌜ Promised entry.integral (now (list .entry)) (now (out .entry)) (now (out .exit)) (ofAnswer r) ⌝ }
 {
-    let tried = crate::lists::make_in_small(Wanted::Integral, list, out);
-    if crate::lists::no_room(tried) {
-        let again = crate::lists::make_in_whole(Wanted::Integral, list, out);
-        return crate::lists::unflagged(again);
-    }
-    crate::lists::unflagged(tried)
+    crate::lists::make_list(Wanted::Integral(Writer::AsRust), list, out)
+}
+
+// From a list to a list that means what its derivative says.
+pub fn derivative_faithful(list: &[u8], out: &mut [u8]) -> Answer
+    ensures { λ r. ⌜ Promised entry.derivativeFaithful (now (list .entry)) (now (out .entry)) (now (out .exit)) (ofAnswer r) ⌝ }
+{
+    crate::lists::make_list(Wanted::Derivative(Writer::Faithful), list, out)
+}
+
+// From a list to a list that means what its integral says.
+pub fn integral_faithful(list: &[u8], out: &mut [u8]) -> Answer
+    ensures { λ r. ⌜ Promised entry.integralFaithful (now (list .entry)) (now (out .entry)) (now (out .exit)) (ofAnswer r) ⌝ }
+{
+    crate::lists::make_list(Wanted::Integral(Writer::Faithful), list, out)
 }
 
 // From a list to the list that undoes it.
 pub fn inverse(list: &[u8], out: &mut [u8]) -> Answer
     ensures { λ r. ⌜ Promised entry.inverse (now (list .entry)) (now (out .entry)) (now (out .exit)) (ofAnswer r) ⌝ }
 {
-    let tried = crate::lists::make_in_small(Wanted::Inverse, list, out);
-    if crate::lists::no_room(tried) {
-        let again = crate::lists::make_in_whole(Wanted::Inverse, list, out);
-        return crate::lists::unflagged(again);
-    }
-    crate::lists::unflagged(tried)
+    crate::lists::make_list(Wanted::Inverse, list, out)
 }
 
 // ---- of a sum
@@ -141,9 +144,9 @@ pub fn integrate(sum: &[u8], out: &mut [u8]) -> Answer
     }
 }
 
-// A sum that is handed over, as a list.
-pub fn write(sum: &[u8], complex: bool, out: &mut [u8]) -> Answer
-    ensures { λ r. ⌜ Promised (entry.write complex) (now (sum .entry)) (now (out .entry)) (now (out .exit)) (ofAnswer r) ⌝ }
+// A sum that is handed over, as a list, by either writer.
+fn write_by(writer: Writer, sum: &[u8], complex: bool, out: &mut [u8]) -> Answer
+    ensures { λ r. ⌜ OfBytes recordsIn (writeBy writer complex) (now (sum .entry)) (now (out .entry)) (now (out .exit)) r ⌝ }
 {
     let mut kinds = [0u8; SUM_PLACES];
     let mut insides = [0u8; SUM_PLACES];
@@ -151,8 +154,31 @@ pub fn write(sum: &[u8], complex: bool, out: &mut [u8]) -> Answer
     let taken = sums::bytes::take_in(&mut kinds, &mut insides, &mut numbers, sum);
     match taken {
         Taken::Refused(q) => Answer::Refused(q, 0),
-        Taken::Sum(n) => crate::answer::write_sum(&kinds, &insides, &numbers, 0, n, complex, out),
+        Taken::Sum(n) => crate::answer::write_sum(
+            writer,
+            &kinds,
+            &insides,
+            &numbers,
+            0,
+            n,
+            complex,
+            out,
+        ),
     }
+}
+
+// A sum that is handed over, as a list.
+pub fn write(sum: &[u8], complex: bool, out: &mut [u8]) -> Answer
+    ensures { λ r. ⌜ Promised (entry.write complex) (now (sum .entry)) (now (out .entry)) (now (out .exit)) (ofAnswer r) ⌝ }
+{
+    write_by(Writer::AsRust, sum, complex, out)
+}
+
+// A sum that is handed over, as a list that means what the sum says.
+pub fn write_faithful(sum: &[u8], complex: bool, out: &mut [u8]) -> Answer
+    ensures { λ r. ⌜ Promised (entry.writeFaithful complex) (now (sum .entry)) (now (out .entry)) (now (out .exit)) (ofAnswer r) ⌝ }
+{
+    write_by(Writer::Faithful, sum, complex, out)
 }
 
 // ---- of a list and a number

@@ -2,6 +2,7 @@
 // again in the whole one. The two stand in functions of their own, so that the room that they take on the stack is not added up.
 use crate::ReadAnswer;
 use crate::answer::Answer;
+use crate::answer::Writer;
 use formats::record::Verdict;
 use limits::LAST_REPLACED;
 use limits::Refusal;
@@ -27,8 +28,8 @@ ghost use mathlib.Core.Path.{_≡_};
 // What is made of the sum that a list stands for.
 pub enum Wanted {
     Sum,
-    Derivative,
-    Integral,
+    Derivative(Writer),
+    Integral(Writer),
     Inverse,
 }
 
@@ -71,8 +72,8 @@ fn refuse(w: Wanted, q: Refusal, at: usize, handled: bool) -> Answer
 {
     match w {
         Wanted::Sum => Answer::Refused(q, at),
-        Wanted::Derivative => Answer::Refused(q, at),
-        Wanted::Integral => Answer::Refused(q, at),
+        Wanted::Derivative(_) => Answer::Refused(q, at),
+        Wanted::Integral(_) => Answer::Refused(q, at),
         Wanted::Inverse => refuse_inverse(q, at, handled),
     }
 }
@@ -112,7 +113,8 @@ fn make(
 {
     match w {
         Wanted::Sum => crate::answer::put_out(kinds, insides, numbers, WORKING, n, out),
-        Wanted::Derivative => crate::answer::derive_and_write(
+        Wanted::Derivative(writer) => crate::answer::derive_and_write(
+            writer,
             kinds,
             insides,
             numbers,
@@ -122,7 +124,8 @@ fn make(
             complex,
             out,
         ),
-        Wanted::Integral => crate::answer::integrate_and_write(
+        Wanted::Integral(writer) => crate::answer::integrate_and_write(
+            writer,
             kinds,
             insides,
             numbers,
@@ -225,4 +228,16 @@ pub fn no_room(a: ReadAnswer) -> bool
         ReadAnswer::Sum(_, _) => false,
         ReadAnswer::Refused(q, _) => limits::refusal_no(q) == limits::refusal_no(Refusal::NoRoom),
     }
+}
+
+// What is made of a list: by the first try, or, where that is refused with 12, by the second.
+pub fn make_list(w: Wanted, list: &[u8], out: &mut [u8]) -> Answer
+    ensures { λ r. ⌜ Gives (roomBy w) (madeBy w (readList (now (list .entry)))) (now (out .entry)) (now (out .exit)) r ⌝ }
+{
+    let tried = make_in_small(w, list, out);
+    if no_room(tried) {
+        let again = make_in_whole(w, list, out);
+        return unflagged(again);
+    }
+    unflagged(tried)
 }

@@ -1,4 +1,4 @@
--- The entries compose: derivative is read, derive and write, each handed the bytes that the one before wrote; integral likewise. Assumes nothing.
+-- The entries compose: derivative is read, derive and write, each handed the bytes that the one before wrote; integral likewise, and both with the second writer. Assumes nothing.
 use Prim.Native.Nat.{ℕ, _*_, _≤_}
 use native.Mathlib.Omega.{arith}
 use mathlib.Core.Path.{_≡_, refl, sym, ap, subst, _∙_}
@@ -22,14 +22,14 @@ use Rattle.calculus.proofs.Good.{derive-good, integrate-good}
 use Rattle.algebra.specs.declared.answer.Answer.{Answer}
 use Rattle.algebra.specs.declared.answer.Answer.the-variants as given
 use Rattle.algebra.specs.Answer.Making as making
-use Rattle.algebra.specs.Answer.Making.{Made, ofOutcome, ofSum, write, derive, integrate, deriveAndWrite, integrateAndWrite, Gives, OfBytes}
+use Rattle.algebra.specs.Answer.Making.{Made, ofOutcome, ofSum, write, writeFaithful, derive, integrate, deriveAndWrite, integrateAndWrite, deriveAndWriteFaithful, integrateAndWriteFaithful, Gives, OfBytes}
 use Rattle.algebra.proofs.answer.Giving.{gives-refusal}
 use Rattle.algebra.proofs.answer.Taking.{of-good}
 use Rattle.algebra.proofs.answer.Told.{Success, success, refusal, not-made, refused-same, sum-same, SumMade, sum-made, refused-outcome, first-bytes}
 use Rattle.algebra.specs.Reading.{readList, madeOf, flagOf}
-use Rattle.algebra.specs.Entries.{afterRead, derivative, integral}
+use Rattle.algebra.specs.Entries.{afterRead, derivative, integral, derivativeFaithful, integralFaithful}
 use Rattle.algebra.specs.declared.ReadAnswer.the-variants as answer
-use Rattle.theorems.specs.Composing.{ReadGives, ReadTold, Composes, DerivativeComposes, IntegralComposes}
+use Rattle.theorems.specs.Composing.{ReadGives, ReadTold, Composes, DerivativeComposes, IntegralComposes, DerivativeFaithfulComposes, IntegralFaithfulComposes}
 use Rattle.theorems.proofs.Reading.{sum-good, unflagged, sum-flagged, refusal-flagged}
 
 -- ---- what `read` tells
@@ -69,8 +69,8 @@ after-refusal l {out₁} {out₁′} {q} {at} f out p n = let w = read-refusal (
 
 -- ---- through bytes
 
--- g derives or integrates: of a good sum it makes a good one
-module _ (g : Sum → Outcome) (keeps : (s d : Sum) → GoodSum s → g s ≡ sum d → GoodSum d) (l : List ℕ) {out₁ out₁′ : List ℕ} where
+-- g derives or integrates: of a good sum it makes a good one, which the writer then writes
+module _ (writer : Bool → Sum → Made) (g : Sum → Outcome) (keeps : (s d : Sum) → GoodSum s → g s ≡ sum d → GoodSum d) (l : List ℕ) {out₁ out₁′ : List ℕ} where
   module _ {n : ℕ} {c : Bool} (p : ReadGives (readList l) out₁ out₁′ (answer.Sum n c)) (out₂ out₂′ : List ℕ) where
     told : ReadTold (readList l) n c out₁′
     told = read-told (readList l) p
@@ -83,10 +83,10 @@ module _ (g : Sum → Outcome) (keeps : (s d : Sum) → GoodSum s → g s ≡ su
 
     -- g refused, and not for want of room
     composed-refusal : {q : Refusal} {at : ℕ} (out : List ℕ) → OfBytes entriesIn (λ s. ofOutcome (g s) ofSum) (take (32 * n) out₁′) out₂ out₂′ (given.Refused q at) → (q ≡ OutputRoom → ⊥)
-        → Gives recordsIn (afterRead (readList l) (λ f s. ofOutcome (g s) (write f))) out out (given.Refused q at)
+        → Gives recordsIn (afterRead (readList l) (λ f s. ofOutcome (g s) (writer f))) out out (given.Refused q at)
     composed-refusal {q} {at} out b m =
         let e = refusal entriesIn (ofOutcome (g (told .s)) ofSum) (of-told b) m in
-        let z = refused-outcome (g (told .s)) (write c) (λ s i w. absurd (not-made (sym w))) e in
+        let z = refused-outcome (g (told .s)) (writer c) (λ s i w. absurd (not-made (sym w))) e in
         rw (told .is) (rw z (gives-refusal recordsIn q at out))
 
     -- g wrote m entries
@@ -105,27 +105,35 @@ module _ (g : Sum → Outcome) (keeps : (s d : Sum) → GoodSum s → g s ≡ su
           ap (take (32 * m)) (made .written ∙ ap (sets out₂ 0) (formed .these))
           ∙ first-bytes (encodeSum (formed .s)) out₂ (32 * m) (omega (arith, formed .many, length-sum (formed .s))) (omega (arith, made .fits))
 
-      -- what write answers to those bytes is what comes of the list in one
-      composed : {out out′ : List ℕ} {r : Answer} → OfBytes recordsIn (write c) (take (32 * m) out₂′) out out′ r
-          → Gives recordsIn (afterRead (readList l) (λ f s. ofOutcome (g s) (write f))) out out′ r
+      -- what the writer answers to those bytes is what comes of the list in one
+      composed : {out out′ : List ℕ} {r : Answer} → OfBytes recordsIn (writer c) (take (32 * m) out₂′) out out′ r
+          → Gives recordsIn (afterRead (readList l) (λ f s. ofOutcome (g s) (writer f))) out out′ r
       composed {out} {out′} {r} w =
-          let k = of-good (formed .s) (kept .good) (good-some kept) (kept .room) (subst (λ z. OfBytes recordsIn (write c) z out out′ r) bytes w) in
+          let k = of-good (formed .s) (kept .good) (good-some kept) (kept .room) (subst (λ z. OfBytes recordsIn (writer c) z out out′ r) bytes w) in
           rw (told .is) (rw (formed .is) k)
 
 -- ---- derivative and integral
 
-composes : (g : Sum → Outcome) → ((s d : Sum) → GoodSum s → g s ≡ sum d → GoodSum d)
-    → Composes (λ s. ofOutcome (g s) ofSum) (λ l. afterRead (readList l) (λ f s. ofOutcome (g s) (write f)))
-composes g keeps = record {
-  writes = λ l out₁ out₁′ out₂ out₂′ out out′ n m c r p b w. composed g keeps l p out₂ out₂′ b w;
-  refuses = λ l out₁ out₁′ out₂ out₂′ out n c q at k p b. composed-refusal g keeps l p out₂ out₂′ out b k;
-  unread = λ l out₁ out₁′ out q at k p. after-refusal l (λ f s. ofOutcome (g s) (write f)) out p k;
+composes : (writer : Bool → Sum → Made) (g : Sum → Outcome) → ((s d : Sum) → GoodSum s → g s ≡ sum d → GoodSum d)
+    → Composes (λ s. ofOutcome (g s) ofSum) writer (λ l. afterRead (readList l) (λ f s. ofOutcome (g s) (writer f)))
+composes writer g keeps = record {
+  writes = λ l out₁ out₁′ out₂ out₂′ out out′ n m c r p b w. composed writer g keeps l p out₂ out₂′ b w;
+  refuses = λ l out₁ out₁′ out₂ out₂′ out n c q at k p b. composed-refusal writer g keeps l p out₂ out₂′ out b k;
+  unread = λ l out₁ out₁′ out q at k p. after-refusal l (λ f s. ofOutcome (g s) (writer f)) out p k;
 }
 
 pub derivative-composes : DerivativeComposes
 unfolding derive deriveAndWrite derivative
-derivative-composes = composes derivatives.derive (λ s d g e. derive-good s g e)
+derivative-composes = composes write derivatives.derive (λ s d g e. derive-good s g e)
 
 pub integral-composes : IntegralComposes
 unfolding integrate integrateAndWrite integral
-integral-composes = composes integrals.integrate (λ s d g e. integrate-good s g e)
+integral-composes = composes write integrals.integrate (λ s d g e. integrate-good s g e)
+
+pub derivative-faithful-composes : DerivativeFaithfulComposes
+unfolding derive deriveAndWriteFaithful derivativeFaithful
+derivative-faithful-composes = composes writeFaithful derivatives.derive (λ s d g e. derive-good s g e)
+
+pub integral-faithful-composes : IntegralFaithfulComposes
+unfolding integrate integrateAndWriteFaithful integralFaithful
+integral-faithful-composes = composes writeFaithful integrals.integrate (λ s d g e. integrate-good s g e)

@@ -56,7 +56,7 @@ functions-determined = record {
 
 -- ---- demand 3
 
-runs-told : {b : List ℕ} {ts : List Power} → Runs b ts → RunsTold b ts
+pub runs-told : {b : List ℕ} {ts : List Power} → Runs b ts → RunsTold b ts
 runs-told s = record {
   gives = λ x no v answer fx fv t.
       let e = t .promised .0 ∙ ap ofRun (s .gives x fx fv) in

@@ -12,5 +12,6 @@ pub mod Drag
 pub mod Functions
 pub mod Cost
 pub mod Written
+pub mod Faithful
 pub mod Real
 pub mod Speed

@@ -1,4 +1,4 @@
--- 18: where it comes from, that integrate, write, run and cost never answer it, and that each other entry does. Assumes nothing.
+-- 18: where it comes from, that integrate, both writes, run and cost never answer it, and that each other entry does. Assumes nothing.
 use Prim.Native.Nat.{ℕ, _≤_}
 use native.Mathlib.Omega.{arith}
 use mathlib.Core.Path.{_≡_, refl, sym, ap, subst, _∙_}
@@ -29,7 +29,9 @@ use Rattle.formats.specs.declared.record.Primitive.the-variants.{Dup, Mul, Pow}
 use Rattle.writing.specs.Draft.Writing as writing
 use Rattle.writing.specs.Draft.Writing.{push, does}
 use Rattle.writing.specs.ToNodes.{toNodes}
+use Rattle.writing.specs.Faithful.{faithful}
 use Rattle.writing.proofs.Refusals.{only-15}
+use Rattle.writing.proofs.Writers.{faithful-15}
 use Rattle.running.specs.Running.{runList, numbersOf}
 use Rattle.running.proofs.Refusals.{run-number}
 use Rattle.reading.specs.Cost.Cost.{costList, costNumbers}
@@ -104,13 +106,17 @@ integrate-never s at g h = integrate-quiet s g (outcome (integrals.integrate s) 
     outcome (sum u) e = absurd (not-made (sym e))
     outcome (refused q) e = ap refused (refused-same e .0)
 
+list-refused : (at : ℕ) (w : writing.Written) → ofList w ≡ refusedAt PowerNotFinite at → w ≡ writing.refused PowerNotFinite
+list-refused at (writing.wrote ns) e = absurd (not-made (sym e))
+list-refused at (writing.refused q) e = ap writing.refused (refused-same e .0)
+
 write-never : (c : Bool) (s : Sum) (at : ℕ) → making.write c s ≡ refusedAt PowerNotFinite at → ⊥
 unfolding making.write
-write-never c s at h = let z : _≡_ {A = ℕ} 18 15 = ap refusalNo (only-15 c s PowerNotFinite (list (toNodes c s) h)) in omega arith
-  where
-    list : (w : writing.Written) → ofList w ≡ refusedAt PowerNotFinite at → w ≡ writing.refused PowerNotFinite
-    list (writing.wrote ns) e = absurd (not-made (sym e))
-    list (writing.refused q) e = ap writing.refused (refused-same e .0)
+write-never c s at h = let z : _≡_ {A = ℕ} 18 15 = ap refusalNo (only-15 c s PowerNotFinite (list-refused at (toNodes c s) h)) in omega arith
+
+faithful-never : (c : Bool) (s : Sum) (at : ℕ) → making.writeFaithful c s ≡ refusedAt PowerNotFinite at → ⊥
+unfolding making.writeFaithful
+faithful-never c s at h = let z : _≡_ {A = ℕ} 18 15 = ap refusalNo (faithful-15 c s PowerNotFinite (list-refused at (faithful c s) h)) in omega arith
 
 -- a reply's number is its answer's
 bytes-never : {room : List ℕ → ℕ} {f : Sum → Made} {l out out′ : List ℕ} {a : Answer} {r : Reply} → r ≡ ofAnswer a → OfBytes room f l out out′ a
@@ -124,6 +130,9 @@ only-these Replies.integrate l out out′ r p n = bytes-never (p .1) (p .2) inte
 only-these (Replies.write c) l out out′ r p n = bytes-never (p .1) (p .2) (λ s at g. write-never c s at) n
 only-these Replies.derivative l out out′ r p n = tt
 only-these Replies.integral l out out′ r p n = tt
+only-these (Replies.writeFaithful c) l out out′ r p n = bytes-never (p .1) (p .2) (λ s at g. faithful-never c s at) n
+only-these Replies.derivativeFaithful l out out′ r p n = tt
+only-these Replies.integralFaithful l out out′ r p n = tt
 only-these Replies.inverse l out out′ r p n = tt
 only-these (Replies.run x) l out out′ r p n = absurd (let z : 18 ≡ numbersOf (runList l x) .number = sym n ∙ ap (λ z. z .number) (p .0) in omega (arith, run-number l x))
 only-these Replies.cost l out out′ r p n = absurd (let z : 18 ≡ costNumbers (costList l) .number = sym n ∙ ap (λ z. z .number) (p .0) in omega (arith, cost-number l))
@@ -190,6 +199,14 @@ squared-integrated : lists.integral squared ≡ refusedAt PowerNotFinite 3
 unfolding lists.integral
 squared-integrated = ap (λ x. afterRead x making.integrateAndWrite) squared-read
 
+squared-derived-faithful : lists.derivativeFaithful squared ≡ refusedAt PowerNotFinite 3
+unfolding lists.derivativeFaithful
+squared-derived-faithful = ap (λ x. afterRead x making.deriveAndWriteFaithful) squared-read
+
+squared-integrated-faithful : lists.integralFaithful squared ≡ refusedAt PowerNotFinite 3
+unfolding lists.integralFaithful
+squared-integrated-faithful = ap (λ x. afterRead x making.integrateAndWriteFaithful) squared-read
+
 squared-inverted : lists.inverse squared ≡ refusedAt PowerNotFinite 3
 unfolding lists.inverse
 squared-inverted = ap inverseOf squared-read
@@ -203,7 +220,10 @@ each-of-these Replies.derive t = (encodeSum quotient, ofAnswer (given.Refused Po
 each-of-these Replies.derivative t = (squared, ofAnswer (given.Refused PowerNotFinite 3), refusing (lists.derivative squared) squared-derived, refl)
 each-of-these Replies.integral t = (squared, ofAnswer (given.Refused PowerNotFinite 3), refusing (lists.integral squared) squared-integrated, refl)
 each-of-these Replies.inverse t = (squared, ofAnswer (given.Refused PowerNotFinite 3), refusing (lists.inverse squared) squared-inverted, refl)
+each-of-these Replies.derivativeFaithful t = (squared, ofAnswer (given.Refused PowerNotFinite 3), refusing (lists.derivativeFaithful squared) squared-derived-faithful, refl)
+each-of-these Replies.integralFaithful t = (squared, ofAnswer (given.Refused PowerNotFinite 3), refusing (lists.integralFaithful squared) squared-integrated-faithful, refl)
 each-of-these Replies.integrate t = absurd t
+each-of-these (Replies.writeFaithful c) t = absurd t
 each-of-these (Replies.write c) t = absurd t
 each-of-these (Replies.run x) t = absurd t
 

@@ -32,14 +32,17 @@ use Rattle.stack.proofs.Sizes.{not-empty}
 use Rattle.calculus.proofs.Good.{derive-good, integrate-good}
 use Rattle.writing.specs.Draft.Writing.{Written, wrote}
 use Rattle.writing.specs.ToNodes.{toNodes}
+use Rattle.writing.specs.Faithful.{faithful}
 use Rattle.writing.proofs.Good.{written-good}
+use Rattle.writing.proofs.Writers.{faithful-good}
 use Rattle.inverse.specs.Inverse as inverses
 use Rattle.inverse.proofs.Good as inverse-laws
 use Rattle.algebra.specs.declared.answer.Answer.the-variants as given
-use Rattle.algebra.specs.Answer.Making.{Made, refusedAt, ofOutcome, ofSum, ofList, write, invert, derive, integrate, deriveAndWrite, integrateAndWrite, Gives, OfBytes}
+use Rattle.algebra.specs.Answer.Making.{Made, refusedAt, ofOutcome, ofSum, ofList, write, writeFaithful, invert, derive, integrate, deriveAndWrite, integrateAndWrite, Gives, OfBytes}
+use Rattle.algebra.specs.Answer.Making.{deriveAndWriteFaithful, integrateAndWriteFaithful}
 use Rattle.algebra.proofs.answer.Told.{success, sum-made, list-made, not-made, first-bytes}
 use Rattle.algebra.specs.Reading.{readList}
-use Rattle.algebra.specs.Entries.{afterRead, inverseOf, derivative, integral, inverse}
+use Rattle.algebra.specs.Entries.{afterRead, inverseOf, derivative, integral, derivativeFaithful, integralFaithful, inverse}
 use Rattle.algebra.specs.declared.ReadAnswer.the-variants as answer
 use Rattle.theorems.specs.Composing.{ReadGives}
 use Rattle.theorems.specs.Written.{SumTaken, ListGood, WritesGood}
@@ -97,29 +100,48 @@ list-good {out} {out′} {n} w g h =
     let bytes = ap (take (24 * n)) (o .written ∙ ap (sets out 0) (d .these)) ∙ first-bytes (encode (d .ns)) out (24 * n) (omega (arith, d .many, length-encode (d .ns))) (omega (arith, o .fits)) in
     ap verdict bytes ∙ h (d .ns) (d .is)
 
-sum-list-good : {out out′ : List ℕ} {n : ℕ} (c : Bool) (s : Sum) → GoodSum s → Gives recordsIn (write c s) out out′ (given.Done n) → ListGood n out′
-unfolding write
-sum-list-good c s k g = list-good (toNodes c s) g (λ ns e. written-good c s ns k e)
+-- a writer writes good lists of good sums
+abbrev WritesLists : (Bool → Sum → Made) → Type 0
+WritesLists w = (out out′ : List ℕ) (n : ℕ) (c : Bool) (s : Sum) → GoodSum s → Gives recordsIn (w c s) out out′ (given.Done n) → ListGood n out′
 
-write-good : (c : Bool) {l out out′ : List ℕ} {n : ℕ} → OfBytes recordsIn (write c) l out out′ (given.Done n) → ListGood n out′
-write-good c p = let k = was-taken p in sum-list-good c (k .s) (k .good) (k .gives)
+sum-list-good : WritesLists write
+unfolding write
+sum-list-good out out′ n c s k g = list-good (toNodes c s) g (λ ns e. written-good c s ns k e)
+
+faithful-list-good : WritesLists writeFaithful
+unfolding writeFaithful
+faithful-list-good out out′ n c s k g = list-good (faithful c s) g (λ ns e. faithful-good c s ns k e)
+
+write-good : (w : Bool → Sum → Made) → WritesLists w → (c : Bool) {l out out′ : List ℕ} {n : ℕ} → OfBytes recordsIn (w c) l out out′ (given.Done n) → ListGood n out′
+write-good w h c {l} {out} {out′} {n} p = let k = was-taken p in h out out′ n c (k .s) (k .good) (k .gives)
 
 after-good : (x : Read) (f : Bool → Sum → Made) {out out′ : List ℕ} {n : ℕ} → ((s : Sum) (c h : Bool) → x ≡ done s c h → Gives recordsIn (f c s) out out′ (given.Done n) → ListGood n out′)
     → Gives recordsIn (afterRead x f) out out′ (given.Done n) → ListGood n out′
 after-good (done s c h) f k g = k s c h refl g
 after-good (reading.refusedAt q at h) f k g = absurd (not-made (success recordsIn (refusedAt q at) g .is))
 
-outcome-good : (o : Outcome) (c : Bool) {out out′ : List ℕ} {n : ℕ} → ((d : Sum) → o ≡ sum d → GoodSum d) → Gives recordsIn (ofOutcome o (write c)) out out′ (given.Done n) → ListGood n out′
-outcome-good (sum d) c k g = sum-list-good c d (k d refl) g
-outcome-good (refused q) c k g = absurd (not-made (success recordsIn (refusedAt q 0) g .is))
+outcome-good : (w : Bool → Sum → Made) → WritesLists w → (o : Outcome) (c : Bool) {out out′ : List ℕ} {n : ℕ} → ((d : Sum) → o ≡ sum d → GoodSum d)
+    → Gives recordsIn (ofOutcome o (w c)) out out′ (given.Done n) → ListGood n out′
+outcome-good w h (sum d) c {out} {out′} {n} k g = h out out′ n c d (k d refl) g
+outcome-good w h (refused q) c k g = absurd (not-made (success recordsIn (refusedAt q 0) g .is))
 
 derivative-good : (l : List ℕ) {out out′ : List ℕ} {n : ℕ} → Gives recordsIn (derivative l) out out′ (given.Done n) → ListGood n out′
 unfolding derivative deriveAndWrite
-derivative-good l g = after-good (readList l) deriveAndWrite (λ s c h e k. outcome-good (derivatives.derive s) c (λ d i. derive-good s (sum-good l e) i) k) g
+derivative-good l g = after-good (readList l) deriveAndWrite (λ s c h e k. outcome-good write sum-list-good (derivatives.derive s) c (λ d i. derive-good s (sum-good l e) i) k) g
 
 integral-good : (l : List ℕ) {out out′ : List ℕ} {n : ℕ} → Gives recordsIn (integral l) out out′ (given.Done n) → ListGood n out′
 unfolding integral integrateAndWrite
-integral-good l g = after-good (readList l) integrateAndWrite (λ s c h e k. outcome-good (integrals.integrate s) c (λ d i. integrate-good s (sum-good l e) i) k) g
+integral-good l g = after-good (readList l) integrateAndWrite (λ s c h e k. outcome-good write sum-list-good (integrals.integrate s) c (λ d i. integrate-good s (sum-good l e) i) k) g
+
+derivative-faithful-good : (l : List ℕ) {out out′ : List ℕ} {n : ℕ} → Gives recordsIn (derivativeFaithful l) out out′ (given.Done n) → ListGood n out′
+unfolding derivativeFaithful deriveAndWriteFaithful
+derivative-faithful-good l g =
+    after-good (readList l) deriveAndWriteFaithful (λ s c h e k. outcome-good writeFaithful faithful-list-good (derivatives.derive s) c (λ d i. derive-good s (sum-good l e) i) k) g
+
+integral-faithful-good : (l : List ℕ) {out out′ : List ℕ} {n : ℕ} → Gives recordsIn (integralFaithful l) out out′ (given.Done n) → ListGood n out′
+unfolding integralFaithful integrateAndWriteFaithful
+integral-faithful-good l g =
+    after-good (readList l) integrateAndWriteFaithful (λ s c h e k. outcome-good writeFaithful faithful-list-good (integrals.integrate s) c (λ d i. integrate-good s (sum-good l e) i) k) g
 
 inverse-of-good : (x : Read) {out out′ : List ℕ} {n : ℕ} → ((s : Sum) (c h : Bool) → x ≡ done s c h → GoodSum s) → Gives recordsIn (inverseOf x) out out′ (given.Done n) → ListGood n out′
 unfolding invert
@@ -143,8 +165,11 @@ writes-good = record {
   read = λ l out out′ n c p. read-taken l p;
   derive = λ l out out′ n p. derived-taken p;
   integrate = λ l out out′ n p. integrated-taken p;
-  write = λ c l out out′ n p. write-good c p;
+  write = λ c l out out′ n p. write-good write sum-list-good c p;
   derivative = λ l out out′ n g. derivative-good l g;
   integral = λ l out out′ n g. integral-good l g;
+  writeFaithful = λ c l out out′ n p. write-good writeFaithful faithful-list-good c p;
+  derivativeFaithful = λ l out out′ n g. derivative-faithful-good l g;
+  integralFaithful = λ l out out′ n g. integral-faithful-good l g;
   inverse = λ l out out′ n g. inverse-good l g;
 }

@@ -1,4 +1,4 @@
--- The entries compose through bytes: `derivative` is read, derive and write, and `integral` is read, integrate and write.
+-- The entries compose through bytes: `derivative` is read, derive and write, and `integral` is read, integrate and write; so too with the second writer.
 use Prim.Native.Nat.{ℕ, _*_}
 use mathlib.Core.Path.{_≡_}
 use mathlib.Core.Bool.{Bool}
@@ -33,12 +33,12 @@ pub record ReadTold (x : Read) (n : ℕ) (c : Bool) (out′ : List ℕ) : Type 0
   pub many : n ≡ size s
   pub bytes : take (entryBytes * n) out′ ≡ encodeSum s
 
--- The whole, of a list, is what the part makes of a sum, between read and write.
--- Read wrote n entries, of whose bytes the part wrote m, to whose bytes write answers r: so does the whole to the list.
+-- The whole, of a list, is what the part makes of a sum, between read and a writer.
+-- Read wrote n entries, of whose bytes the part wrote m, to whose bytes the writer answers r: so does the whole to the list.
 -- What the part or read refuses, but for want of room, the whole refuses.
-pub record Composes (part : Sum → Made) (whole : List ℕ → Made) : Type 0 where
+pub record Composes (part : Sum → Made) (writer : Bool → Sum → Made) (whole : List ℕ → Made) : Type 0 where
   pub writes : (l out₁ out₁′ out₂ out₂′ out out′ : List ℕ) (n m : ℕ) (c : Bool) (r : Answer) → ReadGives (readList l) out₁ out₁′ (answer.Sum n c)
-      → OfBytes entriesIn part (take (entryBytes * n) out₁′) out₂ out₂′ (given.Done m) → OfBytes recordsIn (making.write c) (take (entryBytes * m) out₂′) out out′ r
+      → OfBytes entriesIn part (take (entryBytes * n) out₁′) out₂ out₂′ (given.Done m) → OfBytes recordsIn (writer c) (take (entryBytes * m) out₂′) out out′ r
       → Gives recordsIn (whole l) out out′ r
   pub refuses : (l out₁ out₁′ out₂ out₂′ out : List ℕ) (n : ℕ) (c : Bool) (q : Refusal) (at : ℕ) → (q ≡ OutputRoom → ⊥) → ReadGives (readList l) out₁ out₁′ (answer.Sum n c)
       → OfBytes entriesIn part (take (entryBytes * n) out₁′) out₂ out₂′ (given.Refused q at) → Gives recordsIn (whole l) out out (given.Refused q at)
@@ -46,7 +46,13 @@ pub record Composes (part : Sum → Made) (whole : List ℕ → Made) : Type 0 w
       → Gives recordsIn (whole l) out out (given.Refused q at)
 
 abbrev pub DerivativeComposes : Type 0
-DerivativeComposes = Composes making.derive lists.derivative
+DerivativeComposes = Composes making.derive making.write lists.derivative
 
 abbrev pub IntegralComposes : Type 0
-IntegralComposes = Composes making.integrate lists.integral
+IntegralComposes = Composes making.integrate making.write lists.integral
+
+abbrev pub DerivativeFaithfulComposes : Type 0
+DerivativeFaithfulComposes = Composes making.derive making.writeFaithful lists.derivativeFaithful
+
+abbrev pub IntegralFaithfulComposes : Type 0
+IntegralFaithfulComposes = Composes making.integrate making.writeFaithful lists.integralFaithful

@@ -14,4 +14,5 @@ pub mod Written
 pub mod Cases
 pub mod Nought
 pub mod PowerOverflow
+pub mod Faithful
 pub mod Readback

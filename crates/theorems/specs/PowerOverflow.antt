@@ -50,7 +50,7 @@ pub record OfCalculus : Type 0 where
 
 -- ---- which entries answer it
 
--- the five that read a list or derive
+-- those that read a list or derive
 abbrev pub formsPowers : Entry → Bool
 formsPowers entry.read = true
 formsPowers entry.derive = true
@@ -60,6 +60,9 @@ formsPowers entry.integral = true
 formsPowers entry.inverse = true
 formsPowers entry.cost = false
 formsPowers (entry.write c) = false
+formsPowers entry.derivativeFaithful = true
+formsPowers entry.integralFaithful = true
+formsPowers (entry.writeFaithful c) = false
 formsPowers (entry.run x) = false
 
 -- no other entry does, whatever its input and the output lent to it
@@ -70,7 +73,7 @@ OnlyThese = (e : Entry) (l out out′ : List ℕ) (r : Reply) → Promised e l o
 abbrev pub EachOfThese : Type 0
 EachOfThese = (e : Entry) → T (formsPowers e) → (l : List ℕ) × (r : Reply) × Promised e l [] [] r × (r .number ≡ refusalNo PowerNotFinite)
 
--- of the C functions: uplink_integrate, uplink_write, uplink_run and uplink_cost never return it
+-- of the C functions: uplink_integrate, uplink_write, uplink_write_faithful, uplink_run and uplink_cost never return it
 pub record OnlyTheseFunctions : Type 0 where
   pub tells : (e : Entry) (shown : Reply → List ℕ) (l out out′ : List ℕ) (no : ℕ) (answer : List ℕ) → Told e shown l out out′ no answer → no ≡ refusalNo PowerNotFinite → T (formsPowers e)
   pub runs : (x : Float) (l : List ℕ) (no : ℕ) (v : Float) (answer : List ℕ) → Ran x l no v answer → no ≡ refusalNo PowerNotFinite → ⊥

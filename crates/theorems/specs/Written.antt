@@ -28,7 +28,7 @@ SumTaken n out′ = (t : Taken) → Weighed (take (entryBytes * n) out′) t →
 abbrev pub ListGood : ℕ → List ℕ → Type 0
 ListGood n out′ = verdict (take (recordBytes * n) out′) ≡ verdicts.Good
 
--- the seven entries that write, where they tell n entries or n records
+-- the ten entries that write, where they tell n entries or n records
 pub record WritesGood : Type 0 where
   pub read : (l out out′ : List ℕ) (n : ℕ) (c : Bool) → ReadGives (readList l) out out′ (answer.Sum n c) → SumTaken n out′
   pub derive : (l out out′ : List ℕ) (n : ℕ) → OfBytes entriesIn making.derive l out out′ (given.Done n) → SumTaken n out′
@@ -36,4 +36,7 @@ pub record WritesGood : Type 0 where
   pub write : (c : Bool) (l out out′ : List ℕ) (n : ℕ) → OfBytes recordsIn (making.write c) l out out′ (given.Done n) → ListGood n out′
   pub derivative : (l out out′ : List ℕ) (n : ℕ) → Gives recordsIn (lists.derivative l) out out′ (given.Done n) → ListGood n out′
   pub integral : (l out out′ : List ℕ) (n : ℕ) → Gives recordsIn (lists.integral l) out out′ (given.Done n) → ListGood n out′
+  pub writeFaithful : (c : Bool) (l out out′ : List ℕ) (n : ℕ) → OfBytes recordsIn (making.writeFaithful c) l out out′ (given.Done n) → ListGood n out′
+  pub derivativeFaithful : (l out out′ : List ℕ) (n : ℕ) → Gives recordsIn (lists.derivativeFaithful l) out out′ (given.Done n) → ListGood n out′
+  pub integralFaithful : (l out out′ : List ℕ) (n : ℕ) → Gives recordsIn (lists.integralFaithful l) out out′ (given.Done n) → ListGood n out′
   pub inverse : (l out out′ : List ℕ) (n : ℕ) → Gives recordsIn (lists.inverse l) out out′ (given.Done n) → ListGood n out′

@@ -1,4 +1,4 @@
-// The nine entries as C functions: each returns the number, and writes place and counts into `answer`. A slice is passed as a pointer and a length.
+// The twelve entries as C functions: each returns the number, and writes place and counts into `answer`. A slice is passed as a pointer and a length.
 ghost use Rattle.uplink.specs.Told.{Told, Ran, withFlag, withCount, withCost};
 ghost use lib.Dec.{eqb};
 ghost use mathlib.Core.Bool.{not};
@@ -98,5 +98,50 @@ pub extern "C" fn uplink_cost(list: &[u8], answer: &mut [u64; 2]) -> u64
 {
     let n = reading::cost::cost_numbers(algebra::cost(list));
     *answer = [n.place, n.steps];
+    n.number
+}
+
+// ---- with the second writer, whose lists mean what the sum says
+
+// A sum as a list; `complex` is false where it is 0, and true for any other number.
+#[no_mangle]
+pub extern "C" fn uplink_write_faithful(
+    sum: &[u8],
+    complex: u8,
+    out: &mut [u8],
+    answer: &mut [u64; 2],
+) -> u64
+    ensures { λ r. ⌜ Told (entry.writeFaithful (not (eqb complex 0))) withCount (now (sum .entry)) (now (out .entry)) (now (out .exit)) r (now (answer .exit)) ⌝ }
+{
+    let n = algebra::answer::answer_numbers(algebra::write_faithful(sum, complex != 0, out));
+    *answer = [n.place as u64, n.count as u64];
+    n.number
+}
+
+// From a list to the list of its derivative; `answer` is place and count.
+#[no_mangle]
+pub extern "C" fn uplink_derivative_faithful(
+    list: &[u8],
+    out: &mut [u8],
+    answer: &mut [u64; 2],
+) -> u64
+    ensures { λ r. ⌜ Told entry.derivativeFaithful withCount (now (list .entry)) (now (out .entry)) (now (out .exit)) r (now (answer .exit)) ⌝ }
+{
+    let n = algebra::answer::answer_numbers(algebra::derivative_faithful(list, out));
+    *answer = [n.place as u64, n.count as u64];
+    n.number
+}
+
+// From a list to the list of its integral; `answer` is place and count.
+#[no_mangle]
+pub extern "C" fn uplink_integral_faithful(
+    list: &[u8],
+    out: &mut [u8],
+    answer: &mut [u64; 2],
+) -> u64
+    ensures { λ r. ⌜ Told entry.integralFaithful withCount (now (list .entry)) (now (out .entry)) (now (out .exit)) r (now (answer .exit)) ⌝ }
+{
+    let n = algebra::answer::answer_numbers(algebra::integral_faithful(list, out));
+    *answer = [n.place as u64, n.count as u64];
     n.number
 }

@@ -46,8 +46,8 @@ flag-dropped w x {out} m = record { answered = ap unflagged (m .answered) ∙ sa
 -- whatever is wanted, nothing is made of it
 refused-made : (w : Wanted) (q : Refusal) (at : ℕ) (h : Bool) → (p : Refusal) × (i : ℕ) × (madeBy w (reading.refusedAt q at h) ≡ refusedAt p i)
 refused-made wanted.Sum q at h = (q, at, refl)
-refused-made wanted.Derivative q at h = (q, at, refl)
-refused-made wanted.Integral q at h = (q, at, refl)
+refused-made (wanted.Derivative w) q at h = (q, at, refl)
+refused-made (wanted.Integral w) q at h = (q, at, refl)
 refused-made wanted.Inverse q at true = (q, at, refl)
 refused-made wanted.Inverse q at false = by-number (leb (refusalNo q) 9)
   where

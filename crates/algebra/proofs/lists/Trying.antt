@@ -40,8 +40,8 @@ kept-number q at room c e =
 full-made : (w : Wanted) (x : Read) (room : ℕ) → isFullRead x ≡ true → isFullAnswer (flagged (flagOf x) (answered (madeBy w x) room)) ≡ true
 full-made w (done s c h) room e = differ (sym e)
 full-made Sum (refusedAt q at h) room e = e
-full-made Derivative (refusedAt q at h) room e = e
-full-made Integral (refusedAt q at h) room e = e
+full-made (Derivative w) (refusedAt q at h) room e = e
+full-made (Integral w) (refusedAt q at h) room e = e
 full-made Inverse (refusedAt q at true) room e = e
 full-made Inverse (refusedAt q at false) room e = kept-number q at room false e
 

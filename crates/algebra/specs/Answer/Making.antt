@@ -23,6 +23,7 @@ use Rattle.writing.specs.declared.draft.Wrote.{Wrote}
 use Rattle.writing.specs.declared.draft.Wrote.the-variants as wrote
 use Rattle.writing.specs.Draft.Writing as writing
 use Rattle.writing.specs.ToNodes.{toNodes}
+use Rattle.writing.specs.Faithful.{faithful}
 use Rattle.inverse.specs.Inverse.{inverse}
 use Rattle.algebra.specs.declared.answer.Answer.{Answer}
 use Rattle.algebra.specs.declared.answer.Answer.the-variants as answer
@@ -65,6 +66,16 @@ deriveAndWrite flag s = ofOutcome (derivatives.derive s) (λ d. write flag d)
 
 unfoldable pub integrateAndWrite : Bool → Sum → Made
 integrateAndWrite flag s = ofOutcome (integrals.integrate s) (λ d. write flag d)
+
+-- the same with the second writer
+unfoldable pub writeFaithful : Bool → Sum → Made
+writeFaithful flag s = ofList (faithful flag s)
+
+unfoldable pub deriveAndWriteFaithful : Bool → Sum → Made
+deriveAndWriteFaithful flag s = ofOutcome (derivatives.derive s) (λ d. writeFaithful flag d)
+
+unfoldable pub integrateAndWriteFaithful : Bool → Sum → Made
+integrateAndWriteFaithful flag s = ofOutcome (integrals.integrate s) (λ d. writeFaithful flag d)
 
 -- ---- answers
 

@@ -15,7 +15,8 @@ use Rattle.algebra.specs.declared.ReadAnswer.the-variants as answer
 use Rattle.algebra.specs.declared.lists.Wanted.{Wanted}
 use Rattle.algebra.specs.declared.lists.Wanted.the-variants.{Sum, Derivative, Integral, Inverse}
 use Rattle.algebra.specs.Answer.Promises.{Promise}
-use Rattle.algebra.specs.Answer.Making.{Made, answered, written, deriveAndWrite, integrateAndWrite}
+use Rattle.algebra.specs.Answer.Making.{Made, answered, written}
+use Rattle.algebra.specs.Contract.Writers.{deriveAndWriteBy, integrateAndWriteBy}
 use Rattle.algebra.specs.Reading.{byVerdict, readList, madeOf, flagOf, flagged}
 use Rattle.algebra.specs.Entries.{afterRead, inverseOf}
 
@@ -26,14 +27,14 @@ listHeld h l = byVerdict (rules.verdict l) (readHeld h (parse l))
 -- what is made of what was read, and how many entries or records of it the output holds
 abbrev pub madeBy : Wanted → Read → Made
 madeBy Sum x = madeOf x
-madeBy Derivative x = afterRead x deriveAndWrite
-madeBy Integral x = afterRead x integrateAndWrite
+madeBy (Derivative w) x = afterRead x (deriveAndWriteBy w)
+madeBy (Integral w) x = afterRead x (integrateAndWriteBy w)
 madeBy Inverse x = inverseOf x
 
 abbrev pub roomBy : Wanted → List ℕ → ℕ
 roomBy Sum out = entriesIn out
-roomBy Derivative out = recordsIn out
-roomBy Integral out = recordsIn out
+roomBy (Derivative w) out = recordsIn out
+roomBy (Integral w) out = recordsIn out
 roomBy Inverse out = recordsIn out
 
 -- it is answered, with the flag where it isn't refused, and written
