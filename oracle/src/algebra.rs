@@ -4,6 +4,7 @@
 include!("../../docs/src/src/compile/algebra.rs");
 
 pub mod arms;
+mod faithful;
 mod forming;
 mod guard;
 pub mod judge;

@@ -4,7 +4,7 @@ use std::panic::{AssertUnwindSafe, catch_unwind};
 
 use super::{
     AlgebraEnv, AlgebraError, Expr, algebraic_inverse, derivative as rust_derivative, expr_deriv,
-    expr_integral, expr_to_node, forming, guard, guard::Stop, integral as rust_integral,
+    expr_integral, expr_to_node, faithful, forming, guard, guard::Stop, integral as rust_integral,
     nodes_expr, sums,
 };
 use crate::{
@@ -37,6 +37,9 @@ pub mod rust {
 
     /// The Rust's answer, or `None` where it panics.
     pub type Outcome<T> = Option<Result<T, Refusal>>;
+
+    /// What makes a list of a sum, with the complex flag.
+    pub(super) type Writer = fn(Expr, bool, &Assembly) -> Node;
 
     fn catch<T>(action: impl FnOnce() -> Result<T, Refusal>) -> Outcome<T> {
         quietly(|| catch_unwind(AssertUnwindSafe(action)).ok())
@@ -102,7 +105,7 @@ pub mod rust {
         }
     }
 
-    fn to_list(
+    pub(super) fn to_list(
         nodes: &[Node],
         entry: fn(&Node, &Assembly) -> Result<Node, AlgebraError>,
     ) -> Outcome<Vec<u8>> {
@@ -146,9 +149,14 @@ pub mod rust {
     }
 
     pub(in super::super) fn write_sum(sum: &Expr, complex: bool) -> Outcome<Vec<u8>> {
+        write_by(expr_to_node, sum, complex)
+    }
+
+    /// A sum as a list, by this writer.
+    pub(super) fn write_by(writer: Writer, sum: &Expr, complex: bool) -> Outcome<Vec<u8>> {
         let asm = Assembly::default();
         catch(|| {
-            let node = expr_to_node(sum.clone(), complex, &asm);
+            let node = writer(sum.clone(), complex, &asm);
             Ok(bytes_of(&records::written(&node)))
         })
     }
@@ -186,6 +194,33 @@ pub mod rust {
             Ok(sum) => write_sum(&sum, complex),
             Err(refusal) => Some(Err(refusal)),
         }
+    }
+}
+
+/// The Rust with the second writer in the place of its own.
+mod second {
+    use super::*;
+
+    fn calculated(
+        node: &Node,
+        asm: &Assembly,
+        calculus: fn(Expr) -> Option<Expr>,
+    ) -> Result<Node, AlgebraError> {
+        let data = nodes_expr(node, asm);
+        let made = calculus(data.expr?).ok_or(AlgebraError::TooComplex)?;
+        Ok(faithful::expr_to_node(made, data.any_complex, asm))
+    }
+
+    pub fn derivative_nodes(nodes: &[Node]) -> rust::Outcome<Vec<u8>> {
+        rust::to_list(nodes, |node, asm| calculated(node, asm, expr_deriv))
+    }
+
+    pub fn integral_nodes(nodes: &[Node]) -> rust::Outcome<Vec<u8>> {
+        rust::to_list(nodes, |node, asm| calculated(node, asm, expr_integral))
+    }
+
+    pub fn write_sum(sum: &Expr, complex: bool) -> rust::Outcome<Vec<u8>> {
+        rust::write_by(faithful::expr_to_node, sum, complex)
     }
 }
 
@@ -263,6 +298,16 @@ pub fn integral(list: &[u8]) -> Answer<Vec<u8>> {
     list_to_list(list, forming::integrate, rust::integral_nodes)
 }
 
+/// List to list, written by the second writer.
+pub fn derivative_faithful(list: &[u8]) -> Answer<Vec<u8>> {
+    list_to_list(list, forming::derive, second::derivative_nodes)
+}
+
+/// List to list, written by the second writer.
+pub fn integral_faithful(list: &[u8]) -> Answer<Vec<u8>> {
+    list_to_list(list, forming::integrate, second::integral_nodes)
+}
+
 /// List to list.
 pub fn inverse(list: &[u8]) -> Answer<Vec<u8>> {
     let nodes = match parse(list) {
@@ -309,8 +354,21 @@ pub fn integrate(bytes: &[u8]) -> Answer<Vec<u8>> {
 
 /// Sum and complex flag to list.
 pub fn write(bytes: &[u8], complex: bool) -> Answer<Vec<u8>> {
+    sum_to_list(bytes, complex, rust::write_sum)
+}
+
+/// Sum and complex flag to list, by the second writer.
+pub fn write_faithful(bytes: &[u8], complex: bool) -> Answer<Vec<u8>> {
+    sum_to_list(bytes, complex, second::write_sum)
+}
+
+fn sum_to_list(
+    bytes: &[u8],
+    complex: bool,
+    entry: fn(&Expr, bool) -> rust::Outcome<Vec<u8>>,
+) -> Answer<Vec<u8>> {
     match sums::read(bytes) {
-        Ok(sum) => finite_list(rust::write_sum(&sum, complex)),
+        Ok(sum) => finite_list(entry(&sum, complex)),
         Err(refusal) => Answer::Form(refusal),
     }
 }

@@ -70,6 +70,21 @@ impl Entry {
     }
 }
 
+/// The bytes of an entry, and of what lies inside it.
+pub fn entry(kind: u8, number: f64, coef: Complex, inside: &[u8]) -> Vec<u8> {
+    let entry = Entry {
+        kind,
+        zero: [0; 3],
+        inside: (inside.len() / ENTRY) as u32,
+        number,
+        coef,
+    };
+    let mut bytes = Vec::new();
+    entry.write(&mut bytes);
+    bytes.extend(inside);
+    bytes
+}
+
 /// What is wrong with a sum's bytes.
 #[derive(Debug, Clone, Copy, PartialEq, Eq)]
 pub enum Fault {
