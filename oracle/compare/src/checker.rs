@@ -67,7 +67,7 @@ impl Numbers {
 struct Call<'a> {
     entry: Entry,
     input: &'a [u8],
-    /// For `write`.
+    /// For the writers.
     complex: u8,
 }
 
@@ -88,7 +88,9 @@ impl<'a> Call<'a> {
     }
     fn shown(self) -> Input<'a> {
         match self.entry {
-            Entry::Derive | Entry::Integrate | Entry::Write => Input::Sum(self.input),
+            Entry::Derive | Entry::Integrate | Entry::Write | Entry::WriteFaithful => {
+                Input::Sum(self.input)
+            }
             _ => Input::List(self.input),
         }
     }
@@ -103,9 +105,15 @@ impl<'a> Call<'a> {
             Entry::Inverse => plain(library.inverse, out),
             Entry::Derive => plain(library.derive, out),
             Entry::Integrate => plain(library.integrate, out),
-            Entry::Write => Numbers::without_flag((library.write)(self.input, self.complex, out)),
+            Entry::Write => self.ask_writer(library.write, out),
+            Entry::WriteFaithful => self.ask_writer(library.write_faithful, out),
+            Entry::DerivativeFaithful => plain(library.derivative_faithful, out),
+            Entry::IntegralFaithful => plain(library.integral_faithful, out),
             Entry::Run | Entry::Cost => unreachable!("the run and the cost write no bytes"),
         }
+    }
+    fn ask_writer(self, writer: fn(&[u8], u8, &mut [u8]) -> Told<2>, out: &mut [u8]) -> Numbers {
+        Numbers::without_flag(writer(self.input, self.complex, out))
     }
     fn refused(self, number: u64, place: u64) -> Numbers {
         Numbers {
@@ -209,14 +217,14 @@ impl<'a> Checker<'a> {
         let derivative = judge::derivative(list);
         self.compare(Call::new(Entry::Read, list), (&read).into())?;
         self.compare(Call::new(Entry::Derivative, list), (&derivative).into())?;
-        self.compare(
-            Call::new(Entry::Integral, list),
-            (&judge::integral(list)).into(),
-        )?;
-        self.compare(
-            Call::new(Entry::Inverse, list),
-            (&judge::inverse(list)).into(),
-        )?;
+        for (entry, answer) in [
+            (Entry::Integral, judge::integral(list)),
+            (Entry::Inverse, judge::inverse(list)),
+            (Entry::DerivativeFaithful, judge::derivative_faithful(list)),
+            (Entry::IntegralFaithful, judge::integral_faithful(list)),
+        ] {
+            self.compare(Call::new(entry, list), (&answer).into())?;
+        }
         if let Some(derivative) = derivative.done() {
             self.run(&derivative, x)?;
         }
@@ -239,16 +247,27 @@ impl<'a> Checker<'a> {
         self.compare(Call::new(Entry::Derive, sum), (&derived).into())?;
         self.compare(Call::new(Entry::Integrate, sum), (&integrated).into())?;
         for complex in [0, 1 + self.random.below(255) as u8] {
-            let call = Call {
-                complex,
-                ..Call::new(Entry::Write, sum)
-            };
-            self.compare(call, (&judge::write(sum, complex != 0)).into())?;
+            self.written(sum, complex)?;
         }
         for formed in [derived, integrated].into_iter().filter_map(Answer::done) {
             if self.random.once_in(4) {
                 self.sum(&formed)?;
             }
+        }
+        Ok(())
+    }
+
+    /// A sum as a list, by both writers.
+    fn written(&mut self, sum: &[u8], complex: u8) -> Outcome {
+        let first = judge::write(sum, complex != 0);
+        let second = judge::write_faithful(sum, complex != 0);
+        self.tally.apart += u64::from(first != second);
+        for (entry, answer) in [(Entry::Write, first), (Entry::WriteFaithful, second)] {
+            let call = Call {
+                complex,
+                ..Call::new(entry, sum)
+            };
+            self.compare(call, (&answer).into())?;
         }
         Ok(())
     }
@@ -260,6 +279,8 @@ impl<'a> Checker<'a> {
             Entry::Derivative,
             Entry::Integral,
             Entry::Inverse,
+            Entry::DerivativeFaithful,
+            Entry::IntegralFaithful,
         ] {
             self.tally.row_mut(entry).too_long += 1;
         }
@@ -349,7 +370,7 @@ impl<'a> Checker<'a> {
                 };
                 self.ask(call, bytes.len() + more, call.done(bytes, complex), bytes)?;
                 if !bytes.is_empty() && self.random.once_in(8) {
-                    let short = bytes.len() - 1 - self.random.below(call.size());
+                    let short = bytes.len() - self.too_little(call.size());
                     self.ask(call, short, call.refused(OUTPUT_ROOM, 0), &[])?;
                 }
             }
@@ -362,6 +383,15 @@ impl<'a> Checker<'a> {
             Owed::TooLong => self.tally.row_mut(call.entry).too_long += 1,
         }
         Ok(())
+    }
+
+    /// How many bytes the room is short: one, those of a record or an entry, or something between.
+    fn too_little(&mut self, size: usize) -> usize {
+        match self.random.below(4) {
+            0 => 1,
+            1 => size,
+            _ => 1 + self.random.below(size),
+        }
     }
 
     /// A refusal is the same whatever the room.
@@ -394,7 +424,7 @@ impl<'a> Checker<'a> {
         let size = call.size();
         let lent = self.room.lent();
         let flag = match call.entry {
-            Entry::Write => format!(" with flag {}", call.complex),
+            Entry::Write | Entry::WriteFaithful => format!(" with flag {}", call.complex),
             _ => String::new(),
         };
         let asked = format!("{}{flag}, room of {} bytes", call.entry.name(), lent.len());

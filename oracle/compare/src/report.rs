@@ -42,6 +42,10 @@ pub fn report(settings: &Settings, compared: &Compared, roots: u64) -> String {
     line("square roots by themselves", thousands(roots));
     line("runs that meet a power nought", thousands(tally.noughts));
     line("costs told as 2^64 - 1", thousands(tally.capped));
+    line(
+        "sums, with either flag, that the two writers write as different lists",
+        thousands(tally.apart),
+    );
     line("met again, and not compared again", again(tally));
     line(
         "unexplained differences",
@@ -135,8 +139,9 @@ pub fn recorded(command: &str, report: &str, differences: &[String]) -> String {
         "# The proved library and the judge, compared\n\n\
          Written by the program `compare` itself (`--record`). Every answer that the judge owes was compared: number, place, count, \
          complex flag and each byte; for the run value bits, steps and peak, with the plain runner of oracle/src/runner.rs; \
-         the cost with the reckoning of oracle/src/cost.rs. \
-         Columns 1 to 18 are refusals; 17 was asked for by room that is one record short.\n\n    {command}\n\n{report}"
+         the cost with the reckoning of oracle/src/cost.rs; \
+         lists that mean what the sum says with the second writer of oracle/src/algebra/faithful.rs. \
+         Columns 1 to 18 are refusals; 17 was asked for by room that is up to one record or entry short.\n\n    {command}\n\n{report}"
     );
     for difference in differences {
         write!(text, "\n```\n{difference}\n```\n").expect("a string grows");

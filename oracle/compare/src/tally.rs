@@ -10,11 +10,14 @@ pub enum Entry {
     Derive,
     Integrate,
     Write,
+    DerivativeFaithful,
+    IntegralFaithful,
+    WriteFaithful,
     Run,
     Cost,
 }
 
-pub const ENTRIES: [Entry; 9] = [
+pub const ENTRIES: [Entry; 12] = [
     Entry::Read,
     Entry::Derivative,
     Entry::Integral,
@@ -22,6 +25,9 @@ pub const ENTRIES: [Entry; 9] = [
     Entry::Derive,
     Entry::Integrate,
     Entry::Write,
+    Entry::DerivativeFaithful,
+    Entry::IntegralFaithful,
+    Entry::WriteFaithful,
     Entry::Run,
     Entry::Cost,
 ];
@@ -36,6 +42,9 @@ impl Entry {
             Entry::Derive => "derive",
             Entry::Integrate => "integrate",
             Entry::Write => "write",
+            Entry::DerivativeFaithful => "derivative_faithful",
+            Entry::IntegralFaithful => "integral_faithful",
+            Entry::WriteFaithful => "write_faithful",
             Entry::Run => "run",
             Entry::Cost => "cost",
         }
@@ -64,16 +73,20 @@ pub const ORIGINS: [Origin; 5] = [
 pub const NUMBERS: usize = 19;
 
 /// Answers that a comparison of random lists has to meet: the refusals of a
-/// power and of another number that isn't finite; every number of the cost.
-const TO_BE_MET: [(Entry, usize); 7] = [
-    (Entry::Read, 15),
-    (Entry::Read, 18),
-    (Entry::Derive, 15),
-    (Entry::Derive, 18),
-    (Entry::Cost, 0),
-    (Entry::Cost, 11),
-    (Entry::Cost, 13),
+/// power and of another number that isn't finite; every number of the cost and
+/// of the entries with the second writer.
+const TO_BE_MET: [(Entry, &[usize]); 6] = [
+    (Entry::Read, &[15, 18]),
+    (Entry::Derive, &[15, 18]),
+    (Entry::Cost, &[0, 11, 13]),
+    (Entry::WriteFaithful, &[0, 11, 13, 15, 17]),
+    (Entry::DerivativeFaithful, &FROM_LIST_TO_LIST),
+    (Entry::IntegralFaithful, &FROM_LIST_TO_LIST),
 ];
+
+/// All numbers but 10, which is the inverse's.
+const FROM_LIST_TO_LIST: [usize; 18] =
+    [0, 1, 2, 3, 4, 5, 6, 7, 8, 9, 11, 12, 13, 14, 15, 16, 17, 18];
 
 /// What was compared for one entry, and what couldn't be.
 #[derive(Debug, Clone, Copy, Default, PartialEq, Eq)]
@@ -113,6 +126,8 @@ pub struct Tally {
     pub noughts: u64,
     /// Costs that are told as 2^64 - 1.
     pub capped: u64,
+    /// Sums, each with either flag, that the two writers write as different lists.
+    pub apart: u64,
     /// Calls with room for exactly what is written, and with more.
     pub exact: u64,
     pub ample: u64,
@@ -137,11 +152,14 @@ impl Tally {
     /// Answers that were to be met and weren't.
     pub fn missing(&self) -> Vec<String> {
         let capped = (self.capped == 0).then(|| "cost never tells 2^64 - 1".into());
+        let alike = (self.apart == 0).then(|| "the two writers never differ".into());
         TO_BE_MET
             .into_iter()
+            .flat_map(|(entry, numbers)| numbers.iter().map(move |&number| (entry, number)))
             .filter(|&(entry, number)| self.row(entry).numbers[number] == 0)
             .map(|(entry, number)| format!("{} never answers {number}", entry.name()))
             .chain(capped)
+            .chain(alike)
             .collect()
     }
     pub fn add(&mut self, other: &Tally) {
@@ -156,6 +174,7 @@ impl Tally {
         self.sums_again += other.sums_again;
         self.noughts += other.noughts;
         self.capped += other.capped;
+        self.apart += other.apart;
         self.exact += other.exact;
         self.ample += other.ample;
     }

@@ -9,7 +9,7 @@ use std::{
     time::{Duration, Instant},
 };
 
-use oracle::{costly, crowded, generate};
+use oracle::{costly, crowded, functions, generate, random::Random, sums::ENTRY};
 use proved::Library;
 
 use crate::{
@@ -44,15 +44,21 @@ enum Work {
         lists: Vec<Vec<u8>>,
         seed: u64,
     },
+    Sums {
+        sums: Vec<Vec<u8>>,
+        seed: u64,
+    },
     Block(u64),
 }
 
 type Lists<'a> = Box<dyn Iterator<Item = Vec<u8>> + Send + 'a>;
 
-/// Lists that are gone through once, in order; then blocks of random ones, by
-/// turns with a few of those near limits, which take long.
+/// Lists that are gone through once, in order; then, where random lists are
+/// asked for, sums with functions, and blocks of random lists, by turns with a
+/// few of those near limits, which take long.
 struct Source<'a> {
     stretches: Vec<(Origin, Lists<'a>)>,
+    functions: Option<Lists<'a>>,
     near_limits: Option<Lists<'a>>,
     taken: u64,
     next_block: u64,
@@ -76,6 +82,8 @@ impl<'a> Source<'a> {
             stretches.push((Origin::Crowded, Box::new(lists)));
         }
         stretches.reverse();
+        let functions =
+            (settings.is_random()).then(|| -> Lists { Box::new(functions::sums().into_iter()) });
         let near_limits =
             (settings.is_random()).then(|| -> Lists { Box::new(near_limits.iter().cloned()) });
         let (next_block, end_block) = match settings.block {
@@ -85,6 +93,7 @@ impl<'a> Source<'a> {
         };
         Source {
             stretches,
+            functions,
             near_limits,
             taken: 0,
             next_block,
@@ -105,6 +114,13 @@ impl<'a> Source<'a> {
                 return Some(work);
             }
             self.stretches.pop();
+        }
+        if let Some(functions) = &mut self.functions {
+            let sums: Vec<Vec<u8>> = functions.take(BLOCK).collect();
+            if !sums.is_empty() {
+                return Some(Work::Sums { sums, seed });
+            }
+            self.functions = None;
         }
         let is_their_turn = self.taken.is_multiple_of(2) || !wants_random;
         if let Some(lists) = self.near_limits.as_mut().filter(|_| is_their_turn) {
@@ -129,6 +145,17 @@ fn some_lists(origin: Origin, lists: &mut Lists, most: usize, seed: u64) -> Opti
         lists,
         seed,
     })
+}
+
+/// Each of some sums, and a damaged copy of it.
+fn with_damaged(checker: &mut Checker, sums: &[Vec<u8>], seed: u64) -> Outcome {
+    let mut random = Random::new(seed);
+    for (sum, other) in sums.iter().zip(sums.iter().rev()) {
+        checker.reseed(random.bits());
+        checker.sum(sum)?;
+        checker.sum(&generate::damaged(&mut random, sum, other, ENTRY))?;
+    }
+    Ok(())
 }
 
 /// What the threads share.
@@ -173,6 +200,10 @@ impl Shared<'_> {
                 } => (
                     format!("{origin:?} lists"),
                     self.lists(&mut checker, origin, &lists, seed),
+                ),
+                Work::Sums { sums, seed } => (
+                    "sums with functions".into(),
+                    with_damaged(&mut checker, &sums, seed),
                 ),
                 Work::Block(block) => (format!("block {block}"), self.block(&mut checker, block)),
             };

@@ -146,6 +146,68 @@ fn only_1_is_complex(sum: &[u8], complex: u8, out: &mut [u8]) -> Told<2> {
     proved::write(sum, u8::from(complex == 1), out)
 }
 
+/// The first writer in the place of the second.
+fn not_faithful(library: Library) -> [(&'static str, Library); 3] {
+    let write_faithful = library.write;
+    let derivative_faithful = library.derivative;
+    let integral_faithful = library.integral;
+    [
+        (
+            "write_faithful",
+            Library {
+                write_faithful,
+                ..library
+            },
+        ),
+        (
+            "derivative_faithful",
+            Library {
+                derivative_faithful,
+                ..library
+            },
+        ),
+        (
+            "integral_faithful",
+            Library {
+                integral_faithful,
+                ..library
+            },
+        ),
+    ]
+}
+
+fn faithful_flag_not_asked(sum: &[u8], _complex: u8, out: &mut [u8]) -> Told<2> {
+    proved::write_faithful(sum, 0, out)
+}
+
+/// 17 for room that is exact.
+fn exact_room_refused(sum: &[u8], complex: u8, out: &mut [u8]) -> Told<2> {
+    let short = out.len().saturating_sub(1);
+    proved::write_faithful(sum, complex, &mut out[..short])
+}
+
+/// A record too few where the room is one byte short.
+fn cut_to_the_room(sum: &[u8], complex: u8, out: &mut [u8]) -> Told<2> {
+    let mut room = vec![0; 2048 * 24];
+    let mut told = proved::write_faithful(sum, complex, &mut room);
+    let records = (out.len() / 24).min(told.answer[1] as usize);
+    out[..24 * records].copy_from_slice(&room[..24 * records]);
+    told.answer[1] = records as u64;
+    told
+}
+
+/// An argument that is left where it was first written, one record further on.
+fn argument_a_record_further(list: &[u8], out: &mut [u8]) -> Told<2> {
+    let told = proved::derivative_faithful(list, out);
+    let cos = out
+        .chunks_exact(24)
+        .position(|record| record[..2] == [5, 15]);
+    if let Some(at) = cos.filter(|&at| told.number == 0 && at >= 2) {
+        out.copy_within(24 * (at - 2)..24 * (at - 1), 24 * (at - 1));
+    }
+    told
+}
+
 fn no_minus_zero(list: &[u8], x: f64) -> Ran {
     let ran = proved::run(list, x);
     let value = f64::from_bits(ran.value) + 0.0;
@@ -209,6 +271,26 @@ fn wrong_sums_are_found() {
     for write in [flag_not_asked, only_1_is_complex] {
         is_found("write", Library { write, ..LIBRARY });
     }
+}
+
+#[test]
+fn wrong_writers_are_found() {
+    for (entry, library) in not_faithful(LIBRARY) {
+        is_found(entry, library);
+    }
+    for write_faithful in [faithful_flag_not_asked, exact_room_refused, cut_to_the_room] {
+        let library = Library {
+            write_faithful,
+            ..LIBRARY
+        };
+        is_found("write_faithful", library);
+    }
+    let derivative_faithful = argument_a_record_further;
+    let library = Library {
+        derivative_faithful,
+        ..LIBRARY
+    };
+    is_found("derivative_faithful", library);
 }
 
 #[test]
@@ -347,11 +429,14 @@ fn answers_that_are_missing() {
     let words = "--exhaustive 1".split(' ').map(String::from);
     let settings = arguments::parse(words).expect("good words");
     let missing = work::compare(&settings, LIBRARY).tally.missing();
-    for cost in [
+    for answer in [
         "cost never answers 11",
         "cost never answers 13",
         "cost never tells 2^64 - 1",
+        "write_faithful never answers 13",
+        "derivative_faithful never answers 12",
+        "integral_faithful never answers 18",
     ] {
-        assert!(missing.iter().any(|missing| missing == cost), "{cost}");
+        assert!(missing.iter().any(|missing| missing == answer), "{answer}");
     }
 }

@@ -56,6 +56,28 @@ mod c {
             out_len: usize,
             answer: *mut u64,
         ) -> u64;
+        pub fn uplink_write_faithful(
+            sum: *const u8,
+            sum_len: usize,
+            complex: u8,
+            out: *mut u8,
+            out_len: usize,
+            answer: *mut u64,
+        ) -> u64;
+        pub fn uplink_derivative_faithful(
+            list: *const u8,
+            list_len: usize,
+            out: *mut u8,
+            out_len: usize,
+            answer: *mut u64,
+        ) -> u64;
+        pub fn uplink_integral_faithful(
+            list: *const u8,
+            list_len: usize,
+            out: *mut u8,
+            out_len: usize,
+            answer: *mut u64,
+        ) -> u64;
         pub fn uplink_run(
             list: *const u8,
             list_len: usize,
@@ -84,7 +106,7 @@ pub struct Ran {
     pub told: Told<3>,
 }
 
-/// The nine functions. That they can be replaced one by one lets a test of
+/// The twelve functions. That they can be replaced one by one lets a test of
 /// the comparison put a wrong one in.
 #[derive(Clone, Copy)]
 pub struct Library {
@@ -97,6 +119,9 @@ pub struct Library {
     pub derivative: fn(&[u8], &mut [u8]) -> Told<2>,
     pub integral: fn(&[u8], &mut [u8]) -> Told<2>,
     pub inverse: fn(&[u8], &mut [u8]) -> Told<2>,
+    pub write_faithful: fn(&[u8], u8, &mut [u8]) -> Told<2>,
+    pub derivative_faithful: fn(&[u8], &mut [u8]) -> Told<2>,
+    pub integral_faithful: fn(&[u8], &mut [u8]) -> Told<2>,
     pub run: fn(&[u8], f64) -> Ran,
     /// Place and steps.
     pub cost: fn(&[u8]) -> Told<2>,
@@ -111,6 +136,9 @@ pub const LIBRARY: Library = Library {
     derivative,
     integral,
     inverse,
+    write_faithful,
+    derivative_faithful,
+    integral_faithful,
     run,
     cost,
 };
@@ -135,22 +163,26 @@ from_bytes_to_bytes! {
     derivative, uplink_derivative, 2;
     integral, uplink_integral, 2;
     inverse, uplink_inverse, 2;
+    derivative_faithful, uplink_derivative_faithful, 2;
+    integral_faithful, uplink_integral_faithful, 2;
 }
 
-pub fn write(sum: &[u8], complex: u8, out: &mut [u8]) -> Told<2> {
-    let mut answer = [UNWRITTEN; 2];
-    // SAFETY: pointers and lengths are those of live slices, and the answer has its length.
-    let number = unsafe {
-        c::uplink_write(
-            sum.as_ptr(),
-            sum.len(),
-            complex,
-            out.as_mut_ptr(),
-            out.len(),
-            answer.as_mut_ptr(),
-        )
-    };
-    Told { number, answer }
+macro_rules! from_a_sum_and_a_flag {
+    ($($name:ident, $function:ident;)*) => {$(
+        pub fn $name(sum: &[u8], complex: u8, out: &mut [u8]) -> Told<2> {
+            let mut answer = [UNWRITTEN; 2];
+            // SAFETY: pointers and lengths are those of live slices, and the answer has its length.
+            let number = unsafe {
+                c::$function(sum.as_ptr(), sum.len(), complex, out.as_mut_ptr(), out.len(), answer.as_mut_ptr())
+            };
+            Told { number, answer }
+        }
+    )*};
+}
+
+from_a_sum_and_a_flag! {
+    write, uplink_write;
+    write_faithful, uplink_write_faithful;
 }
 
 pub fn run(list: &[u8], x: f64) -> Ran {
