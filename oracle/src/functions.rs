@@ -106,3 +106,32 @@ fn beside_each_other() -> Vec<Vec<u8>> {
     }
     sums
 }
+
+/// sin of so many powers of x from x^0 on, behind some of the terms before it.
+fn sin_of_many(before: &[u8], terms: u32) -> Vec<u8> {
+    let terms: Vec<(f64, f64)> = (0..terms).map(|power| (f64::from(power), 2.0)).collect();
+    [before, &of(kind::SIN, &powers(&terms))].concat()
+}
+
+/// x² + sin((2 + im·i) x).
+pub fn with_imaginary_part(im: f64) -> Vec<u8> {
+    let inside = entry(kind::X, 1.0, Complex::new(2.0, im), &[]);
+    [power(2.0, 1.0), of(kind::SIN, &inside)].concat()
+}
+
+/// Arguments of 63 entries, and of as many as there can be behind x, behind x² and one too many; three functions
+/// inside each other, and four; imaginary parts of 2^-53 and 2^-52 inside an argument.
+pub fn at_limits() -> Vec<Vec<u8>> {
+    let x = power(1.0, 1.0);
+    let three = of(kind::SIN, &of(kind::SIN, &of(kind::SIN, &x)));
+    vec![
+        sin_of_many(&[], 63),
+        sin_of_many(&x, 62),
+        sin_of_many(&power(2.0, 1.0), 62),
+        sin_of_many(&x, 63),
+        three.clone(),
+        of(kind::SIN, &three),
+        with_imaginary_part(f64::EPSILON / 2.0),
+        with_imaginary_part(f64::EPSILON),
+    ]
+}

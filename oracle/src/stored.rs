@@ -55,6 +55,23 @@ impl Input {
         }
     }
 
+    /// The input's line and the lines of what the entries with the second
+    /// writer answer.
+    pub fn faithful_item(&self) -> String {
+        let answers = match self {
+            Input::List(list) => [
+                ("derivative_faithful", judge::derivative_faithful(list)),
+                ("integral_faithful", judge::integral_faithful(list)),
+            ],
+            Input::Sum(sum) => [
+                ("write_faithful 0", judge::write_faithful(sum, false)),
+                ("write_faithful 1", judge::write_faithful(sum, true)),
+            ],
+        };
+        let lines = answers.map(|(name, answer)| answer_line(name, answer.owed(), RECORD));
+        self.line() + &lines.concat()
+    }
+
     /// The input's line and the lines of its answers that one decider gives,
     /// if it gives any.
     pub fn item(&self, decider: Decider) -> Option<String> {

@@ -16,7 +16,7 @@ use oracle::{
     random::Random,
     records,
     records::RECORD,
-    sums::{self, ENTRY, entry, kind},
+    sums::{self, ENTRY, kind},
     text,
 };
 
@@ -301,10 +301,7 @@ fn powers_of_x_are_written_alike() {
 #[test]
 fn small_imaginary_parts_inside_an_argument() {
     let small = f64::EPSILON / 2.0;
-    let sum = |im: f64| {
-        let inside = entry(kind::X, 1.0, Complex::new(2.0, im), &[]);
-        [power(2.0, 1.0), sin_of(&inside)].concat()
-    };
+    let sum = functions::with_imaginary_part;
     writes(&sum(small), "On(1: Dup, Mul), push 2, Mul, Sin, Add");
     let refused = Answer::Limit(Refusal::whole(15));
     assert_eq!(judge::write_faithful(&sum(f64::EPSILON), false), refused);

@@ -4,7 +4,7 @@ use std::{fs, path::Path};
 
 use oracle::{
     features::Features,
-    generate,
+    functions, generate,
     runner::{self, Met},
     stored::{Decider, Input, RUN_AT},
 };
@@ -53,6 +53,36 @@ fn limits() {
 }
 
 #[test]
+fn faithful() {
+    let items = items(&stored("faithful.txt"));
+    assert!(items.len() >= 400, "{} items", items.len());
+    for (input, item) in &items {
+        assert_eq!(input.faithful_item(), *item);
+    }
+    for sum in functions::at_limits().into_iter().map(Input::Sum) {
+        assert!(items.iter().any(|(input, _)| *input == sum), "{sum:?}");
+    }
+}
+
+/// Every number that the entries with the second writer answer where there is room.
+#[test]
+fn faithful_answers_have_every_number() {
+    let text = stored("faithful.txt");
+    let from_lists = [0, 1, 2, 3, 4, 5, 6, 7, 8, 9, 11, 12, 13, 14, 15, 16, 18];
+    for (entry, numbers) in [
+        ("derivative_faithful", &from_lists[..]),
+        ("integral_faithful", &from_lists),
+        ("write_faithful 0", &[0, 11, 13, 15]),
+        ("write_faithful 1", &[0, 11, 13]),
+    ] {
+        for number in numbers {
+            let start = format!("{entry} {number} ");
+            assert!(text.lines().any(|line| line.starts_with(&start)), "{start}");
+        }
+    }
+}
+
+#[test]
 fn runs() {
     let items = items(&stored("runs.txt"));
     assert!(items.len() >= 450, "{} lists", items.len());
@@ -60,6 +90,15 @@ fn runs() {
         assert_eq!(input.run_item().as_deref(), Some(&item[..]));
     }
 }
+
+/// The stored files.
+const FILES: [&str; 5] = [
+    "lists.txt",
+    "sums.txt",
+    "limits.txt",
+    "faithful.txt",
+    "runs.txt",
+];
 
 /// Every number that the run answers, powers of nought, and the most values
 /// and steps there can be.
@@ -95,7 +134,7 @@ fn runs_reach_what_a_run_can() {
 
 #[test]
 fn inputs_stand_once() {
-    for name in ["lists.txt", "sums.txt", "limits.txt", "runs.txt"] {
+    for name in FILES {
         let items = items(&stored(name));
         let mut inputs: Vec<&Input> = items.iter().map(|(input, _)| input).collect();
         inputs.sort();
@@ -124,9 +163,6 @@ fn lists_at_limits_are_there() {
 
 #[test]
 fn small_enough_to_read_in_a_diff() {
-    let size: usize = ["lists.txt", "sums.txt", "limits.txt", "runs.txt"]
-        .map(|name| stored(name).len())
-        .iter()
-        .sum();
-    assert!(size < 3_000_000, "{size} bytes");
+    let size: usize = FILES.map(|name| stored(name).len()).iter().sum();
+    assert!(size < 3_300_000, "{size} bytes");
 }

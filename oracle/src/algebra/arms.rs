@@ -108,6 +108,73 @@ fn note_writing(sum: &Expr, within: &str, nothing_before: bool, features: &mut F
     nothing_yet
 }
 
+/// Note how the second writer writes a sum.
+pub fn note_faithful_sum(bytes: &[u8], features: &mut Features) {
+    for complex in [false, true] {
+        let answer = outcome(&judge::write_faithful(bytes, complex));
+        features.note(|| format!("write_faithful {complex} -> {answer}"));
+    }
+    if let Ok(sum) = sums::read(bytes) {
+        note_arguments(&sum, "outer", features);
+    }
+}
+
+/// Each function that is written: where it stands, and what its argument is like.
+fn note_arguments(sum: &Expr, level: &str, features: &mut Features) {
+    let mut position = "first";
+    for (term, &coef) in sum.0.iter().filter(|(_, coef)| **coef != ZERO) {
+        if let Some(inside) = sums::inside(term) {
+            let times = if coef == Complex::ONE { "" } else { "k " };
+            features.note(|| {
+                let name = shapes::kind_name(term);
+                format!("{level} {position} {times}{name} of {}", argument(inside))
+            });
+            note_arguments(inside, "inner", features);
+        }
+        let is_bare = *term == Term::X(1.0) && coef == Complex::ONE;
+        position = if position == "first" && is_bare {
+            "after bare x"
+        } else {
+            "later"
+        };
+    }
+}
+
+/// What an argument is like, to the loop that writes it.
+fn argument(sum: &Expr) -> &'static str {
+    let is_bare = |(term, coef): (&Term, &Complex)| *term == Term::X(1.0) && *coef == Complex::ONE;
+    let mut terms = sum.0.iter().filter(|(_, coef)| **coef != ZERO);
+    match (terms.next().map(is_bare), terms.next().is_some()) {
+        (None, _) => "zeros",
+        (Some(true), false) => "x",
+        (Some(false), false) => "one term",
+        (Some(true), true) => "x and more",
+        (Some(false), true) => "several",
+    }
+}
+
+/// Note how the second writer writes the derivative and the integral of a list.
+pub fn note_faithful_list(list: &[u8], features: &mut Features) {
+    let read = judge::read(list).done();
+    let flag = read.as_ref().is_some_and(|read| read.complex);
+    for (name, answer) in [
+        ("derivative_faithful", judge::derivative_faithful(list)),
+        ("integral_faithful", judge::integral_faithful(list)),
+    ] {
+        features.note(|| format!("{name} {flag} -> {}", outcome(&answer)));
+    }
+    let Some(read) = read else { return };
+    for made in [
+        judge::derive(&read.entries),
+        judge::integrate(&read.entries),
+    ] {
+        let sum = made.done().and_then(|sum| sums::read(&sum).ok());
+        if let Some(sum) = sum {
+            note_arguments(&sum, "made of a list:", features);
+        }
+    }
+}
+
 /// Note what the entries over a list do with it.
 pub fn note_list(list: &[u8], features: &mut Features) {
     if let Err(fault) = records::check(list) {

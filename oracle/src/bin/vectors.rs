@@ -6,7 +6,7 @@ use std::{collections::BTreeSet, fs, io, path::Path};
 use oracle::{
     algebra::{arms, random_sums::random_sum},
     features::Features,
-    generate, judge,
+    functions, generate, judge,
     random::Random,
     records::RECORD,
     stored::{Decider, Input},
@@ -32,14 +32,23 @@ const LISTS_TO_TRY: [&str; 14] = [
     "1 Add 28 Pow",
 ];
 
+/// Lists whose derivative or integral has a function behind another term.
+const FAITHFUL_TO_TRY: [&str; 4] = [
+    "Dup Dup Mul Flip Sin Add",
+    "Dup Sin Add",
+    "Cos Not",
+    "Dup Dup Sub Sin Add",
+];
+
 const LONG_SUM: usize = 6 * ENTRY;
 
-#[derive(Default)]
 struct Selection {
+    arms_of: fn(&Input) -> BTreeSet<String>,
     reached: BTreeSet<String>,
     inputs: Vec<Input>,
 }
 
+/// What the Rust's own entries reach.
 fn arms_of(input: &Input) -> BTreeSet<String> {
     let mut features = Features::on();
     match input {
@@ -49,9 +58,27 @@ fn arms_of(input: &Input) -> BTreeSet<String> {
     features.into_names()
 }
 
+/// What the entries with the second writer reach.
+fn faithful_arms_of(input: &Input) -> BTreeSet<String> {
+    let mut features = Features::on();
+    match input {
+        Input::List(list) => arms::note_faithful_list(list, &mut features),
+        Input::Sum(sum) => arms::note_faithful_sum(sum, &mut features),
+    }
+    features.into_names()
+}
+
 impl Selection {
+    fn new(arms_of: fn(&Input) -> BTreeSet<String>) -> Self {
+        Selection {
+            arms_of,
+            reached: BTreeSet::new(),
+            inputs: Vec::new(),
+        }
+    }
+
     fn keep(&mut self, input: Input) {
-        self.reached.extend(arms_of(&input));
+        self.reached.extend((self.arms_of)(&input));
         self.inputs.push(input);
     }
 
@@ -64,7 +91,7 @@ impl Selection {
 
     /// Keep an input if it reaches something new.
     fn consider(&mut self, input: Input) {
-        if !arms_of(&input).is_subset(&self.reached) {
+        if !(self.arms_of)(&input).is_subset(&self.reached) {
             self.keep(input);
         }
     }
@@ -79,7 +106,7 @@ impl Selection {
 }
 
 fn select_lists() -> Selection {
-    let mut selection = Selection::default();
+    let mut selection = Selection::new(arms_of);
     let to_try = LISTS_TO_TRY.map(text::list).into_iter();
     for list in to_try.chain(generate::at_odds()) {
         selection.keep(Input::List(list));
@@ -129,8 +156,24 @@ fn select_sums() -> Selection {
     sums.extend(damaged);
     let read = |list: Vec<u8>| judge::read(&list).done().map(|read| read.entries);
     sums.extend(generate::near_limits().into_iter().filter_map(read));
-    let mut selection = Selection::default();
+    let mut selection = Selection::new(arms_of);
     selection.consider_shortest_first(sums, Input::Sum);
+    selection
+}
+
+/// Of the inputs that are stored, and of sums with functions of every argument.
+fn select_faithful(lists: &Selection, sums: &Selection) -> Selection {
+    let mut selection = Selection::new(faithful_arms_of);
+    for words in LISTS_TO_TRY.iter().chain(&FAITHFUL_TO_TRY) {
+        selection.keep(Input::List(text::list(words)));
+    }
+    for input in lists.inputs.iter().chain(&sums.inputs) {
+        selection.consider(input.clone());
+    }
+    selection.consider_shortest_first(functions::sums(), Input::Sum);
+    for sum in functions::at_limits() {
+        selection.keep_once(Input::Sum(sum));
+    }
     selection
 }
 
@@ -143,22 +186,32 @@ fn items<'a>(inputs: impl IntoIterator<Item = &'a Input>, decider: Decider) -> (
     (items.concat(), items.len())
 }
 
+fn faithful_items(inputs: &[Input]) -> (String, usize) {
+    let items: Vec<String> = inputs.iter().map(Input::faithful_item).collect();
+    (items.concat(), items.len())
+}
+
 fn main() -> io::Result<()> {
     let folder = Path::new(env!("CARGO_MANIFEST_DIR")).join("../vectors");
     let (lists, sums) = (select_lists(), select_sums());
+    let faithful = select_faithful(&lists, &sums);
     let both = || lists.inputs.iter().chain(&sums.inputs);
     for (name, (text, count)) in [
         ("lists.txt", items(&lists.inputs, Decider::Rust)),
         ("sums.txt", items(&sums.inputs, Decider::Rust)),
         ("limits.txt", items(both(), Decider::Paper)),
+        ("faithful.txt", faithful_items(&faithful.inputs)),
     ] {
         println!("{name}: {count} items, {} bytes", text.len());
         fs::write(folder.join(name), text)?;
     }
-    let reached: BTreeSet<&String> = lists.reached.union(&sums.reached).collect();
-    println!("{} arms reached", reached.len());
+    let rust: BTreeSet<&String> = lists.reached.union(&sums.reached).collect();
+    let second = faithful.reached.iter();
+    println!("{} arms reached", rust.len());
+    println!("{} arms reached by the second writer", second.len());
     if std::env::args().any(|argument| argument == "--arms") {
-        reached.iter().for_each(|name| println!("{name}"));
+        let all = rust.into_iter().chain(second);
+        all.for_each(|name| println!("{name}"));
     }
     Ok(())
 }
