@@ -1,4 +1,4 @@
-//! The nine entries over bytes, with the caller's buffers: nothing is allocated.
+//! The twelve entries over bytes, with the caller's buffers: nothing is allocated.
 //!
 //! A buffer of [`SUM_BYTES`](crate::SUM_BYTES) has room for any sum and one of [`LIST_BYTES`](crate::LIST_BYTES) for any list. A refusal changes no byte
 //! of it; a result is written to its front, and the bytes behind that stay as they were.
@@ -104,7 +104,9 @@ pub fn integrate<'a>(sum: &[u8], out: &'a mut [u8]) -> Result<&'a [u8], Refused>
     written(out, ENTRY_BYTES, answer)
 }
 
-/// A sum as a list. `is_complex` says whether its numbers are written as complex ones.
+/// A sum as a list, as the Rust that this library ports writes it. `is_complex` says whether its numbers are written as complex ones.
+///
+/// A function's argument is written on the list so far, so that x² + sin x becomes a list of x² + sin 2x; [`write_faithful`] writes one of x² + sin x.
 ///
 /// # Errors
 /// BadRecord, TooDeep, NotFinite (an imaginary part in a list of reals too), OutputRoom.
@@ -113,7 +115,7 @@ pub fn write<'a>(sum: &[u8], is_complex: bool, out: &'a mut [u8]) -> Result<&'a 
     written(out, RECORD_BYTES, answer)
 }
 
-/// From a list to the list of its derivative.
+/// From a list to the list of its derivative, as the Rust that this library ports writes it; [`derivative_faithful`] means what the derivative says.
 ///
 /// # Errors
 /// What reading, deriving or writing refuses.
@@ -122,7 +124,7 @@ pub fn derivative<'a>(list: &[u8], out: &'a mut [u8]) -> Result<&'a [u8], Refuse
     written(out, RECORD_BYTES, answer)
 }
 
-/// From a list to the list of its integral.
+/// From a list to the list of its integral, as the Rust that this library ports writes it; [`integral_faithful`] means what the integral says.
 ///
 /// # Errors
 /// What reading, integrating or writing refuses.
@@ -140,6 +142,38 @@ pub fn inverse<'a>(list: &[u8], out: &'a mut [u8]) -> Result<&'a [u8], Refused> 
     written(out, RECORD_BYTES, answer)
 }
 
+/// A sum as a list that means what the sum says: it adds the sum's terms that aren't zero, in order, each function taken of the value of its argument, whatever the functions
+/// stand for. This is proved. Of powers of x alone it is what [`write`] writes, to the byte; where functions stand behind other terms the two differ.
+///
+/// # Errors
+/// As [`write`], and of the same sums; but as another list is written, other room may be needed (OutputRoom).
+pub fn write_faithful<'a>(
+    sum: &[u8],
+    is_complex: bool,
+    out: &'a mut [u8],
+) -> Result<&'a [u8], Refused> {
+    let answer = ffi::write_faithful(sum, is_complex, out);
+    written(out, RECORD_BYTES, answer)
+}
+
+/// From a list to the list of its derivative, written as [`write_faithful`] does.
+///
+/// # Errors
+/// As [`derivative`], room aside.
+pub fn derivative_faithful<'a>(list: &[u8], out: &'a mut [u8]) -> Result<&'a [u8], Refused> {
+    let answer = ffi::derivative_faithful(list, out);
+    written(out, RECORD_BYTES, answer)
+}
+
+/// From a list to the list of its integral, written as [`write_faithful`] does.
+///
+/// # Errors
+/// As [`integral`], room aside.
+pub fn integral_faithful<'a>(list: &[u8], out: &'a mut [u8]) -> Result<&'a [u8], Refused> {
+    let answer = ffi::integral_faithful(list, out);
+    written(out, RECORD_BYTES, answer)
+}
+
 /// The value of a list at x. Pow raises to whole powers from 0 to 64, by products from the left, and to no others; to the power 0, and -0 counts
 /// as 0, every number gives 1. (Read as a formula, that step makes the constant 0.) Sqrt gives the number nearest to the root; below zero it is NeedsMath.
 ///
@@ -153,7 +187,7 @@ pub fn run(list: &[u8], x: f64) -> Result<Ran, Refused> {
 
 /// How many steps a reading of the list takes, known before it is read, in time linear in its records.
 ///
-/// A step is a record that is run, counted as often as it runs, and a body is a step of its own. Where [`read`], [`derivative`], [`integral`] or [`inverse`]
+/// A step is a record that is run, counted as often as it runs, and a body is a step of its own. Where [`read`], [`derivative`], [`integral`], their faithful namesakes or [`inverse`]
 /// meet no refusal in reading, they run exactly so many records; where they meet one, at most so many. A number above [`MOST_STEPS`] is told as that one.
 ///
 /// A program that takes lists from strangers asks first, and turns away what is above a limit of its own, or above [`STEPS_RECOMMENDED`].

@@ -55,6 +55,28 @@ mod raw {
             out_len: usize,
             answer: *mut u64,
         ) -> u64;
+        pub fn uplink_write_faithful(
+            sum: *const u8,
+            sum_len: usize,
+            complex: u8,
+            out: *mut u8,
+            out_len: usize,
+            answer: *mut u64,
+        ) -> u64;
+        pub fn uplink_derivative_faithful(
+            list: *const u8,
+            list_len: usize,
+            out: *mut u8,
+            out_len: usize,
+            answer: *mut u64,
+        ) -> u64;
+        pub fn uplink_integral_faithful(
+            list: *const u8,
+            list_len: usize,
+            out: *mut u8,
+            out_len: usize,
+            answer: *mut u64,
+        ) -> u64;
         pub fn uplink_run(
             list: *const u8,
             list_len: usize,
@@ -104,22 +126,26 @@ bytes_to_bytes! {
     derivative = uplink_derivative,
     integral = uplink_integral,
     inverse = uplink_inverse,
+    derivative_faithful = uplink_derivative_faithful,
+    integral_faithful = uplink_integral_faithful,
 }
 
-pub fn write(sum: &[u8], complex: bool, out: &mut [u8]) -> (u64, Answer) {
-    let mut answer = [0; 2];
-    // SAFETY: as in `read`.
-    let number = unsafe {
-        raw::uplink_write(
-            sum.as_ptr(),
-            sum.len(),
-            u8::from(complex),
-            out.as_mut_ptr(),
-            out.len(),
-            answer.as_mut_ptr(),
-        )
-    };
-    (number, answer)
+macro_rules! sum_to_list {
+    ($($name:ident = $raw:ident,)*) => {$(
+        pub fn $name(sum: &[u8], complex: bool, out: &mut [u8]) -> (u64, Answer) {
+            let mut answer = [0; 2];
+            // SAFETY: as in `read`.
+            let number = unsafe {
+                raw::$raw(sum.as_ptr(), sum.len(), u8::from(complex), out.as_mut_ptr(), out.len(), answer.as_mut_ptr())
+            };
+            (number, answer)
+        }
+    )*};
+}
+
+sum_to_list! {
+    write = uplink_write,
+    write_faithful = uplink_write_faithful,
 }
 
 /// The value, and place, steps and peak.

@@ -20,4 +20,7 @@ pub use record::{
     MOST_RECORDS, RECORD_BYTES,
 };
 pub use refusal::{Refusal, Refused};
-pub use typed::{cost, derivative, derive, integral, integrate, inverse, read, run, write, Sum};
+pub use typed::{
+    cost, derivative, derivative_faithful, derive, integral, integral_faithful, integrate, inverse,
+    read, run, write, write_faithful, Sum,
+};

@@ -1,4 +1,4 @@
-//! The nine entries over typed lists and sums.
+//! The twelve entries over typed lists and sums.
 
 use crate::{
     bytes, decode_list, decode_sum, encode_list, encode_sum, Entry, Ran, Record, Refused,
@@ -68,7 +68,8 @@ pub fn integrate(sum: &[Entry]) -> Result<Vec<Entry>, Refused> {
     bytes::integrate(&encode_sum(sum), &mut room).map(entries)
 }
 
-/// A sum as a list. `is_complex` says whether its numbers are written as complex ones.
+/// A sum as a list, as the Rust that this library ports writes it. `is_complex` says whether its numbers are written as complex ones.
+/// Where functions stand behind other terms, [`write_faithful`] writes a list that means what the sum says, and this one does not.
 ///
 /// ```
 /// use uplink::{write, Entry, Primitive, Record};
@@ -84,7 +85,7 @@ pub fn write(sum: &[Entry], is_complex: bool) -> Result<Vec<Record>, Refused> {
     bytes::write(&encode_sum(sum), is_complex, &mut room).map(records)
 }
 
-/// From a list to the list of its derivative.
+/// From a list to the list of its derivative, as the Rust that this library ports writes it; for formulas with functions see [`derivative_faithful`].
 ///
 /// ```
 /// use uplink::{derivative, Primitive, Record};
@@ -100,7 +101,7 @@ pub fn derivative(list: &[Record]) -> Result<Vec<Record>, Refused> {
     bytes::derivative(&encode_list(list), &mut room).map(records)
 }
 
-/// From a list to the list of its integral.
+/// From a list to the list of its integral, as the Rust that this library ports writes it; for formulas with functions see [`integral_faithful`].
 ///
 /// ```
 /// use std::f64::consts::E;
@@ -132,6 +133,63 @@ pub fn integral(list: &[Record]) -> Result<Vec<Record>, Refused> {
 pub fn inverse(list: &[Record]) -> Result<Vec<Record>, Refused> {
     let mut room = vec![0; LIST_BYTES];
     bytes::inverse(&encode_list(list), &mut room).map(records)
+}
+
+/// A sum as a list that means what the sum says. Of powers of x alone it is what [`write`] writes.
+///
+/// ```
+/// use uplink::{modified, write, write_faithful, Entry, Modifier, Primitive::*, Record, Term};
+/// // x^2 + sin x
+/// let sin = Entry { term: Term::Sin, inside: 1, re: 1.0, im: 0.0 };
+/// let sum = [Entry::power(2.0, 1.0), sin, Entry::power(1.0, 1.0)];
+/// let square = modified(Modifier::On, &[(1, &[Dup.into(), Mul.into()])]);
+/// let sine: Vec<Record> = vec![Identity.into(), Sin.into(), Add.into()];
+/// assert_eq!(write_faithful(&sum, false)?, [square, sine].concat());
+/// assert_ne!(write(&sum, false)?, write_faithful(&sum, false)?); // that one takes the sine of 2 x
+/// # Ok::<(), uplink::Refused>(())
+/// ```
+///
+/// # Errors
+/// As [`bytes::write_faithful`].
+pub fn write_faithful(sum: &[Entry], is_complex: bool) -> Result<Vec<Record>, Refused> {
+    let mut room = vec![0; LIST_BYTES];
+    bytes::write_faithful(&encode_sum(sum), is_complex, &mut room).map(records)
+}
+
+/// From a list to the list of its derivative, which means what the derivative says.
+///
+/// ```
+/// use uplink::{derivative_faithful, modified, Modifier, Primitive::*, Record, Record::RealPush};
+/// // x^2 + sin x has the derivative 2 x + cos x
+/// let list = [Dup.into(), Dup.into(), Mul.into(), Flip.into(), Sin.into(), Add.into()];
+/// let double = modified(Modifier::On, &[(1, &[RealPush(2.0), Mul.into()])]);
+/// let cosine: Vec<Record> = vec![Identity.into(), Cos.into(), Add.into()];
+/// assert_eq!(derivative_faithful(&list)?, [double, cosine].concat());
+/// # Ok::<(), uplink::Refused>(())
+/// ```
+///
+/// # Errors
+/// As [`bytes::derivative_faithful`].
+pub fn derivative_faithful(list: &[Record]) -> Result<Vec<Record>, Refused> {
+    let mut room = vec![0; LIST_BYTES];
+    bytes::derivative_faithful(&encode_list(list), &mut room).map(records)
+}
+
+/// From a list to the list of its integral, which means what the integral says.
+///
+/// ```
+/// use uplink::{integral_faithful, Primitive::*, Record::RealPush};
+/// // 1 - cos x has the integral x - sin x
+/// let list = integral_faithful(&[Cos.into(), Not.into()])?;
+/// assert_eq!(list, [Dup.into(), Identity.into(), Sin.into(), RealPush(-1.0), Mul.into(), Add.into()]);
+/// # Ok::<(), uplink::Refused>(())
+/// ```
+///
+/// # Errors
+/// As [`bytes::integral_faithful`].
+pub fn integral_faithful(list: &[Record]) -> Result<Vec<Record>, Refused> {
+    let mut room = vec![0; LIST_BYTES];
+    bytes::integral_faithful(&encode_list(list), &mut room).map(records)
 }
 
 /// The value of a list at x, with steps and peak. What Pow and Sqrt do is told at [`bytes::run`].

@@ -30,6 +30,9 @@ fn answers(line: &Line<'_>, given: &[u8]) -> [Result<Vec<u8>, Refused>; 2] {
         "derive" => bytes::derive(given, &mut room),
         "integrate" => bytes::integrate(given, &mut room),
         "write" => bytes::write(given, line.number(0) == 1, &mut room),
+        "derivative_faithful" => bytes::derivative_faithful(given, &mut room),
+        "integral_faithful" => bytes::integral_faithful(given, &mut room),
+        "write_faithful" => bytes::write_faithful(given, line.number(0) == 1, &mut room),
         "back" => return back_answers(line, given),
         other => panic!("no entry is called {other}"),
     };
@@ -38,7 +41,7 @@ fn answers(line: &Line<'_>, given: &[u8]) -> [Result<Vec<u8>, Refused>; 2] {
     } else {
         RECORD_BYTES
     };
-    let at = usize::from(line.keyword == "write");
+    let at = usize::from(matches!(line.keyword, "write" | "write_faithful"));
     [answer.map(<[u8]>::to_vec), line.answer(at, 0, each)]
 }
 
@@ -97,6 +100,11 @@ fn stored_answers_at_the_limits_hold() {
         replayed("limits.txt"),
         442 + 515 + 444 + 495 + 193 + 93 + 870
     );
+}
+
+#[test]
+fn stored_answers_of_the_second_writer_hold() {
+    assert_eq!(replayed("faithful.txt"), 78 + 78 + 646);
 }
 
 /// What the library answers to a line about a run, and what is stored; values as their bits.

@@ -9,6 +9,7 @@ pub struct Line<'a> {
 }
 
 impl Line<'_> {
+    #[allow(dead_code)] // not every test asks for one
     pub fn number(&self, at: usize) -> u64 {
         self.words[at].parse().expect("a number")
     }
