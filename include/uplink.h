@@ -14,8 +14,8 @@
  * were. Input and output must not overlap.
  *
  * The functions keep no state, allocate nothing and may be called from several threads at once. The
- * most stack that a call took of the lists that were tried: 87,700 bytes where records lie inside few
- * others, 122,400 at the deepest there is, 128 levels (x86-64; tests/stack measures it). Have half a MiB.
+ * most stack that a call took of the lists that were tried: 91,900 bytes where records lie inside few
+ * others, 115,900 at the deepest there is, 128 levels (x86-64; tests/stack measures it). Have half a MiB.
  */
 #ifndef UPLINK_H
 #define UPLINK_H
@@ -159,7 +159,22 @@ uint64_t uplink_derive(const uint8_t *sum, size_t sum_bytes, uint8_t *out, size_
 uint64_t uplink_integrate(const uint8_t *sum, size_t sum_bytes, uint8_t *out, size_t out_bytes,
                           struct uplink_answer *answer);
 
-/* A sum as a list; `complex` is the flag that read answered (0 is false, all else true). */
+/* A sum as a list; `complex` is the flag that read answered (0 is false, all else true). There are two
+ * writers.
+ *
+ * uplink_write, uplink_derivative and uplink_integral write as the Rust does that this library ports, byte
+ * for byte. That one goes on with the list so far where it writes a function's argument, so a function that
+ * isn't the first term gets another argument: x^2 + sin x is written as x^2 + sin 2x, and x + sin(0 x) as
+ * x + sin x (docs/DIFFERENCES.md, Written lists). They are there for comparison with the Rust.
+ *
+ * uplink_write_faithful, uplink_derivative_faithful and uplink_integral_faithful write each argument by
+ * itself, and their lists mean what the sum says: run on x, such a list gives the sum's terms that aren't
+ * zero, added in order, each function taken of the value of its argument. That is proved, whatever the names
+ * of the functions stand for. Take these to show or to run a formula with functions in it.
+ *
+ * Of powers of x alone (each outermost term that isn't zero is one) both write the same bytes, and both
+ * refuse the same sums with the same number; where there are functions, only the room that is needed
+ * differs. */
 uint64_t uplink_write(const uint8_t *sum, size_t sum_bytes, uint8_t complex, uint8_t *out,
                       size_t out_bytes, struct uplink_answer *answer);
 
@@ -171,6 +186,14 @@ uint64_t uplink_integral(const uint8_t *list, size_t list_bytes, uint8_t *out, s
 uint64_t uplink_inverse(const uint8_t *list, size_t list_bytes, uint8_t *out, size_t out_bytes,
                         struct uplink_answer *answer);
 
+/* The same three with the second writer: lists that mean what the sum says. */
+uint64_t uplink_write_faithful(const uint8_t *sum, size_t sum_bytes, uint8_t complex, uint8_t *out,
+                               size_t out_bytes, struct uplink_answer *answer);
+uint64_t uplink_derivative_faithful(const uint8_t *list, size_t list_bytes, uint8_t *out,
+                                    size_t out_bytes, struct uplink_answer *answer);
+uint64_t uplink_integral_faithful(const uint8_t *list, size_t list_bytes, uint8_t *out,
+                                  size_t out_bytes, struct uplink_answer *answer);
+
 /* The value of a list at x; +0 when refused. Pow raises to whole powers from 0 to 64, by products from
  * the left, and to no others (UPLINK_NEEDS_MATH). To the power 0, and -0 counts as 0, every number gives
  * 1; read as a formula, the same step makes the constant 0. Sqrt gives the number nearest to the root,
@@ -180,9 +203,9 @@ uint64_t uplink_run(const uint8_t *list, size_t list_bytes, double x, double *va
 
 /* How many steps a reading of the list takes, known before it is read. A step is a record that is run,
  * counted as often as it runs, and a body is a step of its own: Dup, Mul are 2 steps, Both with the body
- * Neg is 5. Where uplink_read, uplink_derivative, uplink_integral or uplink_inverse meet no refusal in
- * reading, they run exactly so many records; where they meet one, at most so many. (uplink_run runs each
- * record at most once.) What follows reading is bounded by the 64 entries of a sum, and isn't counted.
+ * Neg is 5. Where uplink_read, uplink_derivative, uplink_integral, their faithful namesakes or
+ * uplink_inverse meet no refusal in reading, they run exactly so many records; where they meet one, at
+ * most so many. (uplink_run runs each record at most once.) What follows reading is bounded by the 64 entries of a sum, and isn't counted.
  *
  * The only refusals are UPLINK_BAD_RECORD and UPLINK_TOO_DEEP, at place 0 with 0 steps. The time is linear
  * in the records. What a collector writes before it reads a stranger's list:

@@ -1,4 +1,4 @@
-/* Calls every function of uplink.h on answers that document 01 prints, on lists whose cost is known, and on wrong input. */
+/* Calls every function of uplink.h on answers that document 01 prints, on lists of functions, on lists whose cost is known, and on wrong input. */
 #include "uplink.h"
 #include <stdio.h>
 #include <string.h>
@@ -85,6 +85,115 @@ static void cubic(void)
     expect(answer.count == 11 && same(out, again, 11), "the same list, in three steps");
     expect(uplink_integrate((uint8_t *)derived, 2 * sizeof *derived, (uint8_t *)sum, sizeof sum, &answer) == UPLINK_DONE, "integrate is done");
     expect(answer.count == 2 && sum[0].number == 1 && sum[0].re == 1 && sum[1].number == 3 && sum[1].re == 1, "x + x^3 again");
+}
+
+/* What a call wrote: these records, in exact room and in ample room; a byte less and a record less are refused. */
+typedef uint64_t (*writer)(uint8_t *out, size_t out_bytes, struct uplink_answer *answer);
+
+static void gives(writer call, const struct uplink_record *records, size_t count, const char *what)
+{
+    struct uplink_record out[16];
+    struct uplink_answer answer;
+    size_t needed = count * sizeof *records, less;
+    uint8_t untouched[sizeof out];
+
+    memset(untouched, 0xa5, sizeof untouched);
+    memset(out, 0xa5, sizeof out);
+    expect(call((uint8_t *)out, sizeof out, &answer) == UPLINK_DONE, what);
+    expect(answer.place == 0 && answer.count == count && same(out, records, count), what);
+    expect(memcmp(out + count, untouched, sizeof out - needed) == 0, "bytes past the count stay");
+    memset(out, 0xa5, sizeof out);
+    expect(call((uint8_t *)out, needed, &answer) == UPLINK_DONE && same(out, records, count), "exact room is enough");
+    memset(out, 0xa5, sizeof out);
+    for (less = 1; less <= sizeof *records; less += sizeof *records - 1) {
+        expect(call((uint8_t *)out, needed - less, &answer) == UPLINK_OUTPUT_ROOM, "room that is short");
+        expect(answer.place == 0 && answer.count == 0, "at place 0, with count 0");
+        expect(memcmp(out, untouched, sizeof out) == 0, "no byte is changed");
+    }
+}
+
+static struct uplink_record on_body(uint32_t inside)
+{
+    struct uplink_record r = body(inside);
+    r.args = 1;
+    return r;
+}
+
+static struct uplink_entry term(uint8_t kind, uint32_t inside, double number, double re)
+{
+    struct uplink_entry e = {0};
+    e.kind = kind;
+    e.inside = inside;
+    e.number = number;
+    e.re = re;
+    return e;
+}
+
+/* x^2 + sin x as a list, and 1 - cos x. */
+static uint64_t slope_of_square_and_sine(uint8_t *out, size_t out_bytes, struct uplink_answer *answer)
+{
+    struct uplink_record list[] = {primitive(UPLINK_DUP), primitive(UPLINK_DUP), primitive(UPLINK_MUL),
+                                   primitive(UPLINK_FLIP), primitive(UPLINK_SIN), primitive(UPLINK_ADD)};
+    return uplink_derivative_faithful((uint8_t *)list, sizeof list, out, out_bytes, answer);
+}
+
+static uint64_t area_of_one_less_cosine(uint8_t *out, size_t out_bytes, struct uplink_answer *answer)
+{
+    struct uplink_record list[] = {primitive(UPLINK_COS), primitive(UPLINK_NOT)};
+    return uplink_integral_faithful((uint8_t *)list, sizeof list, out, out_bytes, answer);
+}
+
+/* x^2 + sin(0 x), and x + sin x. */
+static uint64_t square_and_sine_of_zeros(uint8_t *out, size_t out_bytes, struct uplink_answer *answer)
+{
+    struct uplink_entry sum[] = {term(UPLINK_TERM_X, 0, 2, 1), term(UPLINK_TERM_SIN, 1, 0, 1), term(UPLINK_TERM_X, 0, 1, 0)};
+    return uplink_write_faithful((uint8_t *)sum, sizeof sum, 0, out, out_bytes, answer);
+}
+
+static uint64_t x_and_sine(uint8_t *out, size_t out_bytes, struct uplink_answer *answer)
+{
+    struct uplink_entry sum[] = {term(UPLINK_TERM_X, 0, 1, 1), term(UPLINK_TERM_SIN, 1, 0, 1), term(UPLINK_TERM_X, 0, 1, 1)};
+    return uplink_write_faithful((uint8_t *)sum, sizeof sum, 0, out, out_bytes, answer);
+}
+
+/* Lists that mean what the sum says. */
+static void faithful(void)
+{
+    struct uplink_record slope[] = {modifier(UPLINK_ON, 3), on_body(2), push(2), primitive(UPLINK_MUL),
+                                    primitive(UPLINK_IDENTITY), primitive(UPLINK_COS), primitive(UPLINK_ADD)};
+    struct uplink_record area[] = {primitive(UPLINK_DUP), primitive(UPLINK_IDENTITY), primitive(UPLINK_SIN),
+                                   push(-1), primitive(UPLINK_MUL), primitive(UPLINK_ADD)};
+    struct uplink_record zeros[] = {modifier(UPLINK_ON, 3), on_body(2), primitive(UPLINK_DUP), primitive(UPLINK_MUL),
+                                    push(0), primitive(UPLINK_MUL), primitive(UPLINK_SIN), primitive(UPLINK_ADD)};
+    struct uplink_record sine[] = {primitive(UPLINK_DUP), primitive(UPLINK_IDENTITY), primitive(UPLINK_SIN), primitive(UPLINK_ADD)};
+
+    gives(slope_of_square_and_sine, slope, sizeof slope / sizeof *slope, "2x + cos x");
+    gives(area_of_one_less_cosine, area, sizeof area / sizeof *area, "x - sin x");
+    gives(square_and_sine_of_zeros, zeros, sizeof zeros / sizeof *zeros, "x^2 + sin(0 x)");
+    gives(x_and_sine, sine, sizeof sine / sizeof *sine, "x + sin x");
+}
+
+/* Where the two writers agree: on powers of x, and on what is refused. */
+static void both_writers(void)
+{
+    struct uplink_entry powers[] = {term(UPLINK_TERM_X, 0, 0, 5), term(UPLINK_TERM_X, 0, 0.5, -1), term(UPLINK_TERM_X, 0, 3, 2)};
+    struct uplink_entry imaginary[] = {term(UPLINK_TERM_SIN, 1, 0, 1), term(UPLINK_TERM_X, 0, 1, 2)};
+    struct uplink_record one[32], other[32];
+    struct uplink_answer first, second;
+    uint8_t complex;
+
+    imaginary[1].im = 2.220446049250313e-16;
+    for (complex = 0; complex < 3; complex++) {
+        uplink_write((uint8_t *)powers, sizeof powers, complex, (uint8_t *)one, sizeof one, &first);
+        expect(uplink_write_faithful((uint8_t *)powers, sizeof powers, complex, (uint8_t *)other, sizeof other, &second) == UPLINK_DONE, "powers");
+        expect(first.count == 17 && second.count == 17 && same(one, other, 17), "of powers of x the same bytes");
+        expect(uplink_write_faithful((uint8_t *)imaginary, sizeof imaginary, complex, (uint8_t *)other, sizeof other, &second)
+                   == (complex ? UPLINK_DONE : UPLINK_NOT_FINITE), "an imaginary part of 2^-52 inside an argument");
+    }
+    expect(uplink_write_faithful((uint8_t *)powers, sizeof powers - 1, 0, (uint8_t *)other, sizeof other, &second) == UPLINK_BAD_RECORD, "no sum");
+    powers[1].number = 0;
+    expect(uplink_write_faithful((uint8_t *)powers, sizeof powers, 0, (uint8_t *)other, sizeof other, &second) == UPLINK_BAD_RECORD, "powers that don't rise");
+    expect(second.place == 0 && second.count == 0, "at place 0, with count 0");
 }
 
 /* 2x + 5 and its inverse; 1/x and its integral. */
@@ -272,6 +381,8 @@ int main(void)
     expect(sizeof(struct uplink_record) == UPLINK_RECORD_BYTES, "a record's size");
     expect(sizeof(struct uplink_entry) == UPLINK_ENTRY_BYTES, "an entry's size");
     cubic();
+    faithful();
+    both_writers();
     others();
     nought();
     overflows();

@@ -5,9 +5,9 @@
  * Every buffer is of exact size and comes from malloc, and the answers start undefined, so that valgrind sees
  * any byte read or written outside of what was lent and any answer that isn't written. The program itself sees
  * that a refusal changes no byte and has counts of zero, that a success leaves the bytes past its count, that
- * the input stays, that room doesn't change a result, and that the same call twice gives the same. Nested Both,
- * which nobody can read to its end, and damaged copies of it go through uplink_cost alone, which has to tell in
- * milliseconds what they cost.
+ * the input stays, that room doesn't change a result, that the same call twice gives the same, and that both
+ * writers refuse alike. Nested Both, which nobody can read to its end, and damaged copies of it go through
+ * uplink_cost alone, which has to tell in milliseconds what they cost.
  *
  * With a third word it does wrong on purpose, to show that it would be noticed: it writes a byte past the room
  * that was lent, changes a byte after a refusal, or reads an answer that nobody wrote. */
@@ -266,15 +266,19 @@ static struct bytes some_bytes(int is_list) {
 
 /* ---- calls */
 
-enum function { READ, DERIVATIVE, INTEGRAL, INVERSE, DERIVE, INTEGRATE, WRITE, RUN, COST, FUNCTIONS };
+enum function {
+    READ, DERIVATIVE, INTEGRAL, INVERSE, DERIVATIVE_FAITHFUL, INTEGRAL_FAITHFUL, DERIVE, INTEGRATE, WRITE, WRITE_FAITHFUL,
+    RUN, COST, FUNCTIONS
+};
 
-static const char *const names[FUNCTIONS] = {"read",      "derivative", "integral", "inverse", "derive",
-                                             "integrate", "write",      "run",      "cost"};
+static const char *const names[FUNCTIONS] = {
+    "read", "derivative", "integral", "inverse", "derivative_faithful", "integral_faithful", "derive", "integrate", "write",
+    "write_faithful", "run", "cost"};
 static unsigned long counts[FUNCTIONS][NUMBERS];
 static const char *wrong = "";
 
 static int takes_a_list(enum function function) {
-    return function != DERIVE && function != INTEGRATE && function != WRITE;
+    return function != DERIVE && function != INTEGRATE && function != WRITE && function != WRITE_FAITHFUL;
 }
 
 static int writes_bytes(enum function function) {
@@ -321,7 +325,10 @@ static struct given call(enum function function, struct bytes input, uint8_t com
     case INVERSE: given.number = uplink_inverse(input.at, input.length, out, room, two); break;
     case DERIVE: given.number = uplink_derive(input.at, input.length, out, room, two); break;
     case INTEGRATE: given.number = uplink_integrate(input.at, input.length, out, room, two); break;
+    case DERIVATIVE_FAITHFUL: given.number = uplink_derivative_faithful(input.at, input.length, out, room, two); break;
+    case INTEGRAL_FAITHFUL: given.number = uplink_integral_faithful(input.at, input.length, out, room, two); break;
     case WRITE: given.number = uplink_write(input.at, input.length, complex, out, room, two); break;
+    case WRITE_FAITHFUL: given.number = uplink_write_faithful(input.at, input.length, complex, out, room, two); break;
     case COST: given.number = uplink_cost(input.at, input.length, cost); break;
     default: given.number = uplink_run(input.at, input.length, x, value, ran);
     }
@@ -401,12 +408,28 @@ static void send(enum function function, struct bytes input) {
     free(ample.out.at);
 }
 
+/* The Rust's writer and the second one refuse the same input, with the same number and place. */
+static void refuse_alike(enum function first, enum function second, struct bytes input) {
+    uint8_t complex = (uint8_t)below(2);
+    struct given one = call(first, input, complex, 0, UPLINK_LIST_BYTES);
+    struct given other = call(second, input, complex, 0, UPLINK_LIST_BYTES);
+    if (one.number != other.number || one.place != other.place)
+        fail(second, input, UPLINK_LIST_BYTES, "the writers don't refuse alike");
+    free(one.out.at), free(other.out.at);
+}
+
 /* Every list function on lists and at times on sums, and the reverse. */
 static void send_to_all(int is_list) {
     struct bytes input = some_bytes(is_list);
     int crosses = below(20) == 0;
     for (enum function function = READ; function < FUNCTIONS; function++)
         if (takes_a_list(function) == is_list || crosses) send(function, input);
+    if (is_list) {
+        refuse_alike(DERIVATIVE, DERIVATIVE_FAITHFUL, input);
+        refuse_alike(INTEGRAL, INTEGRAL_FAITHFUL, input);
+    } else {
+        refuse_alike(WRITE, WRITE_FAITHFUL, input);
+    }
     free(input.at);
 }
 
@@ -439,7 +462,7 @@ static void cost_nested_both(size_t boths, size_t inside) {
     if (given.number != (is_deep ? UPLINK_TOO_DEEP : UPLINK_DONE)) fail(COST, input, 0, "another number");
     if (!is_deep && given.second != steps_of_both(boths, inside)) fail(COST, input, 0, "another cost");
     if (milliseconds > MOST_MILLISECONDS) fail(COST, input, 0, "it takes too long");
-    if (boths == 64 && inside == 1) printf("cost       twice of 64 nested Boths in %.1f ms\n", milliseconds);
+    if (boths == 64 && inside == 1) printf("cost                twice of 64 nested Boths in %.1f ms\n", milliseconds);
     free(given.out.at), free(input.at);
 }
 
@@ -460,7 +483,7 @@ static int report(void) {
     int missing = 0;
     for (enum function function = READ; function < FUNCTIONS; function++) {
         unsigned long refused = 0;
-        printf("%-10s done %lu; refused", names[function], counts[function][0]);
+        printf("%-19s done %lu; refused", names[function], counts[function][0]);
         for (int number = 1; number < NUMBERS; number++) {
             refused += counts[function][number];
             if (counts[function][number] > 0) printf(" %d:%lu", number, counts[function][number]);
