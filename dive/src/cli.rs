@@ -1,7 +1,8 @@
 //! The words of the command line.
 
 use crate::{
-    cost::ToRead, explain::Asked, failure::Failure, help, nearest::nearest, numbers, table::Minutes,
+    cost::ToRead, explain::Asked, failure::Failure, help, nearest::nearest, numbers,
+    table::Minutes, writer::Writer,
 };
 
 /// What the command line asks for.
@@ -30,6 +31,7 @@ pub enum Command {
     /// Derivative, integral, inverse, or the list written anew.
     Make {
         asked: Asked,
+        writer: Writer,
         list: ToRead,
         out: Option<String>,
     },
@@ -56,6 +58,7 @@ struct Words {
     out: Option<String>,
     csv: bool,
     long: bool,
+    as_rust: bool,
     help: bool,
 }
 
@@ -124,6 +127,7 @@ fn sorted(rest: &[String]) -> Result<Words, String> {
             }
             "--csv" => words.csv = true,
             "--long" => words.long = true,
+            "--as-rust" => words.as_rust = true,
             "-h" | "--help" => words.help = true,
             option
                 if option.len() > 1
@@ -159,6 +163,9 @@ const READING: [&str; 7] = [
     "plot",
 ];
 
+/// The commands that write a list of a formula.
+const WRITING: [&str; 3] = ["derivative", "integral", "write"];
+
 fn check_options(name: &str, words: &Words) -> Result<(), Failure> {
     if words.csv && name != "table" {
         return Err(Failure::Usage("--csv is for the table alone".into()));
@@ -173,11 +180,21 @@ fn check_options(name: &str, words: &Words) -> Result<(), Failure> {
             "it doesn't read the list as a formula, and takes no --long".into(),
         ));
     }
+    if words.as_rust && !WRITING.contains(&name) {
+        return Err(Failure::Usage(
+            "it writes no list of a formula, and takes no --as-rust".into(),
+        ));
+    }
     Ok(())
 }
 
 fn of_one_file(name: &str, words: Words) -> Result<Command, Failure> {
     let (file, out, long) = (one(words.plain)?, words.out, words.long);
+    let writer = if words.as_rust {
+        Writer::AsRust
+    } else {
+        Writer::Faithful
+    };
     let asked = match name {
         "show" => return Ok(Command::Show { file }),
         "assemble" => {
@@ -198,7 +215,12 @@ fn of_one_file(name: &str, words: Words) -> Result<Command, Failure> {
         _ => Asked::Inverse,
     };
     let list = ToRead { file, long };
-    Ok(Command::Make { asked, list, out })
+    Ok(Command::Make {
+        asked,
+        writer,
+        list,
+        out,
+    })
 }
 
 fn run(plain: Vec<String>) -> Result<Command, Failure> {
@@ -287,6 +309,7 @@ mod tests {
         );
         let made = Command::Make {
             asked: Asked::Inverse,
+            writer: Writer::Faithful,
             list: list(true),
             out,
         };
@@ -336,6 +359,21 @@ mod tests {
         for line in lines(&["show", "assemble", "text", "cost", "run"]) {
             assert!(parsed(&line).is_ok(), "{line}");
             assert!(refused(&(line + " --long")).contains("takes no --long"));
+        }
+    }
+
+    #[test]
+    fn commands_that_write_a_formula_take_as_rust() {
+        let writer_of = |line: &str| match parsed(line) {
+            Ok(Command::Make { writer, .. }) => writer,
+            other => panic!("{other:?} writes no list"),
+        };
+        for line in lines(&WRITING) {
+            assert_eq!(writer_of(&line), Writer::Faithful, "{line}");
+            assert_eq!(writer_of(&(line.clone() + " --as-rust")), Writer::AsRust);
+        }
+        for line in lines(&["show", "text", "cost", "read", "inverse", "run", "table"]) {
+            assert!(refused(&(line + " --as-rust")).contains("takes no --as-rust"));
         }
     }
 

@@ -3,7 +3,7 @@
 use std::path::Path;
 
 use uplink::{
-    bytes, decode_list, decode_sum, derive, integrate, read, Record, Refused, LIST_BYTES, SUM_BYTES,
+    bytes, decode_list, decode_sum, derive, integrate, read, Refused, LIST_BYTES, SUM_BYTES,
 };
 
 use crate::{
@@ -18,6 +18,7 @@ use crate::{
     source::{save, Source},
     table::{self, Minutes},
     words,
+    writer::Writer,
 };
 
 /// What a command prints, and what it remarks beside that.
@@ -52,7 +53,12 @@ pub fn run(command: Command) -> Done {
         Command::Text { file, out } => text(&file, out.as_deref()),
         Command::Cost { file } => cost_of(&file),
         Command::Read { list, out } => read_list(&list, out.as_deref()),
-        Command::Make { asked, list, out } => make(asked, &list, out.as_deref()),
+        Command::Make {
+            asked,
+            writer,
+            list,
+            out,
+        } => make(asked, writer, &list, out.as_deref()),
         Command::Run { file, x } => run_list(&file, x),
         Command::Table { list, minutes, csv } => table(&list, minutes, csv),
         Command::Plot { list, minutes, out } => plot(&list, minutes, &out),
@@ -129,40 +135,52 @@ fn of_source(source: &Source) -> Option<String> {
     remarks::of_list(&source.list().ok()?)
 }
 
-fn make(asked: Asked, given: &ToRead, out: Option<&str>) -> Done {
+/// The list that is asked for.
+fn made<'a>(
+    asked: Asked,
+    writer: Writer,
+    list: &[u8],
+    room: &'a mut [u8],
+) -> Result<&'a [u8], Refused> {
+    match asked {
+        Asked::Derivative => writer.derivative(list, room),
+        Asked::Integral => writer.integral(list, room),
+        Asked::Write => writer.anew(list, room),
+        _ => bytes::inverse(list, room),
+    }
+}
+
+fn make(asked: Asked, writer: Writer, given: &ToRead, out: Option<&str>) -> Done {
     let source = given.load()?;
     let mut room = vec![0; LIST_BYTES];
-    let made = match asked {
-        Asked::Derivative => bytes::derivative(&source.bytes, &mut room),
-        Asked::Integral => bytes::integral(&source.bytes, &mut room),
-        Asked::Write => written_anew(&source.bytes, &mut room),
-        _ => bytes::inverse(&source.bytes, &mut room),
-    };
-    let made = made.map_err(refuse(asked, &source))?;
-    let list = decode_list(made).unwrap_or_default();
-    let (heading, of_result) = about(asked, &source, &list).unwrap_or_default();
-    let remarks = of_source(&source).into_iter().chain(of_result).collect();
+    let list = made(asked, writer, &source.bytes, &mut room).map_err(refuse(asked, &source))?;
+    let (heading, of_formula) = about(asked, &source).unwrap_or_default();
+    let remarks = of_source(&source)
+        .into_iter()
+        .chain(of_formula)
+        .chain(of_writer(asked, &source, list))
+        .collect();
     match out {
-        Some(out) => save(out, made, &given.file).map(|()| Printed {
+        Some(out) => save(out, list, &given.file).map(|()| Printed {
             text: String::new(),
             remarks,
         }),
         None => Ok(Printed {
-            text: heading + &words::shown(&list),
+            text: heading + &words::shown(&decode_list(list).unwrap_or_default()),
             remarks,
         }),
     }
 }
 
-/// The list of the formula that a list stands for.
-fn written_anew<'a>(list: &[u8], room: &'a mut [u8]) -> Result<&'a [u8], Refused> {
-    let mut sum = [0; SUM_BYTES];
-    let found = bytes::read(list, &mut sum)?;
-    bytes::write(found.sum, found.is_complex, room)
+/// What is to be remarked of a list that isn't the one that means what the formula says.
+fn of_writer(asked: Asked, source: &Source, list: &[u8]) -> Option<String> {
+    let mut room = vec![0; LIST_BYTES];
+    let faithful = made(asked, Writer::Faithful, &source.bytes, &mut room).ok()?;
+    (faithful != list).then(|| remarks::of_the_rusts(&decode_list(list).unwrap_or_default()))
 }
 
-/// The formula that a list is written from, where there is one, and what is to be remarked.
-fn about(asked: Asked, source: &Source, list: &[Record]) -> Option<(String, Vec<String>)> {
+/// The formula that a list is written from, where there is one, and what is to be remarked of it.
+fn about(asked: Asked, source: &Source) -> Option<(String, Option<String>)> {
     let sum = read(&source.list().ok()?).ok()?.entries;
     let (made, remark) = match asked {
         Asked::Derivative => (derive(&sum).ok()?, remarks::of_derivative(&sum)),
@@ -170,11 +188,7 @@ fn about(asked: Asked, source: &Source, list: &[Record]) -> Option<(String, Vec<
         Asked::Write => (sum, None),
         _ => return None,
     };
-    let written = remarks::of_written(&made, list);
-    Some((
-        formula(&made) + "\n\n",
-        remark.into_iter().chain(written).collect(),
-    ))
+    Some((formula(&made) + "\n\n", remark))
 }
 
 fn run_list(file: &str, x: f64) -> Done {

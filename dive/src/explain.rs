@@ -191,6 +191,7 @@ mod tests {
     use uplink::LIST_BYTES;
 
     use super::*;
+    use crate::writer::Writer;
 
     /// What is asked of a list, and the refusal if it is refused.
     fn refusals(list: &[u8]) -> Vec<(Asked, Refused)> {
@@ -200,8 +201,11 @@ mod tests {
             |asked, refused: Option<Refused>| found.extend(refused.map(|refused| (asked, refused)));
         add(Asked::Cost, bytes::cost(list).err());
         add(Asked::Read, bytes::read(list, &mut room).err());
-        add(Asked::Derivative, bytes::derivative(list, &mut room).err());
-        add(Asked::Integral, bytes::integral(list, &mut room).err());
+        for writer in [Writer::Faithful, Writer::AsRust] {
+            add(Asked::Derivative, writer.derivative(list, &mut room).err());
+            add(Asked::Integral, writer.integral(list, &mut room).err());
+            add(Asked::Write, writer.anew(list, &mut room).err());
+        }
         add(Asked::Inverse, bytes::inverse(list, &mut room).err());
         for x in [2.0, f64::NAN] {
             add(Asked::Run(x), bytes::run(list, x).err());

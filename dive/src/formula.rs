@@ -110,17 +110,6 @@ pub fn table(sum: &[Entry]) -> String {
     text
 }
 
-/// Whether two sums are the same but for terms with coefficient zero.
-pub fn same_but_for_zeros(one: &[Entry], other: &[Entry]) -> bool {
-    let terms = |sum| -> Vec<(Entry, Vec<Entry>)> {
-        level(sum)
-            .filter(|(entry, _)| entry.re != 0.0 || entry.im != 0.0)
-            .map(|(entry, inside)| (*entry, inside.to_vec()))
-            .collect()
-    };
-    terms(one) == terms(other)
-}
-
 #[cfg(test)]
 mod tests {
     use super::*;
@@ -174,13 +163,5 @@ mod tests {
     fn terms_stand_in_a_table() {
         let sum = [Entry::power(1.0, 60.0), Entry::power(2.0, -6.0)];
         assert_eq!(table(&sum), "term  coefficient\nx     60\nx^2   -6\n");
-    }
-
-    #[test]
-    fn zeros_make_no_difference() {
-        let one = [Entry::power(0.0, 3.0)];
-        let other = [Entry::power(0.0, 3.0), Entry::power(1.0, 0.0)];
-        assert!(same_but_for_zeros(&one, &other));
-        assert!(!same_but_for_zeros(&one, &[Entry::power(0.0, 4.0)]));
     }
 }

@@ -25,6 +25,7 @@ dive: formulas of dives as lists of steps
   dive plot FILE FROM TO STEP -o OUT   the same as a picture (SVG)
   dive help COMMAND                    more about a command
   dive help notation                   the text notation
+  dive help writers                    why there are two writers of lists
 
 FILE is a list of records (24 bytes each) or in the text notation: a file with
 a zero byte in it is taken as records, any other as text. - is what comes from
@@ -33,11 +34,14 @@ the standard input.
 A list that takes more than ten million steps to read is read only with --long:
 `dive help cost`.
 
+derivative, integral and write print a list that means what the formula says.
+With --as-rust they print the one that the Rust writes: `dive help writers`.
+
 Exit codes: 0 done, 1 refused, 2 wrong usage or a file that can't be read or
 written.
 ";
 
-pub const COMMANDS: [Command; 13] = [
+pub const COMMANDS: [Command; 14] = [
     Command {
         name: "show",
         usage: "show FILE",
@@ -95,19 +99,20 @@ nothing is printed.
     },
     Command {
         name: "derivative",
-        usage: "derivative FILE [-o OUT] [--long]",
+        usage: "derivative FILE [-o OUT] [--as-rust] [--long]",
         about: "\
 Prints the derivative of the list's formula, and the list of steps that computes
 it: for a list of depth that is the list of speed. With -o the list is written
-to OUT as records, and nothing is printed.
+to OUT as records, and nothing is printed. --as-rust: see `dive help writers`.
 ",
     },
     Command {
         name: "integral",
-        usage: "integral FILE [-o OUT] [--long]",
+        usage: "integral FILE [-o OUT] [--as-rust] [--long]",
         about: "\
 Prints the integral of the list's formula, and the list of steps that computes
 it. With -o the list is written to OUT as records, and nothing is printed.
+--as-rust: see `dive help writers`.
 ",
     },
     Command {
@@ -120,12 +125,12 @@ Prints the list of steps that undoes the list: from a depth to the minute. With
     },
     Command {
         name: "write",
-        usage: "write FILE [-o OUT] [--long]",
+        usage: "write FILE [-o OUT] [--as-rust] [--long]",
         about: "\
 Prints the list's formula, and a list of steps that is written from it: terms in
 rising order, and On the only modifier, so that the page can run it where all
 powers are whole. With -o the list is written to OUT as records, and nothing is
-printed.
+printed. --as-rust: see `dive help writers`.
 ",
     },
     Command {
@@ -153,6 +158,9 @@ metres per minute, above 0 on the way down) at the minutes FROM, FROM + STEP and
 so on up to TO. Metres are rounded to two digits; --csv prints every number in
 full, parted by commas. Where there is no value there is a dash, and below the
 table it is said why.
+
+The list that is run for the speed is the one that `dive derivative` prints
+without --as-rust. Of powers of x alone the Rust's is the same.
 ",
     },
     Command {
@@ -161,6 +169,32 @@ table it is said why.
         about: "\
 Writes the table of `dive table` to OUT as a picture (SVG): depth above, growing
 downward, and speed below, over the same minutes.
+",
+    },
+    Command {
+        name: "writers",
+        usage: "help writers",
+        about: "\
+There are two writers, which make a list of steps from a formula.
+
+derivative, integral and write use the one whose lists mean what the formula
+says: run, such a list adds the formula's terms in order, each function taken of
+the value of its argument. This is proved.
+
+The other one is that of the Rust which the library ports; --as-rust prints its
+list. It writes a function's argument on the list so far. So where a function
+stands behind other terms its argument comes out wrong: x^2 + sin x has the
+derivative 2 x + cos x, and the Rust's list computes 2 x + cos 2x. It is kept to
+the byte, so that a list can be compared with the Rust's, and a remark says what
+it computes.
+
+Of powers of x alone, the usual fit of a dive, both write the same bytes. Table
+and plot run the list that means what the formula says.
+
+Example
+
+  dive derivative samples/swell.txt
+  dive derivative samples/swell.txt --as-rust
 ",
     },
     Command {
@@ -203,11 +237,14 @@ pub fn of(name: &str) -> Option<String> {
     Some(format!("dive {}\n\n{}", command.usage, command.about))
 }
 
+/// What there is help on besides commands.
+const TOPICS: [&str; 2] = ["writers", "notation"];
+
 /// How a command is called.
 pub fn usage(name: &str) -> Option<&'static str> {
     let command = COMMANDS
         .iter()
-        .find(|command| command.name == name && name != "notation")?;
+        .find(|command| command.name == name && !TOPICS.contains(&name))?;
     Some(command.usage)
 }
 

@@ -21,6 +21,7 @@ mod stored;
 mod svg;
 mod table;
 mod words;
+mod writer;
 
 use std::{
     env,

@@ -2,7 +2,7 @@
 
 use uplink::{read, Entry, Primitive, Record, Term};
 
-use crate::formula::{formula, same_but_for_zeros};
+use crate::formula::formula;
 
 /// Of a list with the step 'to the power 0', which runs otherwise than it reads.
 pub fn of_list(list: &[Record]) -> Option<String> {
@@ -41,13 +41,16 @@ pub fn of_integral(sum: &[Entry]) -> Option<String> {
     })
 }
 
-/// Of a list that, read again, isn't the sum that it was written from.
-pub fn of_written(sum: &[Entry], list: &[Record]) -> Option<String> {
-    let back = read(list).ok()?.entries;
-    (!same_but_for_zeros(&back, sum)).then(|| {
-        let found = formula(&back);
-        format!("the list, as it is written, computes another formula: {found} (docs/DIFFERENCES.md, Written lists)")
-    })
+/// Of a list by the Rust's writer, where the other one writes another list: what it computes, if it can be read.
+pub fn of_the_rusts(list: &[Record]) -> String {
+    let computed = read(list).map_or_else(
+        |_| String::new(),
+        |found| format!(": {}", formula(&found.entries)),
+    );
+    format!(
+        "the Rust's list computes another formula{computed} (docs/DIFFERENCES.md, Written lists); \
+         without --as-rust the list means what the formula says"
+    )
 }
 
 #[cfg(test)]
@@ -86,6 +89,16 @@ mod tests {
             Primitive::Pow.into(),
         ];
         assert_eq!(of_list(&apart), None);
+    }
+
+    #[test]
+    fn the_rusts_list_is_remarked_with_what_it_computes() {
+        let list = [Primitive::Dup.into(), Primitive::Add.into()];
+        let said = of_the_rusts(&list);
+        assert!(said.starts_with("the Rust's list computes another formula: 2 x (docs"));
+        // SinH is only written
+        let said = of_the_rusts(&[Primitive::SinH.into()]);
+        assert!(said.starts_with("the Rust's list computes another formula (docs"));
     }
 
     #[test]

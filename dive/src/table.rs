@@ -7,6 +7,7 @@ use crate::{
     failure::Failure,
     numbers,
     source::Source,
+    writer::Writer,
 };
 
 /// The most rows of a table.
@@ -166,9 +167,10 @@ fn gap(name: &str, source: &Source, values: &[Value]) -> Option<String> {
     })
 }
 
+/// The list of the speed, which means what the derivative says.
 fn derivative(source: &Source) -> Result<Source, Failure> {
     let mut room = vec![0; LIST_BYTES];
-    match bytes::derivative(&source.bytes, &mut room) {
+    match Writer::Faithful.derivative(&source.bytes, &mut room) {
         Ok(list) => Ok(Source::of_records(
             format!("the derivative of {}", source.name),
             list,

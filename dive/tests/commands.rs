@@ -390,19 +390,139 @@ fn minutes_without_a_value_are_left_out() {
         .contains("        -1             -               -\n"));
 }
 
+/// The records of a list of steps, as they are printed.
+fn steps(printed: &str) -> Vec<String> {
+    let lines = printed
+        .lines()
+        .skip_while(|line| !line.starts_with("place"));
+    lines
+        .skip(1)
+        .map(|line| line.split("  ").nth(3).unwrap_or_default().trim().into())
+        .collect()
+}
+
 #[test]
-fn a_list_that_computes_another_formula_is_remarked() {
+fn lists_mean_what_the_formula_says() {
+    let ended = line("derivative samples/swell.txt");
+    assert_eq!(ended.remarked, "");
+    let printed = ended.done();
+    assert!(printed.starts_with("60 - 12 x + cos(x)\n"), "{printed}");
+    let file = path(&folder("faithful").join("a.txt"));
+    for (text, command, says, list) in [
+        (
+            "Dup, Dup, Mul, Flip, Sin, Add",
+            "derivative",
+            "2 x + cos(x)",
+            "On { push 2, Mul }, Identity, Cos, Add",
+        ),
+        (
+            "Cos, Not",
+            "integral",
+            "x - sin(x)",
+            "Dup, Identity, Sin, push -1, Mul, Add",
+        ),
+        (
+            "Dup, Sin, Add",
+            "write",
+            "x + sin(x)",
+            "Dup, Identity, Sin, Add",
+        ),
+    ] {
+        fs::write(&file, text).expect("a file");
+        let ended = line(&format!("{command} {file}"));
+        assert_eq!(ended.remarked, "", "{command}");
+        assert!(ended.done().starts_with(says));
+        let out = path(&folder("faithful_out").join("a.list"));
+        line(&format!("{command} {file} -o {out}")).done();
+        let written = line(&format!("text {out}")).done();
+        let expected = path(&folder("faithful_expected").join("b.txt"));
+        fs::write(&expected, list).expect("a file");
+        assert_eq!(written, line(&format!("text {expected}")).done());
+    }
+}
+
+#[test]
+fn the_rusts_list_computes_another_formula() {
     let file = path(&folder("departs").join("a.txt"));
-    fs::write(&file, "Dup, Sin, Add").expect("a file");
-    let ended = line(&format!("derivative {file}"));
+    for (text, command, computed) in [
+        ("Dup, Sin, Add", "derivative", "1 + 0 x + cos(2 x)"),
+        (
+            "Dup, Dup, Mul, Flip, Sin, Add",
+            "derivative",
+            "2 x + cos(2 x)",
+        ),
+        // a function times a number is written, and not read
+        ("Cos, Not", "integral", ""),
+        ("Dup, Sin, Add", "write", "x + sin(2 x)"),
+    ] {
+        fs::write(&file, text).expect("a file");
+        let plain = line(&format!("{command} {file}")).done();
+        let ended = line(&format!("{command} {file} --as-rust"));
+        let colon = if computed.is_empty() { "" } else { ": " };
+        let said = format!("the Rust's list computes another formula{colon}{computed} (");
+        assert!(ended.remarked.contains(&said), "{}", ended.remarked);
+        let printed = ended.done();
+        // the formula is the same, and the list is another
+        assert_eq!(printed.lines().next(), plain.lines().next());
+        assert_ne!(steps(&printed), steps(&plain));
+    }
+}
+
+#[test]
+fn of_powers_both_writers_write_the_same() {
+    for sample in ["parabola", "cubic", "fit", "on", "fork", "drag", "root"] {
+        for command in ["derivative", "integral", "write"] {
+            let plain = line(&format!("{command} samples/{sample}.txt"));
+            let rusts = line(&format!("{command} samples/{sample}.txt --as-rust"));
+            assert_eq!(plain.remarked, rusts.remarked, "{command} {sample}");
+            assert_eq!(plain.done(), rusts.done(), "{command} {sample}");
+        }
+    }
+}
+
+/// x + 1/(x + 1) has a speed that can be run, and the Rust's list of it is another one.
+#[test]
+fn a_table_runs_the_list_that_means_what_the_formula_says() {
+    let folder = folder("speed");
+    let (file, rusts) = (path(&folder.join("a.txt")), path(&folder.join("b.list")));
+    fs::write(&file, "Dup, push 1, Add, Reciprocal, Add").expect("a file");
+    let table = line(&format!("table {file} 1 1 1")).done();
     assert!(
-        ended
-            .remarked
-            .contains("computes another formula: 1 + 0 x + cos(2 x)"),
-        "{}",
-        ended.remarked
+        table.ends_with("         1          1.50            1.25\n"),
+        "{table}"
     );
-    assert!(ended.done().starts_with("1 + cos(x)\n"));
+    let faithful = path(&folder.join("c.list"));
+    line(&format!("derivative {file} -o {faithful}")).done();
+    assert!(line(&format!("run {faithful} 1"))
+        .done()
+        .starts_with("value  1.25\n"));
+    line(&format!("derivative {file} --as-rust -o {rusts}")).done();
+    assert!(!line(&format!("run {rusts} 1"))
+        .done()
+        .starts_with("value  1.25\n"));
+}
+
+#[test]
+fn help_tells_why_there_are_two_writers() {
+    assert!(line("help").done().contains("dive help writers"));
+    let help = line("help writers").done();
+    assert!(
+        help.contains("the Rust's list computes 2 x + cos 2x"),
+        "{help}"
+    );
+    for command in ["derivative", "integral", "write"] {
+        let help = line(&format!("help {command}")).done();
+        assert!(help
+            .lines()
+            .next()
+            .is_some_and(|usage| usage.contains("[--as-rust]")));
+        assert!(help.contains("dive help writers"), "{help}");
+    }
+    assert!(line("help table")
+        .done()
+        .contains("`dive derivative` prints"));
+    let said = line("read samples/fit.txt --as-rust").failed(2);
+    assert!(said.contains("takes no --as-rust"), "{said}");
 }
 
 #[test]

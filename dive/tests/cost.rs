@@ -68,6 +68,7 @@ fn samples_have_their_costs() {
         ("fork", "10"),
         ("drag", "9"),
         ("root", "10"),
+        ("swell", "13"),
         ("unfinished", "8"),
         ("hostile", "18446744073709551613"),
     ];
