@@ -68,7 +68,7 @@ fn is_refused(k: Keyword, input: &[u8], room: usize, number: u64) -> bool
 }
 
 // The room that a success needs, less a byte.
-fn with_short_room(name: &[u8], counts: &mut [u64; 80], k: Keyword, input: &[u8], n: usize)
+fn with_short_room(name: &[u8], counts: &mut [u64; 104], k: Keyword, input: &[u8], n: usize)
     requires { ⌜ n ≤ 16389 ⌝ }
 {
     if n == 0 {
@@ -86,7 +86,7 @@ fn with_short_room(name: &[u8], counts: &mut [u64; 80], k: Keyword, input: &[u8]
 }
 
 // The input less its last byte.
-fn with_short_input(name: &[u8], counts: &mut [u64; 80], k: Keyword, input: &[u8]) {
+fn with_short_input(name: &[u8], counts: &mut [u64; 104], k: Keyword, input: &[u8]) {
     let n = input.len();
     if n == 0 {
         return;
@@ -106,7 +106,7 @@ fn with_short_input(name: &[u8], counts: &mut [u64; 80], k: Keyword, input: &[u8
 // With just the room that is needed, and with more.
 fn with_enough_room(
     name: &[u8],
-    counts: &mut [u64; 80],
+    counts: &mut [u64; 104],
     k: Keyword,
     input: &[u8],
     answer: Answer,
@@ -129,7 +129,7 @@ fn with_enough_room(
 // Every call on one input, whose answer and output are stored.
 pub fn replay(
     name: &[u8],
-    counts: &mut [u64; 80],
+    counts: &mut [u64; 104],
     k: Keyword,
     input: &[u8],
     answer: Answer,

@@ -38,6 +38,12 @@ pub const RUN: usize = 8;
 
 pub const BACK: usize = 9;
 
+pub const WRITE_FAITHFUL: usize = 10;
+
+pub const DERIVATIVE_FAITHFUL: usize = 11;
+
+pub const INTEGRAL_FAITHFUL: usize = 12;
+
 pub const ANSWERS: usize = 0;
 
 pub const SHORT_ROOMS: usize = 2;
@@ -45,8 +51,8 @@ pub const SHORT_ROOMS: usize = 2;
 pub const SHORT_INPUTS: usize = 4;
 
 // One more of these.
-fn note(counts: &mut [u64; 80], row: usize, column: usize)
-    requires { ⌜ (row < 10) × (column < 8) ⌝ }
+fn note(counts: &mut [u64; 104], row: usize, column: usize)
+    requires { ⌜ (row < 13) × (column < 8) ⌝ }
 {
     let i = row * 8 + column;
     let n = counts[i];
@@ -56,20 +62,20 @@ fn note(counts: &mut [u64; 80], row: usize, column: usize)
 }
 
 // One more line of this sort.
-pub fn note_line(counts: &mut [u64; 80], column: usize)
+pub fn note_line(counts: &mut [u64; 104], column: usize)
     requires { ⌜ column < 8 ⌝ }
 {
     note(counts, LINES, column);
 }
 
-fn print(counts: &[u64; 80], row: usize, column: usize)
-    requires { ⌜ (row < 10) × (column < 8) ⌝ }
+fn print(counts: &[u64; 104], row: usize, column: usize)
+    requires { ⌜ (row < 13) × (column < 8) ⌝ }
 {
     io::print_decimal(STDOUT_FILENO, counts[row * 8 + column]);
 }
 
 // Writes the place of a call that did not go as it should, if few did not before it.
-fn report(name: &[u8], counts: &[u64; 80], what: &[u8]) {
+fn report(name: &[u8], counts: &[u64; 104], what: &[u8]) {
     if 8 < counts[FAILED] {
         return;
     }
@@ -84,13 +90,13 @@ fn report(name: &[u8], counts: &[u64; 80], what: &[u8]) {
 // Counts a call, and whether it went as it should; where not, it is reported.
 pub fn tally(
     name: &[u8],
-    counts: &mut [u64; 80],
+    counts: &mut [u64; 104],
     row: usize,
     column: usize,
     goes: bool,
     what: &[u8],
 )
-    requires { ⌜ (row < 10) × (column < 7) ⌝ }
+    requires { ⌜ (row < 13) × (column < 7) ⌝ }
 {
     note(counts, row, column);
     if goes {
@@ -101,8 +107,8 @@ pub fn tally(
     report(name, counts, what);
 }
 
-fn print_both(counts: &[u64; 80], row: usize, column: usize, between: &[u8], after: &[u8])
-    requires { ⌜ (row < 10) × (column < 7) ⌝ }
+fn print_both(counts: &[u64; 104], row: usize, column: usize, between: &[u8], after: &[u8])
+    requires { ⌜ (row < 13) × (column < 7) ⌝ }
 {
     print(counts, row, column);
     io::write_all(STDOUT_FILENO, between);
@@ -110,8 +116,8 @@ fn print_both(counts: &[u64; 80], row: usize, column: usize, between: &[u8], aft
     io::write_all(STDOUT_FILENO, after);
 }
 
-fn summary_of(counts: &[u64; 80], row: usize, name: &[u8])
-    requires { ⌜ row < 10 ⌝ }
+fn summary_of(counts: &[u64; 104], row: usize, name: &[u8])
+    requires { ⌜ row < 13 ⌝ }
 {
     io::write_all(STDOUT_FILENO, name);
     print_both(counts, row, ANSWERS, b" answers, ", b" agree; ");
@@ -132,7 +138,7 @@ fn summary_of(counts: &[u64; 80], row: usize, name: &[u8])
 }
 
 // A run writes no bytes, so there is no room that could be short.
-fn summary_of_runs(counts: &[u64; 80]) {
+fn summary_of_runs(counts: &[u64; 104]) {
     io::write_all(STDOUT_FILENO, b"run: ");
     print_both(counts, RUN, ANSWERS, b" answers, ", b" agree; ");
     print_both(
@@ -144,14 +150,14 @@ fn summary_of_runs(counts: &[u64; 80]) {
     );
 }
 
-fn print_line(counts: &[u64; 80], column: usize, after: &[u8])
+fn print_line(counts: &[u64; 104], column: usize, after: &[u8])
     requires { ⌜ column < 8 ⌝ }
 {
     print(counts, LINES, column);
     io::write_all(STDOUT_FILENO, after);
 }
 
-pub fn summary(counts: &[u64; 80]) {
+pub fn summary(counts: &[u64; 104]) {
     print_line(counts, LISTS, b" lists, ");
     print_line(counts, SUMS, b" sums\n");
     summary_of(counts, READ, b"read: ");
@@ -162,6 +168,9 @@ pub fn summary(counts: &[u64; 80]) {
     summary_of(counts, INTEGRAL, b"integral: ");
     summary_of(counts, INVERSE, b"inverse: ");
     summary_of(counts, BACK, b"back: ");
+    summary_of(counts, WRITE_FAITHFUL, b"write_faithful: ");
+    summary_of(counts, DERIVATIVE_FAITHFUL, b"derivative_faithful: ");
+    summary_of(counts, INTEGRAL_FAITHFUL, b"integral_faithful: ");
     summary_of_runs(counts);
     print_line(counts, SKIPPED, b" lines skipped, ");
     print_line(counts, BROKEN, b" broken, ");

@@ -3,7 +3,7 @@ use algebra::answer::Numbers;
 use limits::LIST_RECORDS;
 ghost use Prim.Native.Nat.{_<_};
 
-// What a line is: an input, an answer of an entry, or something else. An answer of `write` begins with the flag that was handed over, and so does that of `read` to what `write` wrote.
+// What a line is: an input, an answer of an entry, or something else. An answer of a writer begins with the flag that was handed over, and so does that of `read` to what `write` wrote.
 pub enum Keyword {
     List,
     Sum,
@@ -18,6 +18,10 @@ pub enum Keyword {
     Run,
     BackReal,
     BackComplex,
+    WriteFaithfulReal,
+    WriteFaithfulComplex,
+    DerivativeFaithful,
+    IntegralFaithful,
     Other,
 }
 
@@ -69,6 +73,23 @@ pub fn keyword_of(line: &[u8]) -> Keyword {
     if crate::text::is_keyword(line, b"back 1") {
         return Keyword::BackComplex;
     }
+    faithful_keyword_of(line)
+}
+
+// The same of the entries with the second writer.
+fn faithful_keyword_of(line: &[u8]) -> Keyword {
+    if crate::text::is_keyword(line, b"write_faithful 0") {
+        return Keyword::WriteFaithfulReal;
+    }
+    if crate::text::is_keyword(line, b"write_faithful 1") {
+        return Keyword::WriteFaithfulComplex;
+    }
+    if crate::text::is_keyword(line, b"derivative_faithful") {
+        return Keyword::DerivativeFaithful;
+    }
+    if crate::text::is_keyword(line, b"integral_faithful") {
+        return Keyword::IntegralFaithful;
+    }
     Keyword::Other
 }
 
@@ -88,13 +109,17 @@ pub fn word_len(k: Keyword) -> usize {
         Keyword::Run => 3,
         Keyword::BackReal => 6,
         Keyword::BackComplex => 6,
+        Keyword::WriteFaithfulReal => 16,
+        Keyword::WriteFaithfulComplex => 16,
+        Keyword::DerivativeFaithful => 19,
+        Keyword::IntegralFaithful => 17,
         Keyword::Other => 0,
     }
 }
 
 // The row in which an entry's calls are counted; a line that is no answer makes no call.
 pub fn row(k: Keyword) -> usize
-    ensures { λ r. ⌜ r < 10 ⌝ }
+    ensures { λ r. ⌜ r < 13 ⌝ }
 {
     match k {
         Keyword::Read => crate::count::READ,
@@ -108,6 +133,10 @@ pub fn row(k: Keyword) -> usize
         Keyword::Run => crate::count::RUN,
         Keyword::BackReal => crate::count::BACK,
         Keyword::BackComplex => crate::count::BACK,
+        Keyword::WriteFaithfulReal => crate::count::WRITE_FAITHFUL,
+        Keyword::WriteFaithfulComplex => crate::count::WRITE_FAITHFUL,
+        Keyword::DerivativeFaithful => crate::count::DERIVATIVE_FAITHFUL,
+        Keyword::IntegralFaithful => crate::count::INTEGRAL_FAITHFUL,
         _ => crate::count::LINES,
     }
 }
@@ -119,6 +148,8 @@ pub fn takes_sum(k: Keyword) -> bool {
         Keyword::Integrate => true,
         Keyword::WriteReal => true,
         Keyword::WriteComplex => true,
+        Keyword::WriteFaithfulReal => true,
+        Keyword::WriteFaithfulComplex => true,
         Keyword::BackReal => true,
         Keyword::BackComplex => true,
         _ => false,
@@ -207,6 +238,10 @@ pub fn call(k: Keyword, input: &[u8], out: &mut [u8]) -> Answer {
         Keyword::Inverse => given(algebra::inverse(input, out)),
         Keyword::BackReal => back(input, false, out),
         Keyword::BackComplex => back(input, true, out),
+        Keyword::WriteFaithfulReal => given(algebra::write_faithful(input, false, out)),
+        Keyword::WriteFaithfulComplex => given(algebra::write_faithful(input, true, out)),
+        Keyword::DerivativeFaithful => given(algebra::derivative_faithful(input, out)),
+        Keyword::IntegralFaithful => given(algebra::integral_faithful(input, out)),
         _ => refusal(0, 0),
     }
 }

@@ -34,7 +34,7 @@ enum Stored {
     Broken,
 }
 
-fn list_line(line: &[u8], counts: &mut [u64; 80], input: &mut [u8]) -> Held {
+fn list_line(line: &[u8], counts: &mut [u64; 104], input: &mut [u8]) -> Held {
     let decoded = crate::text::decode(line, 4, RECORD, input);
     match decoded {
         Decoded::Bytes(n) => {
@@ -48,7 +48,7 @@ fn list_line(line: &[u8], counts: &mut [u64; 80], input: &mut [u8]) -> Held {
     }
 }
 
-fn sum_line(line: &[u8], counts: &mut [u64; 80], input: &mut [u8]) -> Held {
+fn sum_line(line: &[u8], counts: &mut [u64; 104], input: &mut [u8]) -> Held {
     let decoded = crate::text::decode(line, 3, ENTRY, input);
     match decoded {
         Decoded::Bytes(n) => {
@@ -116,7 +116,7 @@ fn stored_of(line: &[u8], k: Keyword, want: &mut [u8]) -> Stored {
 // The calls on the first n bytes of the input, of whose output the first m bytes of want are stored.
 fn replay(
     name: &[u8],
-    counts: &mut [u64; 80],
+    counts: &mut [u64; 104],
     k: Keyword,
     input: &[u8],
     n: usize,
@@ -155,7 +155,7 @@ fn held_bytes(held: Held) -> usize {
 fn answer_line(
     name: &[u8],
     line: &[u8],
-    counts: &mut [u64; 80],
+    counts: &mut [u64; 104],
     k: Keyword,
     held: Held,
     input: &[u8],
@@ -174,7 +174,7 @@ fn answer_line(
     replay(name, counts, k, input, n, answer, want, m);
 }
 
-fn run_line(name: &[u8], line: &[u8], counts: &mut [u64; 80], held: Held, input: &[u8]) {
+fn run_line(name: &[u8], line: &[u8], counts: &mut [u64; 104], held: Held, input: &[u8]) {
     let Held::List(n) = held else {
         crate::count::note_line(counts, crate::count::BROKEN);
         return;
@@ -190,7 +190,7 @@ fn run_line(name: &[u8], line: &[u8], counts: &mut [u64; 80], held: Held, input:
 fn run(
     name: &[u8],
     line: &[u8],
-    counts: &mut [u64; 80],
+    counts: &mut [u64; 104],
     held: Held,
     input: &mut [u8],
     want: &mut [u8],
@@ -235,7 +235,7 @@ pub fn run_all(
     name: &[u8],
     text: &[u8],
     n: usize,
-    counts: &mut [u64; 80],
+    counts: &mut [u64; 104],
     held: Held,
     input: &mut [u8],
     want: &mut [u8],

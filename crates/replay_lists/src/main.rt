@@ -9,10 +9,11 @@ mod runs;
 pub mod text;
 
 fn main() {
-    let mut counts = [0u64; 80];
+    let mut counts = [0u64; 104];
     files::run(b"lists.txt", &mut counts);
     files::run(b"sums.txt", &mut counts);
     files::run(b"limits.txt", &mut counts);
+    files::run(b"faithful.txt", &mut counts);
     files::run(b"runs.txt", &mut counts);
     crate::count::summary(&counts);
 }

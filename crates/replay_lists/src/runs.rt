@@ -83,7 +83,7 @@ fn is_given(list: &[u8], want: Run) -> bool {
 }
 
 // The list less its last byte is refused, and nothing is told of it.
-fn with_short_input(name: &[u8], counts: &mut [u64; 80], list: &[u8], x: u64) {
+fn with_short_input(name: &[u8], counts: &mut [u64; 104], list: &[u8], x: u64) {
     let n = list.len();
     if n == 0 {
         return;
@@ -109,7 +109,7 @@ fn with_short_input(name: &[u8], counts: &mut [u64; 80], list: &[u8], x: u64) {
 }
 
 // Every run of the list that a line asks for.
-pub fn replay(name: &[u8], counts: &mut [u64; 80], line: &[u8], list: &[u8]) {
+pub fn replay(name: &[u8], counts: &mut [u64; 104], line: &[u8], list: &[u8]) {
     let stored = stored_of(line);
     let Stored::Answer(run) = stored else {
         crate::count::note_line(counts, crate::count::BROKEN);
