@@ -47,7 +47,7 @@ enum uplink_number {
     UPLINK_NOT_FINITE = 15,        /* a number that isn't finite, given or formed, but for a power of x */
     UPLINK_BIG_POWER = 16,         /* a sum raised to a whole number above 64 */
     UPLINK_OUTPUT_ROOM = 17,       /* the output lent is too short */
-    UPLINK_POWER_NOT_FINITE = 18   /* a power of x formed that isn't finite: read, derive, derivative, integral, inverse */
+    UPLINK_POWER_NOT_FINITE = 18   /* a power of x formed that isn't finite: derive, and all that read a list */
 };
 
 /* Sizes in bytes, and the most there can be. A buffer of UPLINK_LIST_BYTES takes every list, one of

@@ -430,6 +430,32 @@ mod writing {
         let rust = written(rust::write(&sum.entries, false));
         assert_eq!(rust, "On(1: Dup), Add, Sin, Add");
         close(value(&rust, 0.7), 0.7 + 1.4f64.sin());
+        let list = text::list("Dup, Dup, Mul, Flip, Sin, Add");
+        let rust = written(rust::derivative(&list));
+        close(value(&rust, 0.7), 1.4 + 1.4f64.cos());
+    }
+
+    /// The second writer's lists of the same sums.
+    #[test]
+    fn the_second_writers_arguments_are_their_own() {
+        let faithful = |answer: Answer<Vec<u8>>| in_words(&answer.done().expect("a list"));
+        let derivative = |words: &str| faithful(judge::derivative_faithful(&text::list(words)));
+        assert_eq!(
+            derivative("Dup, Sin, Add"),
+            "On(1: push 0, Mul, push 1, Add), Identity, Cos, Add"
+        );
+        assert_eq!(
+            derivative("Dup, Dup, Mul, Flip, Sin, Add"),
+            "On(1: push 2, Mul), Identity, Cos, Add"
+        );
+        assert_eq!(
+            faithful(judge::integral_faithful(&text::list("Cos, Not"))),
+            "Dup, Identity, Sin, push -1, Mul, Add"
+        );
+        let sum = judge::read(&text::list("Dup, Dup, Sub, Sin, Add"));
+        let list = faithful(judge::write_faithful(&sum.done().unwrap().entries, false));
+        assert_eq!(list, "Dup, push 0, Mul, Sin, Add");
+        close(value(&list, 0.7), 0.7);
     }
 
     #[test]
