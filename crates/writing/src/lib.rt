@@ -375,6 +375,23 @@ fn write_few(
     )
 }
 
+// A sum of any size. The two drafts stand in functions of their own, so that the room that they take on the stack is not added up.
+fn write_many(
+    kinds: &[u8],
+    insides: &[u8],
+    numbers: &[[u64; 3]],
+    j: usize,
+    m: usize,
+    complex: bool,
+    out: &mut [u8],
+) -> Wrote
+    requires { ⌜ Held (lent kinds insides numbers) j (j + m) sumLevels × (m ≤ sumEntries) ⌝ }
+    ensures { λ r. ⌜ OfOne (entering kinds insides numbers) j (j + m) sumLevels (λ s. Answered (now (out .entry)) (now (out .exit)) r (toNodes complex s)) ⌝ }
+{
+    let mut b = [0u8; RECORD_BYTES * DRAFT_RECORDS];
+    write_in(kinds, insides, numbers, j, m, complex, &mut b, FRONT, out)
+}
+
 // The sum of m cells from j on goes to the front of out as a list of records, or is refused: 15 where a number cannot be written, then 17 where there is no room.
 pub fn expr_to_node(
     kinds: &[u8],
@@ -391,6 +408,5 @@ pub fn expr_to_node(
     if m <= FEW_ENTRIES {
         return write_few(kinds, insides, numbers, j, m, complex, out);
     }
-    let mut b = [0u8; RECORD_BYTES * DRAFT_RECORDS];
-    write_in(kinds, insides, numbers, j, m, complex, &mut b, FRONT, out)
+    write_many(kinds, insides, numbers, j, m, complex, out)
 }

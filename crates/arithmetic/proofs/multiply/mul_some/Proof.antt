@@ -1,4 +1,5 @@
 -- `arithmetic::multiply::mul_some` meets its contract: of nothing but powers it is formed row by row; of any others whether there is one is asked first, and then it is formed. Assumes nothing.
+use native.Mathlib.Omega.{arith}
 use borrow.Author.Needs.{needs}
 use borrow.Author.Tests.{not-true, not-false}
 use mathlib.Core.Path.{_≡_, sym, _∙_}
@@ -31,7 +32,7 @@ mul-some-spec =
     tie.close
     (tie.spec
     (λ c κs. c .before .before .before .pre .0 .held .1 .room .kinds)
-    (λ c κs. c .before .before .before .before .before .pre .1 .held .1 .room .kinds)
+    (λ c κs. let pre = c .before .before .before .before .before .pre in omega (arith, pre .0 .held .1 .room .kinds, pre .1 .held .1 .room .kinds))
     -- nothing but powers
     (λ c κs.
     let both = c .before .before .before in

@@ -11,7 +11,7 @@ pub put-power-spec : {M : Type 1} → statement M
 put-power-spec =
     tie.close
     (tie.spec
-    (λ c κs. c .before .before .before .pre .2 .1 .room .kinds)
+    (λ c κs. omega (arith, c .before .before .before .pre .2 .1 .room .kinds))
     (λ c κs.
     let end = c .before .before .before .powers-end .ensures in
     let st = c .before .before .before .before .before .before .before in (
