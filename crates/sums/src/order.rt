@@ -276,9 +276,6 @@ pub fn powers_end(kinds: &[u8], p: usize, n: usize) -> usize
     ensures { λ r. ⌜ (p ≤ r) × (r ≤ p + n) ⌝ }
     ensures { λ r. ⌜ ((f : ℕ → Entry) (s : Sum) → ((k : ℕ) → f k .kind ≡ getD (now (kinds .entry)) k 0) → At f p s → Good sumLevels s → n ≡ size s → r ≡ p + powers s) ⌝ }
 {
-    if all_powers(kinds, p, n) {
-        return p + n;
-    }
     let end = p + n;
     let mut k = p;
     while k < end {

@@ -1,4 +1,4 @@
--- `sums::order::powers_end` meets its contract. Where all are powers they end with the sum. The loop's invariant: from k on there is left a sum whose powers are the rest of all. Assumes nothing.
+-- `sums::order::powers_end` meets its contract. The loop's invariant: from k on there is left a sum whose powers are the rest of all. Assumes nothing.
 use Prim.Native.Nat.{ℕ, _+_, _-_, _≤_}
 use native.Mathlib.Omega.{arith}
 use borrow.Author.Needs.{needs}
@@ -9,7 +9,7 @@ use Rattle.cells.specs.declared.Entry.{Entry}
 use Rattle.sums.specs.Tree.Sums.{Sum, size}
 use Rattle.sums.specs.Tree.Good.{Good}
 use Rattle.sums.specs.Contract.Lies.{At}
-use Rattle.sums.proofs.order.Powers.{Powers, powers-more, powers-done, only-whole}
+use Rattle.sums.proofs.order.Powers.{Powers, powers-more, powers-done}
 use Rattle.sums.proofs.order.powers_end.Statement.{statement}
 use Rattle.sums.proofs.order.powers_end.Tie as tie
 
@@ -20,28 +20,20 @@ Inv-loop kinds p n end k₀ k =
 abbrev μ-loop : tie.MeasureT-loop
 μ-loop kinds p n end k₀ k = p + n - k
 
--- all are powers
 returns : tie.Need-returns Inv-loop μ-loop
 returns c =
-    let only = c .before .all-powers .ensures .0 (c .if1 .taken) in (
-      (omega arith, omega arith),
-      λ f s e a g z. let all = only-whole f _ (sumLevels - 1) s a g (λ k lo hi. e k ∙ only k lo (omega arith)) in omega arith,
-    )
-
-returns-2 : tie.Need-returns-2 Inv-loop μ-loop
-returns-2 c =
     let turn = c .before .before in
     let inv = turn .before .loop .inv in
-    ((omega arith, omega arith), λ f s e a g z. powers-done f _ _ _ s (inv .2 f s e a g z) (λ h x. c .if2 .taken (sym (e _) ∙ x)))
+    ((omega arith, omega arith), λ f s e a g z. powers-done f _ _ _ s (inv .2 f s e a g z) (λ h x. c .if1 .taken (sym (e _) ∙ x)))
 
 loop-again : tie.Need-loop-again Inv-loop μ-loop
 loop-again c =
     let turn = c .before .before in
     let inv = turn .before .loop .inv in
-    (omega arith, omega arith, λ f s e a g z. powers-more f _ _ _ s (inv .2 f s e a g z) (turn .loop-test .taken) (e _ ∙ c .if2 .left))
+    (omega arith, omega arith, λ f s e a g z. powers-more f _ _ _ s (inv .2 f s e a g z) (turn .loop-test .taken) (e _ ∙ c .if1 .left))
 
-returns-3 : tie.Need-returns-3 Inv-loop μ-loop
-returns-3 c =
+returns-2 : tie.Need-returns-2 Inv-loop μ-loop
+returns-2 c =
     let inv = c .before .loop .inv in
     ((inv .0, inv .1), λ f s e a g z. powers-done f _ _ _ s (inv .2 f s e a g z) (λ h x. omega arith))
 
@@ -51,14 +43,11 @@ powers-end-spec =
     (tie.spec
     Inv-loop
     μ-loop
-    (λ c κs. search needs)
-    (λ c. search needs)
-    returns
     (λ c. search needs)
     (λ c. (omega arith, omega arith, λ f s e a g z. record { t = s; laid = a; good = g; ends = omega arith; same = refl }))
     (λ c. search needs)
-    returns-2
+    returns
     (λ c. search needs)
     (λ c. search needs)
     loop-again
-    returns-3)
+    returns-2)
