@@ -10,6 +10,7 @@ mod measure;
 mod measurements;
 mod report;
 mod sides;
+mod writers;
 
 use measurements::Measurements;
 

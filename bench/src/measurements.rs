@@ -8,6 +8,7 @@ use crate::{
     costs::{self, CostLine, ReadingLine},
     report::{self, Setting},
     sides::{Entry, Table},
+    writers::{self, WriterLine},
 };
 
 type Named<'a> = (&'a str, &'a Group);
@@ -18,6 +19,7 @@ pub struct Measurements {
     tables: [Table; 3],
     /// Of lists that grow, for each entry and shape.
     growth: [[Table; 2]; 3],
+    writers: Vec<WriterLine>,
     costs: Vec<CostLine>,
     readings: Vec<ReadingLine>,
 }
@@ -36,11 +38,13 @@ impl Measurements {
         let mut groups: Vec<Named> = vec![("all lists", &set.all)];
         groups.extend(Kind::ALL.map(Kind::name).into_iter().zip(&set.kinds));
         groups.push(("drag formulas", &drag));
+        let writer = |&(name, group): &Named| writers::writers(name, group, rounds);
         let cost = |&(name, group): &Named| costs::cost(name, group, rounds);
         Measurements {
             setting,
             tables: Entry::ALL.map(|entry| of_groups(entry, &groups, rounds)),
             growth: Entry::ALL.map(|entry| Shape::ALL.map(|shape| grown(entry, shape, rounds))),
+            writers: groups.iter().map(writer).collect(),
             costs: groups.iter().map(cost).collect(),
             readings: costs::readings(),
         }
@@ -50,6 +54,7 @@ impl Measurements {
         report::head(&self.setting)
             + &report::bars(&self.shown().bars())
             + &self.tables()
+            + &report::writers(&self.writers)
             + &report::costs(&self.costs, &self.readings)
     }
 

@@ -7,6 +7,7 @@ use crate::{
     costs::{CostLine, ReadingLine},
     measure::Measured,
     sides::{MODULE, Table},
+    writers::WriterLine,
 };
 
 const HEAD: &str = "\
@@ -38,6 +39,13 @@ The lists (bench/backlog) are the same ones each time: sums of 1 to 12 whole pow
 (x - a)(x - b)²; sums with square roots, and with functions of a straight line. Each has a derivative. 'All lists' are these ten thousand with kinds mixed; each kind is timed by
 itself too. Besides: drag formulas, sums with x to the power 1.5, and lists of one step, which show what a step takes beside the empty list. The run is of the derivatives' lists at
 1.5, of those that run to a value. Lists that grow have the powers from 1 up, 50 lists of each size.
+";
+
+const WRITERS: &str = "\
+## Two writers
+
+`uplink_derivative_faithful`, whose lists mean what the sum says, beside `uplink_derivative`, by turns, in nanoseconds a list. Of powers of x both write the same bytes; with functions the
+second one clears a larger draft. No more than 1.1 times was asked for on sums of powers. What it writes is compared with the plain second writer of oracle/ first.
 ";
 
 const COSTS: &str = "\
@@ -195,6 +203,27 @@ fn full_name(side: &str) -> String {
         MODULE => MODULE.into(),
         form => format!("plain, {form}"),
     }
+}
+
+/// The section on the two writers.
+pub fn writers(lines: &[WriterLine]) -> String {
+    let rows = lines.iter().map(|line| {
+        vec![
+            line.what.clone(),
+            line.lists.to_string(),
+            cell(&line.first),
+            cell(&line.second),
+            format!("{:.2}", line.second.to(&line.first)),
+        ]
+    });
+    let heads = [
+        "lists",
+        "number",
+        "derivative",
+        "derivative_faithful",
+        "ratio",
+    ];
+    format!("\n{WRITERS}\n{}", table(&heads, rows))
 }
 
 /// The section on costs.
