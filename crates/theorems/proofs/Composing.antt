@@ -22,7 +22,21 @@ use Rattle.calculus.proofs.Good.{derive-good, integrate-good}
 use Rattle.algebra.specs.declared.answer.Answer.{Answer}
 use Rattle.algebra.specs.declared.answer.Answer.the-variants as given
 use Rattle.algebra.specs.Answer.Making as making
-use Rattle.algebra.specs.Answer.Making.{Made, ofOutcome, ofSum, write, writeFaithful, derive, integrate, deriveAndWrite, integrateAndWrite, deriveAndWriteFaithful, integrateAndWriteFaithful, Gives, OfBytes}
+use Rattle.algebra.specs.Answer.Making.{
+  Made,
+  ofOutcome,
+  ofSum,
+  write,
+  writeFaithful,
+  derive,
+  integrate,
+  deriveAndWrite,
+  integrateAndWrite,
+  deriveAndWriteFaithful,
+  integrateAndWriteFaithful,
+  Gives,
+  OfBytes,
+}
 use Rattle.algebra.proofs.answer.Giving.{gives-refusal}
 use Rattle.algebra.proofs.answer.Taking.{of-good}
 use Rattle.algebra.proofs.answer.Told.{Success, success, refusal, not-made, refused-same, sum-same, SumMade, sum-made, refused-outcome, first-bytes}

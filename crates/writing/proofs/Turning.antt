@@ -132,10 +132,28 @@ module _ (flag : Bool) where
   faithful-entry k p i c r id ns = refl
 
 abbrev pub rust-loop : Bool → Loop
-rust-loop flag = record { flag = flag; whole = λ s id ns. write flag s id ns; inside = onList flag; nothing = rust-nothing flag; entry = rust-entry flag; places = λ n. 9 * n; step = λ a n. omega arith; rises = λ a b h. omega arith }
+rust-loop flag = record {
+  flag = flag;
+  whole = λ s id ns. write flag s id ns;
+  inside = onList flag;
+  nothing = rust-nothing flag;
+  entry = rust-entry flag;
+  places = λ n. 9 * n;
+  step = λ a n. omega arith;
+  rises = λ a b h. omega arith;
+}
 
 abbrev pub faithful-loop : Bool → Loop
-faithful-loop flag = record { flag = flag; whole = λ s id ns. writeFaithful flag s id ns; inside = apart flag; nothing = faithful-nothing flag; entry = faithful-entry flag; places = λ n. 10 * n; step = λ a n. omega arith; rises = λ a b h. omega arith }
+faithful-loop flag = record {
+  flag = flag;
+  whole = λ s id ns. writeFaithful flag s id ns;
+  inside = apart flag;
+  nothing = faithful-nothing flag;
+  entry = faithful-entry flag;
+  places = λ n. 10 * n;
+  step = λ a n. omega arith;
+  rises = λ a b h. omega arith;
+}
 
 module _ (W : Loop) (x : Entry) (i r : Sum) where
   next-turn : (id : Bool) (ns : Nodes) → W .whole (and (x .kind) (x .num) i (x .coef) r) id ns ≡ andThen (entryBy (W .flag) id x (W .inside i) ns) (λ ms. W .whole r (id || meetsX x) ms)
@@ -178,7 +196,8 @@ module _ {b₀ b : List ℕ} {d₀ d : Draft} {a : Book} {j q left : ℕ} {W : L
         let t = W .rises (w .passed + 1 + x .inside) m (omega arith) in
         ready-spoken r (w .spoken) refl (2 * x .inside + 2) (W .places (x .inside) + 9 + more) (omega arith) (omega arith)
 
-    module _ {b′ : List ℕ} {o : Said} (f : (t : Sum) → Lies a (q + 1) (q + 1 + x .inside) (left - 1) t → Spoken b b′ d o (2 * x .inside + 2) (W .places (x .inside) + 9) (λ ns. entryBy (W .flag) id x (W .inside t) ns)) where
+    module _ {b′ : List ℕ} {o : Said} (f : (t : Sum) → Lies a (q + 1) (q + 1 + x .inside) (left - 1) t → Spoken b b′ d o (2 * x .inside + 2) (W .places (x .inside) + 9)
+        (λ ns. entryBy (W .flag) id x (W .inside t) ns)) where
       abbrev now-written : Nodes → Written
       now-written ns = andThen (w .so-far ns) (λ ms. entryBy (W .flag) id x (W .inside (first .inner)) ms)
 

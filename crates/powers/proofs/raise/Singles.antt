@@ -31,7 +31,8 @@ module _ (a : Float) (j : Sum) (d : Complex) where
 
   -- one more product
   once : (p : Float) (i : Sum) (c : Complex)
-      → product (single X p i c) s ≡ unless (finite (p ⊕ a)) PowerNotFinite (unless (complex.allFinite (complex.plus complex.zero (complex.times c d))) NotFinite (sum (single X (p ⊕ a) none (complex.plus complex.zero (complex.times c d)))))
+      → product (single X p i c) s ≡ unless (finite (p ⊕ a)) PowerNotFinite (unless (complex.allFinite (complex.plus complex.zero (complex.times c d))) NotFinite
+      (sum (single X (p ⊕ a) none (complex.plus complex.zero (complex.times c d)))))
   once p i c = product-put p a i j c d ∙ formed-alone (p ⊕ a) (complex.times c d)
 
   module _ (l : ℕ) (p : Float) (i : Sum) (c : Complex) where

@@ -203,7 +203,8 @@ module _ (t : ℕ) where
   term-refused c s l =
       let argument = c .before .before .before .before .before in
       let st = term-start argument in
-      term-stop (st .args .x) (st .args .complex) (onList (st .args .complex) s) (9 * st .args .x .inside) (term-else argument .if1 .left) (argument .write-sum .ensures s l) (c .before .q .given .0 .0) (c .before .q .given .1)
+      term-stop (st .args .x) (st .args .complex) (onList (st .args .complex) s) (9 * st .args .x .inside) (term-else argument .if1 .left) (argument .write-sum .ensures s l)
+      (c .before .q .given .0 .0) (c .before .q .given .1)
 
   -- the argument is written, and the function after it
   term-done : write-term-lts.Need-returns-3 (write-term-claims t) (write-term-at t) write-term.Post
@@ -243,7 +244,8 @@ module _ (t : ℕ) where
       let kept = turn-kept term in
       let test = turn-else kept in
       let st = turn-start kept in
-      turn-stop (st .args .x) (st .args .complex) (onList (st .args .complex) s) (9 * st .args .x .inside) (st .args .identity) (sym (test .before .is-zero .ensures) ∙ test .if1 .left) refl (kept .before2 .ensures)
+      turn-stop (st .args .x) (st .args .complex) (onList (st .args .complex) s) (9 * st .args .x .inside) (st .args .identity) (sym (test .before .is-zero .ensures) ∙ test .if1 .left) refl
+      (kept .before2 .ensures)
       (term .write-term .ensures s l) (c .before .q .given .0 .0) (c .before .q .given .1)
 
   -- the term is written, and what follows it
@@ -254,7 +256,8 @@ module _ (t : ℕ) where
       let kept = turn-kept term in
       let test = turn-else kept in
       let st = turn-start kept in
-      turn-more (st .args .x) (st .args .complex) (onList (st .args .complex) s) (9 * st .args .x .inside) (st .args .identity) (sym (test .before .is-zero .ensures) ∙ test .if1 .left) refl (kept .before2 .ensures)
+      turn-more (st .args .x) (st .args .complex) (onList (st .args .complex) s) (9 * st .args .x .inside) (st .args .identity) (sym (test .before .is-zero .ensures) ∙ test .if1 .left) refl
+      (kept .before2 .ensures)
       (term .write-term .ensures s l) (went .f .given .1) (c .before .before .finish .ensures)
 
 pub +write-sum+write-term+write-turn-spec : {M : Type 1} → statement M

@@ -79,7 +79,8 @@ before-within false (rec r ns ms) = omega (arith, size-wrapped (rec r ns ms))
 
 times-within : (b flag : Bool) (c : Complex) (ns : Nodes) → Within (size ns + 2) (timesCoef b flag c ns)
 times-within false flag c ns = omega arith
-times-within true flag c ns = then-within (number flag c ns) (λ ms. wrote (append ms (one (does prim.Mul)))) (size ns + 1) (size ns + 2) (number-within flag c ns) (λ ms l. omega (arith, size-said ms (does prim.Mul)))
+times-within true flag c ns = then-within (number flag c ns) (λ ms. wrote (append ms (one (does prim.Mul)))) (size ns + 1) (size ns + 2) (number-within flag c ns)
+    (λ ms l. omega (arith, size-said ms (does prim.Mul)))
 
 plus-within : (first : Bool) (ns : Nodes) → size (plus first ns) ≤ size ns + 1
 plus-within true ns = omega arith

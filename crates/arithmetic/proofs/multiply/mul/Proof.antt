@@ -42,7 +42,8 @@ mul-spec =
     let one = ones tested in (
       made .mul-one .ensures .0,
       λ s t ls lt.
-          made .mul-one .ensures .1 s t (subst (λ (n : ℕ). Lies (B st) (st .args .i) (st .args .i + n) 4 s) (one .0) ls) (subst (λ (m : ℕ). Lies (B st) (st .args .j) (st .args .j + m) 4 t) (one .1) lt),
+          made .mul-one .ensures .1 s t (subst (λ (n : ℕ). Lies (B st) (st .args .i) (st .args .i + n) 4 s) (one .0) ls)
+          (subst (λ (m : ℕ). Lies (B st) (st .args .j) (st .args .j + m) 4 t) (one .1) lt),
     ))
     (λ c κs. c .before .before .before .before .before .before .pre)
     (λ c. search needs)

@@ -41,7 +41,8 @@ mul-one-spec =
     (n .readable, n .first .plain))
     (λ c κs. search needs)
     -- two powers of x
-    (λ c κs. let st = c .before .before .before .before .before .before .before .before .before .before .before .before .before .before .before .before .before .before .before in (omega arith, st .pre .2, (none, nothing st)))
+    (λ c κs. let st = c .before .before .before .before .before .before .before .before .before .before .before .before .before .before .before .before .before .before .before in
+    (omega arith, st .pre .2, (none, nothing st)))
     (λ c. search needs)
     (λ c. search needs)
     (λ c. search needs)

@@ -34,7 +34,8 @@ raise-one-spec =
       made .raise-power .ensures .0,
       λ s ls.
           let alone = power-alone (read .load .result) (read .load .ensures) ls (tested .if1 .taken) in
-          subst (λ (t : Sum). Agrees (made .raise-power .result) (book (last .0) (last .1 .0) (last .1 .1 .0)) (st .args .w) (raised (st .args .times) t t)) (sym (alone .1)) (made .raise-power .ensures .1 (alone .0)),
+          subst (λ (t : Sum). Agrees (made .raise-power .result) (book (last .0) (last .1 .0) (last .1 .1 .0)) (st .args .w) (raised (st .args .times) t t)) (sym (alone .1))
+          (made .raise-power .ensures .1 (alone .0)),
     ))
     -- any other
     (λ c κs. c .before .before .before .before .before .before .before .before .before .before .before .pre)

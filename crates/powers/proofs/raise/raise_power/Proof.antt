@@ -120,7 +120,8 @@ raise-power-spec =
     ))
     -- the last product
     (λ c κs. search needs)
-    (λ c κs. let st = c .before .before .before .before .before .before .before .before .before .before in (omega arith, room-less {n = st .args .w + (64 + 64)} (omega arith) (st .pre .1), (none, nothing st)))
+    (λ c κs. let st = c .before .before .before .before .before .before .before .before .before .before in
+    (omega arith, room-less {n = st .args .w + (64 + 64)} (omega arith) (st .pre .1), (none, nothing st)))
     (λ c. search needs)
     (λ c. search needs)
     (λ c. search needs)

@@ -301,7 +301,8 @@ module _ (t : ℕ) where
   argument-long : (c : Argument-apart) (s : Sum) → (let st = argument-start c in
       Lies (book (st .args .kinds .now) (st .args .insides .now) (st .args .numbers .now)) (st .args .i) (st .args .i + st .args .n) (st .args .left) s
       → length (putMid (24 * st .args .d .end) (length (st .args .b .now) - 24 * st .args .d .end) (st .args .b .now) (c .write-apart .last .1 .1 .1 .1 .1 .1 .1 .0)) ≡ length (st .args .b .now))
-  argument-long c s l = let st = argument-start c in long-back (st .args .b .now) (24 * st .args .d .end) (omega (arith, st .pre .1 .1 .after)) (c .write-apart .last .1 .1 .1 .1 .1 .1 .1 .0) (c .write-apart .ensures s l .long)
+  argument-long c s l = let st = argument-start c in long-back (st .args .b .now) (24 * st .args .d .end) (omega (arith, st .pre .1 .1 .after)) (c .write-apart .last .1 .1 .1 .1 .1 .1 .1 .0)
+      (c .write-apart .ensures s l .long)
 
   argument-refused : write-argument-lts.Need-returns (write-argument-claims t) (write-argument-at t) write-argument.Post
   argument-refused c s l =
@@ -339,7 +340,8 @@ module _ (t : ℕ) where
       let argument = c .before .before .before .before .before in
       let st = term-start argument in
       let n = st .args .x .inside in
-      term-stop (st .args .x) (st .args .complex) (apart (st .args .complex) s) (10 * st .args .x .inside) (term-else argument .if1 .left) (spoken-more (argument .write-argument .ensures s l) (2 * n) (10 * n + 2) (omega arith) (omega arith)) (c .before .q .given .0 .0) (c .before .q .given .1)
+      term-stop (st .args .x) (st .args .complex) (apart (st .args .complex) s) (10 * st .args .x .inside) (term-else argument .if1 .left)
+      (spoken-more (argument .write-argument .ensures s l) (2 * n) (10 * n + 2) (omega arith) (omega arith)) (c .before .q .given .0 .0) (c .before .q .given .1)
 
   -- the argument is written, and the function after it
   term-done : write-term-lts.Need-returns-3 (write-term-claims t) (write-term-at t) write-term.Post
@@ -348,7 +350,8 @@ module _ (t : ℕ) where
       let argument = went .before .before .before .before in
       let st = term-start argument in
       let n = st .args .x .inside in
-      term-function (st .args .x) (st .args .complex) (apart (st .args .complex) s) (10 * st .args .x .inside) (term-else argument .if1 .left) (spoken-more (argument .write-argument .ensures s l) (2 * n) (10 * n + 2) (omega arith) (omega arith)) (went .e .given .1)
+      term-function (st .args .x) (st .args .complex) (apart (st .args .complex) s) (10 * st .args .x .inside) (term-else argument .if1 .left)
+      (spoken-more (argument .write-argument .ensures s l) (2 * n) (10 * n + 2) (omega arith) (omega arith)) (went .e .given .1)
       (c .before .before .before .is-one .ensures) (c .before .before .write-function .ensures)
 
 -- ---- write_turn
@@ -380,7 +383,8 @@ module _ (t : ℕ) where
       let kept = turn-kept term in
       let test = turn-else kept in
       let st = turn-start kept in
-      turn-stop (st .args .x) (st .args .complex) (apart (st .args .complex) s) (10 * st .args .x .inside) (st .args .identity) (sym (test .before .is-zero .ensures) ∙ test .if1 .left) refl (kept .before2 .ensures)
+      turn-stop (st .args .x) (st .args .complex) (apart (st .args .complex) s) (10 * st .args .x .inside) (st .args .identity) (sym (test .before .is-zero .ensures) ∙ test .if1 .left) refl
+      (kept .before2 .ensures)
       (term .write-term .ensures s l) (c .before .q .given .0 .0) (c .before .q .given .1)
 
   -- the term is written, and what follows it
@@ -391,7 +395,8 @@ module _ (t : ℕ) where
       let kept = turn-kept term in
       let test = turn-else kept in
       let st = turn-start kept in
-      turn-more (st .args .x) (st .args .complex) (apart (st .args .complex) s) (10 * st .args .x .inside) (st .args .identity) (sym (test .before .is-zero .ensures) ∙ test .if1 .left) refl (kept .before2 .ensures)
+      turn-more (st .args .x) (st .args .complex) (apart (st .args .complex) s) (10 * st .args .x .inside) (st .args .identity) (sym (test .before .is-zero .ensures) ∙ test .if1 .left) refl
+      (kept .before2 .ensures)
       (term .write-term .ensures s l) (went .f .given .1) (c .before .before .finish .ensures)
 
 pub +write-apart+write-argument+write-sum+write-term+write-turn-spec : {M : Type 1} → statement M
@@ -500,8 +505,15 @@ pub +write-apart+write-argument+write-sum+write-term+write-turn-spec : {M : Type
     (λ c κs.
     let kept = c .before .before .before in
     let st = turn-start t kept in
-    let n = st .args .x .inside in
-    (omega (arith, st .pre .0), (st .pre .1 .0, ready-drawn (st .pre .1 .1) (kept .before2 .ensures) (2 * n) (10 * n + 5 + argumentFront * (st .args .left + 1)) (omega arith) (omega arith), st .pre .1 .2, st .pre .1 .3)))
+    let n = st .args .x .inside in (
+      omega (arith, st .pre .0),
+      (
+        st .pre .1 .0,
+        ready-drawn (st .pre .1 .1) (kept .before2 .ensures) (2 * n) (10 * n + 5 + argumentFront * (st .args .left + 1)) (omega arith) (omega arith),
+        st .pre .1 .2,
+        st .pre .1 .3,
+      ),
+    ))
     (λ c. search needs)
     (λ c. search needs)
     (λ c κs.
