@@ -145,6 +145,7 @@ fn list_by(
     }
 }
 
+// The same, answered.
 pub fn write_sum(
     writer: Writer,
     kinds: &[u8],

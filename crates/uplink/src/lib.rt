@@ -103,7 +103,7 @@ pub extern "C" fn uplink_cost(list: &[u8], answer: &mut [u64; 2]) -> u64
 
 // ---- with the second writer, whose lists mean what the sum says
 
-// A sum as a list; `complex` is false where it is 0, and true for any other number.
+// A sum as a list that means what the sum says; `complex` is false where it is 0, and true for any other number.
 #[no_mangle]
 pub extern "C" fn uplink_write_faithful(
     sum: &[u8],
@@ -118,7 +118,7 @@ pub extern "C" fn uplink_write_faithful(
     n.number
 }
 
-// From a list to the list of its derivative; `answer` is place and count.
+// From a list to a list that means what its derivative says; `answer` is place and count.
 #[no_mangle]
 pub extern "C" fn uplink_derivative_faithful(
     list: &[u8],
@@ -132,7 +132,7 @@ pub extern "C" fn uplink_derivative_faithful(
     n.number
 }
 
-// From a list to the list of its integral; `answer` is place and count.
+// From a list to a list that means what its integral says; `answer` is place and count.
 #[no_mangle]
 pub extern "C" fn uplink_integral_faithful(
     list: &[u8],

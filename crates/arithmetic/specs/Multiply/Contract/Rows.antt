@@ -28,6 +28,6 @@ abbrev pub FormedPowers : Formed → Book → ℕ → Type 0
 FormedPowers (Done n) b p = OnlyPowers (b .kinds) p (p + n)
 FormedPowers (Refused r) b p = Unit {0}
 
--- the product of the powers x and y is added into s
+-- the product of the powers x and y is added into s; v, what is inside y, is nothing
 abbrev pub powerInto : Entry → Entry → Sum → Sum → Outcome
 powerInto x y v s = formed Add (entry X 0 (x .num ⊕ y .num) (complex.times (x .coef) (y .coef))) none s
