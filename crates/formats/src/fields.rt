@@ -13,6 +13,15 @@ ghost use Rattle.formats.specs.Rules.{fieldsOk, isKnown};
 ghost use Rattle.formats.specs.Tree.{recAt};
 ghost use Rattle.formats.specs.Contract.Measure.{Simple, mayStand};
 
+// The first word of a record, from its lowest byte up: the kind, the code, then what a push and a primitive don't use.
+const BYTE: u64 = 256;
+
+const TWO_BYTES: u64 = BYTE * BYTE;
+
+const REAL_PUSH: u64 = 1;
+
+const PRIMITIVE: u64 = 5;
+
 fn is_known(b: u8) -> bool
     ensures { λ r. ⌜ r ≡ isKnown (kindOf b) ⌝ }
 {
@@ -66,8 +75,8 @@ pub fn is_simple(list: &[u8], i: usize) -> bool
     let head = crate::record::eight(list, at);
     let re = crate::record::eight(list, at + 8);
     let im = crate::record::eight(list, at + 16);
-    let push = head == 1;
-    let primitive = (head % 256 == 5) & (head < 65536) & (re == 0);
+    let push = head == REAL_PUSH;
+    let primitive = (head % BYTE == PRIMITIVE) & (head < TWO_BYTES) & (re == 0);
     (push | primitive) & (im == 0)
 }
 

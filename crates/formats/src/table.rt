@@ -271,21 +271,34 @@ fn table_at(code: u8) -> u8
     TABLE[i]
 }
 
+// Rows as the table has them: the operands taken, four times the results left, and 16 where it counts as handled.
+const ONE_TO_NONE: u8 = 1;
+
+const ONE_TO_TWO: u8 = 1 + 4 * 2;
+
+const TWO_TO_TWO: u8 = 2 + 4 * 2;
+
+const TWO_TO_THREE: u8 = 2 + 4 * 3;
+
+const HANDLED_ONE: u8 = 1 + 4 + 16;
+
+const HANDLED_TWO: u8 = 2 + 4 + 16;
+
 // What the table has at a code. The primitives that formulas are made of have it here too: wherever the table is asked it is laid out anew, which takes longer than most steps.
 fn row_of(code: u8) -> u8
     ensures { λ r. ⌜ r ≡ packed (row (primitiveOf code)) ⌝ }
 {
     match crate::record::primitive_of(code) {
-        Primitive::Pop => 1,
-        Primitive::Dup => 9,
-        Primitive::Flip => 10,
-        Primitive::Over => 14,
-        Primitive::Neg => 21,
-        Primitive::Sqrt => 21,
-        Primitive::Add => 22,
-        Primitive::Sub => 22,
-        Primitive::Mul => 22,
-        Primitive::Pow => 22,
+        Primitive::Pop => ONE_TO_NONE,
+        Primitive::Dup => ONE_TO_TWO,
+        Primitive::Flip => TWO_TO_TWO,
+        Primitive::Over => TWO_TO_THREE,
+        Primitive::Neg => HANDLED_ONE,
+        Primitive::Sqrt => HANDLED_ONE,
+        Primitive::Add => HANDLED_TWO,
+        Primitive::Sub => HANDLED_TWO,
+        Primitive::Mul => HANDLED_TWO,
+        Primitive::Pow => HANDLED_TWO,
         _ => table_at(code),
     }
 }
