@@ -53,11 +53,7 @@ pub fn read_numbers(r: ReadAnswer) -> Numbers
 pub fn read(list: &[u8], out: &mut [u8]) -> ReadAnswer
     ensures { λ r. ⌜ Promised entry.read (now (list .entry)) (now (out .entry)) (now (out .exit)) (ofRead r) ⌝ }
 {
-    let tried = crate::lists::make_in_small(Wanted::Sum, list, out);
-    if crate::lists::no_room(tried) {
-        return crate::lists::make_in_whole(Wanted::Sum, list, out);
-    }
-    tried
+    crate::lists::make_flagged(Wanted::Sum, list, out)
 }
 
 // From a list to the list of its derivative.

@@ -150,7 +150,7 @@ fn flagged(complex: bool, a: Answer) -> ReadAnswer
 }
 
 // The answer without it.
-pub fn unflagged(a: ReadAnswer) -> Answer
+fn unflagged(a: ReadAnswer) -> Answer
     ensures { λ r. ⌜ r ≡ unflagged a ⌝ }
 {
     match a {
@@ -183,7 +183,7 @@ fn make_of(
 // ---- of a list
 
 // What is made of a list that is read in the small arena.
-pub fn make_in_small(w: Wanted, list: &[u8], out: &mut [u8]) -> ReadAnswer
+fn make_in_small(w: Wanted, list: &[u8], out: &mut [u8]) -> ReadAnswer
     ensures { λ r. ⌜ Tries w (now (list .entry)) (now (out .entry)) (now (out .exit)) r ⌝ }
 {
     let mut kinds = [0u8; SMALL_ARENA];
@@ -202,7 +202,7 @@ pub fn make_in_small(w: Wanted, list: &[u8], out: &mut [u8]) -> ReadAnswer
 }
 
 // What is made of a list that is read in the whole arena.
-pub fn make_in_whole(w: Wanted, list: &[u8], out: &mut [u8]) -> ReadAnswer
+fn make_in_whole(w: Wanted, list: &[u8], out: &mut [u8]) -> ReadAnswer
     ensures { λ r. ⌜ Makes w (readList (now (list .entry))) (now (out .entry)) (now (out .exit)) r ⌝ }
 {
     let mut kinds = [0u8; ARENA];
@@ -221,7 +221,7 @@ pub fn make_in_whole(w: Wanted, list: &[u8], out: &mut [u8]) -> ReadAnswer
 }
 
 // Whether a first try was refused with 12. It may be for the small arena alone, or for a sum that is too large in any: so that 12 is never told, and the second try's is.
-pub fn no_room(a: ReadAnswer) -> bool
+fn no_room(a: ReadAnswer) -> bool
     ensures { λ b. ⌜ b ≡ isFullAnswer a ⌝ }
 {
     match a {
@@ -231,13 +231,20 @@ pub fn no_room(a: ReadAnswer) -> bool
 }
 
 // What is made of a list: by the first try, or, where that is refused with 12, by the second.
-pub fn make_list(w: Wanted, list: &[u8], out: &mut [u8]) -> Answer
-    ensures { λ r. ⌜ Gives (roomBy w) (madeBy w (readList (now (list .entry)))) (now (out .entry)) (now (out .exit)) r ⌝ }
+pub fn make_flagged(w: Wanted, list: &[u8], out: &mut [u8]) -> ReadAnswer
+    ensures { λ r. ⌜ Makes w (readList (now (list .entry))) (now (out .entry)) (now (out .exit)) r ⌝ }
 {
     let tried = make_in_small(w, list, out);
     if no_room(tried) {
-        let again = make_in_whole(w, list, out);
-        return unflagged(again);
+        return make_in_whole(w, list, out);
     }
-    unflagged(tried)
+    tried
+}
+
+// The same without the flag.
+pub fn make_list(w: Wanted, list: &[u8], out: &mut [u8]) -> Answer
+    ensures { λ r. ⌜ Gives (roomBy w) (madeBy w (readList (now (list .entry)))) (now (out .entry)) (now (out .exit)) r ⌝ }
+{
+    let made = make_flagged(w, list, out);
+    unflagged(made)
 }

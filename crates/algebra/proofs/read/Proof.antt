@@ -1,31 +1,11 @@
--- The first try's answer, or where that is 12 the second's. Assumes nothing.
-use mathlib.Core.Path.{refl, sym, _∙_}
-use Rattle.algebra.specs.declared.lists.Wanted.the-variants.{Sum}
-use Rattle.algebra.proofs.lists.Trying.{second-try}
+-- What is made of the list with the flag, told as the entry's. Assumes nothing.
+use mathlib.Core.Path.{refl}
 use borrow.Author.Needs.{needs}
 use Rattle.algebra.proofs.read.Statement.{statement}
 use Rattle.algebra.proofs.read.Tie as tie
 
 returns : tie.Need-returns
-returns c =
-    let after-whole = c .before .before in
-    let after-if1 = after-whole .before .before in
-    let after-small = after-if1 .before .before .before .before in
-    let x = after-small .before .before .before .before .args in
-    let full = sym (after-if1 .before .no-room .ensures) ∙ after-if1 .if1 .taken in
-    (_, refl, second-try Sum (x .list .now) (after-small .make-in-small .ensures) full (after-whole .make-in-whole .ensures))
-
-returns-2 : tie.Need-returns-2
-returns-2 c = (_, refl, c .before .before .before .before .make-in-small .ensures .made (sym (c .before .no-room .ensures) ∙ c .if1 .left))
+returns c = (c .before .before .make-flagged .result, refl, c .before .before .make-flagged .ensures)
 
 pub read-spec : {M : Type 1} → statement M
-read-spec =
-    tie.close
-    (tie.spec
-    (λ c κs. search needs)
-    (λ c κs. search needs)
-    (λ c κs. search needs)
-    (λ c. search needs)
-    returns
-    (λ c. search needs)
-    returns-2)
+read-spec = tie.close (tie.spec (λ c κs. search needs) (λ c. search needs) returns)
