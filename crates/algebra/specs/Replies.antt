@@ -1,4 +1,4 @@
--- The twelve entries side by side: what each may answer, in document 01's numbers.
+-- The thirteen entries side by side: what each may answer, in document 01's numbers.
 use Prim.Native.Nat.{ℕ}
 use mathlib.Core.Path.{_≡_}
 use mathlib.Core.Bool.{Bool, false}
@@ -12,6 +12,9 @@ use Rattle.sums.specs.Entry.Encoding.{entriesIn}
 use Rattle.running.specs.declared.RunAnswer.{RunAnswer}
 use Rattle.running.specs.declared.RunNumbers.{RunNumbers}
 use Rattle.running.specs.Running.{runList, numbersOf}
+use Rattle.values.specs.declared.ValueAnswer.{ValueAnswer}
+use Rattle.values.specs.declared.ValueNumbers.{ValueNumbers}
+use Rattle.values.specs.ValueOf.{ValueOfBytes, valueNumbers}
 use Rattle.reading.specs.declared.cost.CostAnswer.{CostAnswer}
 use Rattle.reading.specs.declared.cost.CostNumbers.{CostNumbers}
 use Rattle.reading.specs.Cost.Cost.{costList, costNumbers}
@@ -24,13 +27,13 @@ use Rattle.algebra.specs.declared.ReadAnswer.{ReadAnswer}
 use Rattle.algebra.specs.Reading.{readList, answerOf, bytesOf, readNumbers}
 use Rattle.algebra.specs.Entries as lists
 
--- both writes are handed a flag, and run a number; those called faithful have the second writer
+-- both writes are handed a flag, run and value a number; those called faithful have the second writer
 pub data Entry : Type 0 where
   read derive integrate derivative integral inverse cost derivativeFaithful integralFaithful : Entry
   write writeFaithful : Bool → Entry
-  run : Float → Entry
+  run value : Float → Entry
 
--- number, place and counts; the flag is read's, value and peak are run's, steps are run's and cost's
+-- number, place and counts; the flag is read's, the value is run's and value's, the peak is run's, steps are run's and cost's
 pub record Reply : Type 0 where
   pub number : ℕ
   pub place : ℕ
@@ -44,7 +47,7 @@ pub record Reply : Type 0 where
 abbrev pub refusing : Refusal → ℕ → Reply
 refusing q at = record { number = refusalNo q; place = at; count = 0; flag = false; value = zero64; steps = 0; peak = 0 }
 
--- the numbers of what is written, those of a run and those of a cost: each has zeros for the others'
+-- the numbers of what is written, those of a run, of a cost and of a value: each has zeros for the others'
 abbrev pub ofNumbers : Numbers → Reply
 ofNumbers n = record { number = n .number; place = n .place; count = n .count; flag = n .flag; value = zero64; steps = 0; peak = 0 }
 
@@ -53,6 +56,9 @@ ofRunNumbers n = record { number = n .number; place = n .place; count = 0; flag 
 
 abbrev pub ofCostNumbers : CostNumbers → Reply
 ofCostNumbers n = record { number = n .number; place = n .place; count = 0; flag = false; value = zero64; steps = n .steps; peak = 0 }
+
+abbrev pub ofValueNumbers : ValueNumbers → Reply
+ofValueNumbers n = record { number = n .number; place = n .place; count = n .count; flag = false; value = n .value; steps = 0; peak = 0 }
 
 abbrev pub ofRead : ReadAnswer → Reply
 ofRead a = ofNumbers (readNumbers a)
@@ -66,7 +72,10 @@ ofRun a = ofRunNumbers (numbersOf a)
 abbrev pub ofCost : CostAnswer → Reply
 ofCost a = ofCostNumbers (costNumbers a)
 
--- of the input l and an output that was out and is out′ then; run and cost have no output
+abbrev pub ofValue : ValueAnswer → Reply
+ofValue a = ofValueNumbers (valueNumbers a)
+
+-- of the input l and an output that was out and is out′ then; run, cost and value have no output
 abbrev pub Promised : Entry → List ℕ → List ℕ → List ℕ → Reply → Type 0
 Promised read l out out′ r = (a : ReadAnswer) × (r ≡ ofRead a) × Promise (answerOf (readList l)) (bytesOf (readList l)) out out′ a
 Promised derive l out out′ r = (a : Answer) × (r ≡ ofAnswer a) × OfBytes entriesIn making.derive l out out′ a
@@ -80,3 +89,4 @@ Promised integralFaithful l out out′ r = (a : Answer) × (r ≡ ofAnswer a) ×
 Promised inverse l out out′ r = (a : Answer) × (r ≡ ofAnswer a) × Gives recordsIn (lists.inverse l) out out′ a
 Promised (run x) l out out′ r = (r ≡ ofRun (runList l x)) × (out′ ≡ out)
 Promised cost l out out′ r = (r ≡ ofCost (costList l)) × (out′ ≡ out)
+Promised (value x) l out out′ r = (a : ValueAnswer) × (r ≡ ofValue a) × ValueOfBytes l x a × (out′ ≡ out)

@@ -12,11 +12,12 @@ use reading::cost::CostAnswer;
 use running::RunAnswer;
 use stack::slots::WORKING;
 use sums::entry::Taken;
+use values::ValueAnswer;
 ghost use Rattle.algebra.specs.Answer.Making.{OfBytes};
 ghost use Rattle.algebra.specs.Contract.Writers.{writeBy};
 ghost use Rattle.algebra.specs.Reading.{readNumbers};
 ghost use Rattle.formats.specs.Tree.{recordsIn};
-ghost use Rattle.algebra.specs.Replies.{Promised, ofRead, ofAnswer, ofRun, ofCost};
+ghost use Rattle.algebra.specs.Replies.{Promised, ofRead, ofAnswer, ofRun, ofCost, ofValue};
 ghost use mathlib.Core.List.{[]};
 ghost use mathlib.Core.Path.{_≡_};
 ghost use Rattle.algebra.specs.Replies as entry;
@@ -175,6 +176,22 @@ pub fn write_faithful(sum: &[u8], complex: bool, out: &mut [u8]) -> Answer
     ensures { λ r. ⌜ Promised (entry.writeFaithful complex) (now (sum .entry)) (now (out .entry)) (now (out .exit)) (ofAnswer r) ⌝ }
 {
     write_by(Writer::Faithful, sum, complex, out)
+}
+
+// ---- of a sum and a number
+
+// The value at x of a sum that is handed over. No list is written, and nothing but the sum's own places is needed.
+pub fn value(sum: &[u8], x: f64) -> ValueAnswer
+    ensures { λ r. ⌜ Promised (entry.value x) (now (sum .entry)) [] [] (ofValue r) ⌝ }
+{
+    let mut kinds = [0u8; SUM_ENTRIES];
+    let mut insides = [0u8; SUM_ENTRIES];
+    let mut numbers = [[0u64; 3]; SUM_ENTRIES];
+    let taken = sums::bytes::take_in(&mut kinds, &mut insides, &mut numbers, sum);
+    match taken {
+        Taken::Refused(q) => ValueAnswer::Refused(q),
+        Taken::Sum(n) => values::value_of(&kinds, &insides, &numbers, n, x),
+    }
 }
 
 // ---- of a list and a number

@@ -1,4 +1,4 @@
--- Demand 1, and 'determined', over all nine entries: each answers with a result or with one refusal of the table; a refusal has zero counts and leaves every
+-- Demand 1, and 'determined', over all thirteen entries: each answers with a result or with one refusal of the table; a refusal has zero counts and leaves every
 -- output byte as it was; and any two answers that a promise allows are the same. Assumes nothing.
 use Prim.Native.Nat.{ℕ}
 use mathlib.Core.Path.{_≡_, refl, sym, ap, subst, _∙_}
@@ -10,6 +10,9 @@ use Rattle.formats.specs.Tree.{recordsIn}
 use Rattle.running.specs.declared.RunAnswer.{RunAnswer}
 use Rattle.running.specs.declared.RunAnswer.the-variants as ran
 use Rattle.running.specs.Running.{runList}
+use Rattle.values.specs.declared.ValueAnswer.{ValueAnswer}
+use Rattle.values.specs.declared.ValueAnswer.the-variants as valued
+use Rattle.values.proofs.Taking.{value-determined}
 use Rattle.reading.specs.declared.cost.CostAnswer.{CostAnswer}
 use Rattle.reading.specs.declared.cost.CostAnswer.the-variants as costs
 use Rattle.reading.specs.Cost.Cost.{costList}
@@ -23,7 +26,7 @@ use Rattle.algebra.specs.declared.ReadAnswer.the-variants as answer
 use Rattle.algebra.specs.Reading.{readList}
 use Rattle.algebra.specs.Entries as lists
 use Rattle.algebra.specs.Replies
-use Rattle.algebra.specs.Replies.{Reply, refusing, ofRead, ofAnswer, ofRun, ofCost}
+use Rattle.algebra.specs.Replies.{Reply, refusing, ofRead, ofAnswer, ofRun, ofCost, ofValue}
 use Rattle.theorems.specs.Demands.{Numbered, Answers, Demand1, Determined}
 use Rattle.theorems.proofs.Reading as reading
 
@@ -48,6 +51,10 @@ by-cost : (a : CostAnswer) {out out′ : List ℕ} {r : Reply} → r ≡ ofCost 
 by-cost (costs.Steps n) e f = inl (ap (λ z. z .number) e)
 by-cost (costs.Refused q) e f = refuses q 0 e f
 
+by-value : (a : ValueAnswer) {out out′ : List ℕ} {r : Reply} → r ≡ ofValue a → out′ ≡ out → Answers out out′ r
+by-value (valued.Value v) e f = inl (ap (λ z. z .number) e)
+by-value (valued.Refused q) e f = refuses q 0 e f
+
 pub demand-1 : Demand1
 demand-1 Replies.read l out out′ r p = by-read (p .0) (p .1) (λ q at i. reading.refusal-quiet (readList l) (p .2) i)
 demand-1 Replies.derive l out out′ r p = by-answer (p .0) (p .1) (λ q at i. bytes-quiet (p .2) i)
@@ -61,6 +68,7 @@ demand-1 Replies.integralFaithful l out out′ r p = by-answer (p .0) (p .1) (λ
 demand-1 Replies.inverse l out out′ r p = by-answer (p .0) (p .1) (λ q at i. refusal-quiet recordsIn (lists.inverse l) (p .2) i)
 demand-1 (Replies.run x) l out out′ r p = by-run (runList l x) (p .0) (p .1)
 demand-1 Replies.cost l out out′ r p = by-cost (costList l) (p .0) (p .1)
+demand-1 (Replies.value x) l out out′ r p = by-value (p .0) (p .1) (p .3)
 
 -- ---- determined
 
@@ -80,3 +88,4 @@ determined Replies.integralFaithful l out out₁ out₂ r₁ r₂ p q = same-rep
 determined Replies.inverse l out out₁ out₂ r₁ r₂ p q = same-reply ofAnswer (p .1) (q .1) (promises.determined (p .2) (q .2))
 determined (Replies.run x) l out out₁ out₂ r₁ r₂ p q = (p .0 ∙ sym (q .0), p .1 ∙ sym (q .1))
 determined Replies.cost l out out₁ out₂ r₁ r₂ p q = (p .0 ∙ sym (q .0), p .1 ∙ sym (q .1))
+determined (Replies.value x) l out out₁ out₂ r₁ r₂ p q = same-reply ofValue (p .1) (q .1) (value-determined (p .2) (q .2), p .3 ∙ sym (q .3))

@@ -15,11 +15,12 @@ use Rattle.running.specs.Running.{runList}
 use Rattle.algebra.specs.Answer.Making.{made}
 use Rattle.algebra.specs.Entries.{derivative}
 use Rattle.theorems.specs.Cases.{bytesOf}
-use Rattle.theorems.specs.Value.{half, power, nothing, term}
+use Rattle.values.specs.Value.{half}
+use Rattle.theorems.specs.Terms.{nothing, term}
 use Rattle.theorems.specs.Roots.{RootFormula, RootSpeed}
 use Rattle.theorems.proofs.Computing.{arithmetic, comparing, listBytes, listRules, sumBytes, maps, products, raised, steps, reading, calculus, writing, acting, answering}
 use Rattle.theorems.proofs.Roots.{demand-3-roots}
-use Rattle.theorems.proofs.Speed.Examples.{x-to}
+use Rattle.theorems.proofs.Speed.Examples.{x-to, powerOf}
 
 abbrev number : ℕ → Float
 number b = ofBits binary64 b
@@ -31,7 +32,7 @@ abbrev drag : List ℕ
 drag = bytesOf (push one-and-a-half ∷ does Pow ∷ [])
 
 -- it is read as x to the 1.5, and its derivative is 1.5√x
-formula : RootFormula drag (power half one-and-a-half ∷ [])
+formula : RootFormula drag (powerOf half one-and-a-half ∷ [])
 unfolding arithmetic comparing listBytes listRules sumBytes maps products raised steps reading calculus
 formula = record {
   s = x-to one-and-a-half one64 Sum.none;
@@ -43,8 +44,8 @@ formula = record {
 }
 
 -- so the demand speaks of it
-pub promised : RootSpeed drag (power half one-and-a-half ∷ [])
-promised = demand-3-roots drag (power half one-and-a-half ∷ []) formula
+pub promised : RootSpeed drag (powerOf half one-and-a-half ∷ [])
+promised = demand-3-roots drag (powerOf half one-and-a-half ∷ []) formula
 
 abbrev speed : List ℕ
 speed = bytesOf (does Sqrt ∷ push one-and-a-half ∷ does Mul ∷ [])

@@ -16,7 +16,8 @@ use Rattle.algebra.specs.Reading.{readList}
 use Rattle.algebra.specs.Entries.{afterRead, derivative, integral, derivativeFaithful, integralFaithful}
 use Rattle.algebra.specs.Replies.{ofAnswer}
 use Rattle.uplink.specs.Told.{withCount}
-use Rattle.theorems.specs.Value.{Power, nothing, zero-term, term, Terms}
+use Rattle.values.specs.Value.{Power}
+use Rattle.theorems.specs.Terms.{nothing, zero-term, term, Terms}
 use Rattle.theorems.specs.Faithful.{SameAsRust, FaithfulSpeed, FaithfulSpeedTold}
 use Rattle.theorems.proofs.Demand3.{demand-3}
 use Rattle.theorems.proofs.Functions.{runs-told}

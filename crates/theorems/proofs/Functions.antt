@@ -3,11 +3,13 @@ use Prim.Native.Nat.{ℕ}
 use mathlib.Core.Path.{_≡_, refl, sym, ap, subst, _∙_}
 use mathlib.Core.List.{List, [], _∷_}
 use mathlib.Core.Logic.{_⊎_, inl, inr, ⊎-elim}
+use lib.Ieee.{Float}
+use Rattle.numbers.specs.Signs.{zero64}
 use Rattle.limits.specs.declared.Refusal.{Refusal}
 use Rattle.algebra.specs.Replies as entry
-use Rattle.algebra.specs.Replies.{Reply, refusing, ofAnswer, ofRun}
-use Rattle.uplink.specs.Told.{withCount, withFlag, withSteps, withCost}
-use Rattle.theorems.specs.Value.{Power}
+use Rattle.algebra.specs.Replies.{Entry, Reply, refusing, ofAnswer, ofRun}
+use Rattle.uplink.specs.Told.{Valued, withCount, withFlag, withSteps, withCost}
+use Rattle.values.specs.Value.{Power}
 use Rattle.theorems.specs.Demands.{Numbered, Refuses, Answers}
 use Rattle.theorems.specs.Demand3.{Runs}
 use Rattle.theorems.specs.Functions.{ToldRefusal, FunctionsAnswer, FunctionsDetermined, RunsTold, FunctionsSpeed}
@@ -32,13 +34,17 @@ module _ (shown : Reply → List ℕ) (zeros : List ℕ) (zero : (q : Refusal) (
     told-answer : Answers out out′ r → (no ≡ 0) ⊎ ToldRefusal zeros out out′ no answer
     told-answer d = ⊎-elim (λ e. inl (n ∙ e)) (λ u. inr (told-refusal u)) d
 
+  -- and by its value
+  told-value : {l : List ℕ} {no : ℕ} {v : Float} {answer : List ℕ} (e : Entry) → Valued e shown l no v answer → (no ≡ 0) ⊎ (ToldRefusal zeros [] [] no answer × (v ≡ zero64))
+  told-value {l} e t =
+      ⊎-elim (λ d. inl (t .returned ∙ d)) (λ u. inr (told-refusal (t .returned) (t .told) u, t .valued ∙ ap (λ z. z .value) (u .is))) (demand-1 e l [] [] (t .reply) (t .promised))
+
 pub functions-answer : FunctionsAnswer
 functions-answer = record {
   counts = λ e l out out′ no answer t. told-answer withCount (0 ∷ []) (λ q at. refl) (t .returned) (t .told) (demand-1 e l out out′ (t .reply) (t .promised));
   flags = λ e l out out′ no answer t. told-answer withFlag (0 ∷ 0 ∷ []) (λ q at. refl) (t .returned) (t .told) (demand-1 e l out out′ (t .reply) (t .promised));
-  runs = λ x l no v answer t.
-      ⊎-elim (λ e. inl (t .returned ∙ e)) (λ u. inr (told-refusal withSteps (0 ∷ 0 ∷ []) (λ q at. refl) (t .returned) (t .told) u, t .valued ∙ ap (λ z. z .value) (u .is)))
-      (demand-1 (entry.run x) l [] [] (t .reply) (t .promised));
+  runs = λ x l no v answer t. told-value withSteps (0 ∷ 0 ∷ []) (λ q at. refl) (entry.run x) t;
+  values = λ e l no v answer t. told-value withCount (0 ∷ []) (λ q at. refl) e t;
   costs = λ e l out out′ no answer t. told-answer withCost (0 ∷ []) (λ q at. refl) (t .returned) (t .told) (demand-1 e l out out′ (t .reply) (t .promised));
 }
 
@@ -49,9 +55,9 @@ functions-determined = record {
   tells = λ e shown l out out₁ out₂ no₁ no₂ answer₁ answer₂ t u.
       let d = determined e l out out₁ out₂ (t .reply) (u .reply) (t .promised) (u .promised) in
       (t .returned ∙ ap (λ z. z .number) (d .0) ∙ sym (u .returned), t .told ∙ ap shown (d .0) ∙ sym (u .told), d .1);
-  runs = λ x l no₁ no₂ v₁ v₂ answer₁ answer₂ t u.
-      let d = determined (entry.run x) l [] [] [] (t .reply) (u .reply) (t .promised) (u .promised) .0 in
-      (t .returned ∙ ap (λ z. z .number) d ∙ sym (u .returned), t .valued ∙ ap (λ z. z .value) d ∙ sym (u .valued), t .told ∙ ap withSteps d ∙ sym (u .told));
+  values = λ e shown l no₁ no₂ v₁ v₂ answer₁ answer₂ t u.
+      let d = determined e l [] [] [] (t .reply) (u .reply) (t .promised) (u .promised) .0 in
+      (t .returned ∙ ap (λ z. z .number) d ∙ sym (u .returned), t .valued ∙ ap (λ z. z .value) d ∙ sym (u .valued), t .told ∙ ap shown d ∙ sym (u .told));
 }
 
 -- ---- demand 3

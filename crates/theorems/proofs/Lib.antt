@@ -8,6 +8,7 @@ pub mod Demands
 pub mod Reading
 pub mod Roots
 pub mod Demand3
+pub mod Engine
 pub mod Drag
 pub mod Functions
 pub mod Cost

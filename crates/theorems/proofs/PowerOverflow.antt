@@ -34,6 +34,8 @@ use Rattle.writing.proofs.Refusals.{only-15}
 use Rattle.writing.proofs.Writers.{faithful-15}
 use Rattle.running.specs.Running.{runList, numbersOf}
 use Rattle.running.proofs.Refusals.{run-number}
+use Rattle.values.specs.ValueOf.{valueNumbers}
+use Rattle.values.proofs.Taking.{value-number}
 use Rattle.reading.specs.Cost.Cost.{costList, costNumbers}
 use Rattle.reading.proofs.cost.Theorem.{cost-number}
 use Rattle.calculus.specs.Integral as integrals
@@ -136,11 +138,12 @@ only-these Replies.integralFaithful l out out′ r p n = tt
 only-these Replies.inverse l out out′ r p n = tt
 only-these (Replies.run x) l out out′ r p n = absurd (let z : 18 ≡ numbersOf (runList l x) .number = sym n ∙ ap (λ z. z .number) (p .0) in omega (arith, run-number l x))
 only-these Replies.cost l out out′ r p n = absurd (let z : 18 ≡ costNumbers (costList l) .number = sym n ∙ ap (λ z. z .number) (p .0) in omega (arith, cost-number l))
+only-these (Replies.value x) l out out′ r p n = absurd (let z : 18 ≡ valueNumbers (p .0) .number = sym n ∙ ap (λ z. z .number) (p .1) in omega (arith, value-number (p .2)))
 
 pub only-these-functions : OnlyTheseFunctions
 only-these-functions = record {
   tells = λ e shown l out out′ no answer t n. only-these e l out out′ (t .reply) (t .promised) (sym (t .returned) ∙ n);
-  runs = λ x l no v answer t n. only-these (Replies.run x) l [] [] (t .reply) (t .promised) (sym (t .returned) ∙ n);
+  values = λ e shown l no v answer t n. only-these e l [] [] (t .reply) (t .promised) (sym (t .returned) ∙ n);
 }
 
 -- ---- each of them
@@ -226,6 +229,7 @@ each-of-these Replies.integrate t = absurd t
 each-of-these (Replies.writeFaithful c) t = absurd t
 each-of-these (Replies.write c) t = absurd t
 each-of-these (Replies.run x) t = absurd t
+each-of-these (Replies.value x) t = absurd t
 
 -- ---- some lists
 

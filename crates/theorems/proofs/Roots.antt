@@ -32,13 +32,14 @@ use Rattle.algebra.specs.Replies.{ofAnswer, ofRun}
 use Rattle.uplink.specs.Told.{Ran, withCount, withSteps}
 use Rattle.theorems.specs.Reals.{RealSum}
 use Rattle.theorems.specs.Contract.PowerSum.{PowerSum}
-use Rattle.theorems.specs.Value.{Power, value}
+use Rattle.values.specs.Value.{Power, value}
+use Rattle.values.specs.ValueOf.{allReal}
 use Rattle.theorems.specs.Records.{records, exactPeak}
 use Rattle.theorems.specs.Roots.{RootFormula, RootRuns, Demand3Roots, RootRunsTold, FunctionsRoots}
 use Rattle.theorems.proofs.Reading.{sum-good}
 use Rattle.theorems.proofs.Real.Reading.{read-real}
 use Rattle.theorems.proofs.Real.Calculus.{derive-real}
-use Rattle.theorems.proofs.Speed.Listed.{listed}
+use Rattle.theorems.proofs.Speed.Listed.{listed, all-real}
 use Rattle.theorems.proofs.Speed.Peaks.{peak-at-most, peak-no-less}
 use Rattle.theorems.proofs.Speed.Rising.{rising}
 use Rattle.theorems.proofs.Speed.Finite.{value-finite}
@@ -54,12 +55,12 @@ unfolding readList
 list-real l e = by-real (verdict l) (parse l) e
 
 module _ {l : List ℕ} {ts : List Power} (f : RootFormula l ts) where
-  -- the derivative is good, and has no imaginary parts either
+  -- the derivative is good, and has no imaginary parts either: it can be written as real
   good : GoodSum (f .d)
   good = derive-good (f .s) (sum-good l (f .read)) (f .derived)
 
-  real : RealSum (f .d)
-  real = derive-real (f .s) (list-real l (f .read)) (f .derived)
+  real : allReal (f .d) ≡ true
+  real = all-real (f .d) (derive-real (f .s) (list-real l (f .read)) (f .derived))
 
   -- so it has a list
   list : (ns : Nodes) × PowerSum (f .d) ts ns

@@ -11,4 +11,5 @@ pub mod Steps
 pub mod Stops
 pub mod Terms
 pub mod Theorem
+pub mod ValueExamples
 pub mod Whole

@@ -93,12 +93,24 @@ read-taken l p t w =
 
 -- ---- lists
 
-list-good : {out out′ : List ℕ} {n : ℕ} (w : Written) → Gives recordsIn (ofList w) out out′ (given.Done n) → ((ns : Nodes) → w ≡ wrote ns → verdict (encode ns) ≡ verdicts.Good) → ListGood n out′
-list-good {out} {out′} {n} w g h =
+-- a list was written, and its bytes are the output's first
+pub record ListWritten (w : Written) (n : ℕ) (out′ : List ℕ) : Type 0 where
+  pub ns : Nodes
+  pub is : w ≡ wrote ns
+  pub bytes : take (24 * n) out′ ≡ encode ns
+
+pub list-written : {out out′ : List ℕ} {n : ℕ} (w : Written) → Gives recordsIn (ofList w) out out′ (given.Done n) → ListWritten w n out′
+list-written {out} {out′} {n} w g =
     let o = success recordsIn (ofList w) g in
     let d = list-made w (o .is) in
-    let bytes = ap (take (24 * n)) (o .written ∙ ap (sets out 0) (d .these)) ∙ first-bytes (encode (d .ns)) out (24 * n) (omega (arith, d .many, length-encode (d .ns))) (omega (arith, o .fits)) in
-    ap verdict bytes ∙ h (d .ns) (d .is)
+    record {
+      ns = d .ns;
+      is = d .is;
+      bytes = ap (take (24 * n)) (o .written ∙ ap (sets out 0) (d .these)) ∙ first-bytes (encode (d .ns)) out (24 * n) (omega (arith, d .many, length-encode (d .ns))) (omega (arith, o .fits));
+    }
+
+list-good : {out out′ : List ℕ} {n : ℕ} (w : Written) → Gives recordsIn (ofList w) out out′ (given.Done n) → ((ns : Nodes) → w ≡ wrote ns → verdict (encode ns) ≡ verdicts.Good) → ListGood n out′
+list-good w g h = let k = list-written w g in ap verdict (k .bytes) ∙ h (k .ns) (k .is)
 
 -- a writer writes good lists of good sums
 abbrev WritesLists : (Bool → Sum → Made) → Type 0

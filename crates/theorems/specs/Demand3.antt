@@ -21,7 +21,8 @@ use Rattle.algebra.specs.declared.answer.Answer.the-variants.{Done}
 use Rattle.algebra.specs.Answer.Making.{Gives}
 use Rattle.algebra.specs.Reading.{readList}
 use Rattle.algebra.specs.Entries.{derivative}
-use Rattle.theorems.specs.Value.{Power, Terms, Rising, value}
+use Rattle.values.specs.Value.{Power, value}
+use Rattle.theorems.specs.Terms.{Terms, Rising}
 use Rattle.theorems.specs.Records.{records, peakOf}
 
 -- ---- of which lists

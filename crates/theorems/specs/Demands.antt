@@ -1,4 +1,4 @@
--- Demand 1, and 'determined', over all twelve entries.
+-- Demand 1, and 'determined', over all thirteen entries.
 use Prim.Native.Nat.{ℕ, _≤_}
 use mathlib.Core.Path.{_≡_}
 use mathlib.Core.List.{List}

@@ -19,7 +19,7 @@ use Rattle.algebra.specs.Reading.{readList}
 use Rattle.algebra.specs.Entries.{derivative, integral, derivativeFaithful, integralFaithful}
 use Rattle.algebra.specs.Replies as entry
 use Rattle.uplink.specs.Told.{Told, withCount}
-use Rattle.theorems.specs.Value.{Power}
+use Rattle.values.specs.Value.{Power}
 use Rattle.theorems.specs.Records.{records}
 use Rattle.theorems.specs.Demand3.{Formula, Runs}
 use Rattle.theorems.specs.Functions.{RunsTold}

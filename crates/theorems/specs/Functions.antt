@@ -1,5 +1,5 @@
--- The demands, of the C functions: the number that one returns, and what then stands in `answer` and in the output. `Told` is the contract of eight of them, whose
--- entry it names, and `Ran` is the contract of uplink_run.
+-- The demands, of the C functions: the number that one returns, and what then stands in `answer` and in the output. `Told` is the contract of eleven of them, whose
+-- entry it names, `Valued` of uplink_value, and `Ran`, which is `Valued` with the entry run, of uplink_run.
 use Prim.Native.Nat.{ℕ, _*_, _≤_}
 use mathlib.Core.Path.{_≡_}
 use mathlib.Core.List.{List, [], _∷_}
@@ -16,8 +16,8 @@ use Rattle.limits.specs.Refusals.{refusalNo}
 use Rattle.formats.specs.Tree.{recordsIn}
 use Rattle.algebra.specs.Replies as entry
 use Rattle.algebra.specs.Replies.{Entry, Reply}
-use Rattle.uplink.specs.Told.{Told, Ran, withCount, withFlag, withCost}
-use Rattle.theorems.specs.Value.{Power, value}
+use Rattle.uplink.specs.Told.{Told, Valued, Ran, withCount, withFlag, withCost}
+use Rattle.values.specs.Value.{Power, value}
 use Rattle.theorems.specs.Records.{records, peakOf}
 use Rattle.theorems.specs.Demands.{Numbered}
 use Rattle.theorems.specs.Demand3.{Formula}
@@ -33,11 +33,12 @@ pub record ToldRefusal (zeros out out′ : List ℕ) (number : ℕ) (answer : Li
   pub told : answer ≡ place ∷ zeros
   pub quiet : out′ ≡ out
 
--- each function returns 0, or refuses: those that tell a count, uplink_read, which tells a flag too, uplink_run, whose value is then +0, and uplink_cost
+-- each function returns 0, or refuses: those that tell a count, uplink_read, which tells a flag too, uplink_run and uplink_value, whose value is then +0, and uplink_cost
 pub record FunctionsAnswer : Type 0 where
   pub counts : (e : Entry) (l out out′ : List ℕ) (no : ℕ) (answer : List ℕ) → Told e withCount l out out′ no answer → (no ≡ 0) ⊎ ToldRefusal (0 ∷ []) out out′ no answer
   pub flags : (e : Entry) (l out out′ : List ℕ) (no : ℕ) (answer : List ℕ) → Told e withFlag l out out′ no answer → (no ≡ 0) ⊎ ToldRefusal (0 ∷ 0 ∷ []) out out′ no answer
   pub runs : (x : Float) (l : List ℕ) (no : ℕ) (v : Float) (answer : List ℕ) → Ran x l no v answer → (no ≡ 0) ⊎ (ToldRefusal (0 ∷ 0 ∷ []) [] [] no answer × (v ≡ zero64))
+  pub values : (e : Entry) (l : List ℕ) (no : ℕ) (v : Float) (answer : List ℕ) → Valued e withCount l no v answer → (no ≡ 0) ⊎ (ToldRefusal (0 ∷ []) [] [] no answer × (v ≡ zero64))
   pub costs : (e : Entry) (l out out′ : List ℕ) (no : ℕ) (answer : List ℕ) → Told e withCost l out out′ no answer → (no ≡ 0) ⊎ ToldRefusal (0 ∷ []) out out′ no answer
 
 -- ---- determined
@@ -46,8 +47,8 @@ pub record FunctionsAnswer : Type 0 where
 pub record FunctionsDetermined : Type 0 where
   pub tells : (e : Entry) (shown : Reply → List ℕ) (l out out₁ out₂ : List ℕ) (no₁ no₂ : ℕ) (answer₁ answer₂ : List ℕ)
       → Told e shown l out out₁ no₁ answer₁ → Told e shown l out out₂ no₂ answer₂ → (no₁ ≡ no₂) × (answer₁ ≡ answer₂) × (out₁ ≡ out₂)
-  pub runs : (x : Float) (l : List ℕ) (no₁ no₂ : ℕ) (v₁ v₂ : Float) (answer₁ answer₂ : List ℕ)
-      → Ran x l no₁ v₁ answer₁ → Ran x l no₂ v₂ answer₂ → (no₁ ≡ no₂) × (v₁ ≡ v₂) × (answer₁ ≡ answer₂)
+  pub values : (e : Entry) (shown : Reply → List ℕ) (l : List ℕ) (no₁ no₂ : ℕ) (v₁ v₂ : Float) (answer₁ answer₂ : List ℕ)
+      → Valued e shown l no₁ v₁ answer₁ → Valued e shown l no₂ v₂ answer₂ → (no₁ ≡ no₂) × (v₁ ≡ v₂) × (answer₁ ≡ answer₂)
 
 -- ---- demand 3
 

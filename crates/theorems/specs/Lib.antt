@@ -1,7 +1,7 @@
 -- The root of the definitions of theorems.
 pub mod Contract
 pub mod Reals
-pub mod Value
+pub mod Terms
 pub mod Records
 pub mod Demands
 pub mod Demand3
@@ -10,6 +10,7 @@ pub mod Roots
 pub mod Functions
 pub mod Cost
 pub mod Composing
+pub mod Engine
 pub mod Written
 pub mod Cases
 pub mod Nought

@@ -7,11 +7,12 @@ use mathlib.Core.Logic.{_↔_}
 use mathlib.Core.Option.{Option, none, some}
 use lib.Dec.{T}
 use lib.ListN.{length, take}
-use lib.Ieee.{Float, eq}
+use lib.Ieee.{Float}
 use lib.Ieee.Scale.{finite}
-use Rattle.numbers.specs.Signs.{zero64, one64}
+use Rattle.numbers.specs.Signs.{zero64}
 use Rattle.numbers.specs.Ops.{_⊕_, _⊗_}
 use Rattle.numbers.specs.Radical.Root.{root}
+use Rattle.numbers.specs.declared.complex.Complex.{Complex}
 use Rattle.limits.specs.Limits.{recordBytes}
 use Rattle.limits.specs.declared.Refusal.the-variants.{NotFinite}
 use Rattle.formats.specs.Tree.{recordsIn}
@@ -21,7 +22,7 @@ use Rattle.running.specs.Running.{runList}
 use Rattle.algebra.specs.declared.answer.Answer.{Answer}
 use Rattle.algebra.specs.Answer.Making.{Gives}
 use Rattle.algebra.specs.Entries.{derivative}
-use Rattle.theorems.specs.Value.{Exponent, whole, half, Power, power, termValue, value}
+use Rattle.values.specs.Value.{Exponent, whole, half, Power, power, isOne, termValue, value}
 use Rattle.theorems.specs.Records.{costOf, isX, records}
 use Rattle.theorems.specs.Demand3.{Formula}
 
@@ -37,11 +38,11 @@ formedUnless true at v = []
 formedUnless false at v = formed at v ∷ []
 
 -- for a term whose first record has the place: x times 0, then plus c; or the root or the product, then times the coefficient
-unfoldable pub inTerm : ℕ → Float → Exponent → Float → List Formed
-inTerm at x (whole zero) c = formed (at + 1) (x ⊗ zero64) ∷ formed (at + 3) (x ⊗ zero64 ⊕ c) ∷ []
-inTerm at x half c = formed at (root x) ∷ formedUnless (eq c one64) (at + 2) (root x ⊗ c)
-inTerm at x (whole (suc zero)) c = formedUnless (eq c one64) (at + 1) (x ⊗ c)
-inTerm at x (whole (suc (suc n))) c = formed (at + 1) (times (suc n) x x) ∷ formedUnless (eq c one64) (at + 3) (times (suc n) x x ⊗ c)
+unfoldable pub inTerm : ℕ → Float → Exponent → Complex → List Formed
+inTerm at x (whole zero) c = formed (at + 1) (x ⊗ zero64) ∷ formed (at + 3) (x ⊗ zero64 ⊕ c .re) ∷ []
+inTerm at x half c = formed at (root x) ∷ formedUnless (isOne c) (at + 2) (root x ⊗ c .re)
+inTerm at x (whole (suc zero)) c = formedUnless (isOne c) (at + 1) (x ⊗ c .re)
+inTerm at x (whole (suc (suc n))) c = formed (at + 1) (times (suc n) x x) ∷ formedUnless (isOne c) (at + 3) (times (suc n) x x ⊗ c .re)
 
 -- then each term and its Add, from a place on, to the sum so far
 unfoldable pub inSum : ℕ → Float → Float → List Power → List Formed

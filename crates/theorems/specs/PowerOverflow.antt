@@ -25,7 +25,7 @@ use Rattle.calculus.specs.Derivative.{derive}
 use Rattle.calculus.specs.Integral.{integrate}
 use Rattle.algebra.specs.Replies as entry
 use Rattle.algebra.specs.Replies.{Entry, Reply, Promised}
-use Rattle.uplink.specs.Told.{Told, Ran}
+use Rattle.uplink.specs.Told.{Told, Valued}
 use Rattle.theorems.specs.Cases as cases
 use Rattle.theorems.specs.Cases.{Case, Shown, results, answers, bytesOf}
 
@@ -64,6 +64,7 @@ formsPowers entry.derivativeFaithful = true
 formsPowers entry.integralFaithful = true
 formsPowers (entry.writeFaithful c) = false
 formsPowers (entry.run x) = false
+formsPowers (entry.value x) = false
 
 -- no other entry does, whatever its input and the output lent to it
 abbrev pub OnlyThese : Type 0
@@ -73,10 +74,10 @@ OnlyThese = (e : Entry) (l out out′ : List ℕ) (r : Reply) → Promised e l o
 abbrev pub EachOfThese : Type 0
 EachOfThese = (e : Entry) → T (formsPowers e) → (l : List ℕ) × (r : Reply) × Promised e l [] [] r × (r .number ≡ refusalNo PowerNotFinite)
 
--- of the C functions: uplink_integrate, uplink_write, uplink_write_faithful, uplink_run and uplink_cost never return it
+-- of the C functions: uplink_integrate, uplink_write, uplink_write_faithful, uplink_run, uplink_value and uplink_cost never return it
 pub record OnlyTheseFunctions : Type 0 where
   pub tells : (e : Entry) (shown : Reply → List ℕ) (l out out′ : List ℕ) (no : ℕ) (answer : List ℕ) → Told e shown l out out′ no answer → no ≡ refusalNo PowerNotFinite → T (formsPowers e)
-  pub runs : (x : Float) (l : List ℕ) (no : ℕ) (v : Float) (answer : List ℕ) → Ran x l no v answer → no ≡ refusalNo PowerNotFinite → ⊥
+  pub values : (e : Entry) (shown : Reply → List ℕ) (l : List ℕ) (no : ℕ) (v : Float) (answer : List ℕ) → Valued e shown l no v answer → no ≡ refusalNo PowerNotFinite → T (formsPowers e)
 
 -- ---- some lists
 

@@ -28,7 +28,8 @@ use Rattle.algebra.specs.Reading.{readList}
 use Rattle.algebra.specs.Entries.{derivative}
 use Rattle.algebra.specs.Replies as entry
 use Rattle.uplink.specs.Told.{Told, Ran, withCount}
-use Rattle.theorems.specs.Value.{whole, half, Power, power, RootTerms, Rising, value}
+use Rattle.values.specs.Value.{whole, half, Power, power, value}
+use Rattle.theorems.specs.Terms.{RootTerms, Rising}
 use Rattle.theorems.specs.Records.{records, peakOf, exactPeak}
 use Rattle.theorems.specs.Places.{inAll, firstNotFinite}
 

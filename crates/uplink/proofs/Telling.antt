@@ -8,6 +8,9 @@ use mir.Val.{boolByte}
 use Rattle.running.specs.declared.RunAnswer.{RunAnswer}
 use Rattle.running.specs.declared.RunNumbers.{RunNumbers}
 use Rattle.running.specs.Running.{numbersOf}
+use Rattle.values.specs.declared.ValueAnswer.{ValueAnswer}
+use Rattle.values.specs.declared.ValueNumbers.{ValueNumbers}
+use Rattle.values.specs.ValueOf.{valueNumbers}
 use Rattle.reading.specs.declared.cost.CostAnswer.{CostAnswer}
 use Rattle.reading.specs.declared.cost.CostNumbers.{CostNumbers}
 use Rattle.reading.specs.Cost.Cost.{costNumbers}
@@ -17,8 +20,8 @@ use Rattle.algebra.specs.Answer.Making.{answerNumbers}
 use Rattle.algebra.specs.declared.ReadAnswer.{ReadAnswer}
 use Rattle.algebra.specs.Reading.{readNumbers}
 use Rattle.algebra.specs.Replies as entry
-use Rattle.algebra.specs.Replies.{Entry, Promised, ofRead, ofAnswer, ofRun, ofCost}
-use Rattle.uplink.specs.Told.{Told, Ran, withCount, withFlag, withCost}
+use Rattle.algebra.specs.Replies.{Entry, Promised, ofRead, ofAnswer, ofRun, ofCost, ofValue}
+use Rattle.uplink.specs.Told.{Told, Valued, Ran, withCount, withFlag, withCost}
 
 as-number : (t : Bool) → boolByte t ≡ cond t 1 0
 as-number true = refl
@@ -41,6 +44,10 @@ told-flag e a {n} i p = record {
 pub told-run : {x : Float} {l : List ℕ} {n : RunNumbers} (a : RunAnswer) → Promised (entry.run x) l [] [] (ofRun a) → n ≡ numbersOf a
     → Ran x l (n .number) (n .value) (n .place ∷ n .steps ∷ n .peak ∷ [])
 told-run a p i = record { reply = ofRun a; promised = p; returned = ap (λ z. z .number) i; valued = ap (λ z. z .value) i; told = ap (λ z. z .place ∷ z .steps ∷ z .peak ∷ []) i }
+
+pub told-value : {x : Float} {l : List ℕ} {n : ValueNumbers} (a : ValueAnswer) → Promised (entry.value x) l [] [] (ofValue a) → n ≡ valueNumbers a
+    → Valued (entry.value x) withCount l (n .number) (n .value) (n .place ∷ n .count ∷ [])
+told-value a p i = record { reply = ofValue a; promised = p; returned = ap (λ z. z .number) i; valued = ap (λ z. z .value) i; told = ap (λ z. z .place ∷ z .count ∷ []) i }
 
 pub told-cost : {l : List ℕ} {n : CostNumbers} (a : CostAnswer) → Promised entry.cost l [] [] (ofCost a) → n ≡ costNumbers a → Told entry.cost withCost l [] [] (n .number) (n .place ∷ n .steps ∷ [])
 told-cost a p i = record { reply = ofCost a; promised = p; returned = ap (λ z. z .number) i; told = ap (λ z. z .place ∷ z .steps ∷ []) i }

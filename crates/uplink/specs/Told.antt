@@ -27,10 +27,13 @@ pub record Told (e : Entry) (shown : Reply → List ℕ) (l out out′ : List �
   pub returned : number ≡ reply .number
   pub told : answer ≡ shown reply
 
--- run has no output; its value stands apart
-pub record Ran (x : Float) (l : List ℕ) (number : ℕ) (value : Float) (answer : List ℕ) : Type 0 where
+-- run and value have no output; the value stands apart
+pub record Valued (e : Entry) (shown : Reply → List ℕ) (l : List ℕ) (number : ℕ) (value : Float) (answer : List ℕ) : Type 0 where
   pub reply : Reply
-  pub promised : Promised (entry.run x) l [] [] reply
+  pub promised : Promised e l [] [] reply
   pub returned : number ≡ reply .number
   pub valued : value ≡ reply .value
-  pub told : answer ≡ withSteps reply
+  pub told : answer ≡ shown reply
+
+abbrev pub Ran : Float → List ℕ → ℕ → Float → List ℕ → Type 0
+Ran x l number v answer = Valued (entry.run x) withSteps l number v answer

@@ -1,5 +1,5 @@
-// The twelve entries as C functions: each returns the number, and writes place and counts into `answer`. A slice is passed as a pointer and a length.
-ghost use Rattle.uplink.specs.Told.{Told, Ran, withFlag, withCount, withCost};
+// The thirteen entries as C functions: each returns the number, and writes place and counts into `answer`. A slice is passed as a pointer and a length.
+ghost use Rattle.uplink.specs.Told.{Told, Valued, Ran, withFlag, withCount, withCost};
 ghost use lib.Dec.{eqb};
 ghost use mathlib.Core.Bool.{not};
 ghost use mathlib.Core.List.{[]};
@@ -87,6 +87,17 @@ pub extern "C" fn uplink_run(list: &[u8], x: f64, value: &mut f64, answer: &mut 
 {
     let n = running::run_numbers(algebra::run(list, x));
     *answer = [n.place as u64, n.steps as u64, n.peak as u64];
+    *value = n.value;
+    n.number
+}
+
+// The value of a sum at x, without a list; `answer` is place and count, both 0.
+#[no_mangle]
+pub extern "C" fn uplink_value(sum: &[u8], x: f64, value: &mut f64, answer: &mut [u64; 2]) -> u64
+    ensures { λ r. ⌜ Valued (entry.value x) withCount (now (sum .entry)) r (now (value .exit)) (now (answer .exit)) ⌝ }
+{
+    let n = values::value_numbers(algebra::value(sum, x));
+    *answer = [n.place as u64, n.count as u64];
     *value = n.value;
     n.number
 }

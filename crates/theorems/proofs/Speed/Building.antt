@@ -11,12 +11,14 @@ use lib.Ieee.{Float}
 use lib.Ieee.Scale.{finite}
 use Rattle.numbers.specs.Signs.{zero64}
 use Rattle.numbers.specs.Ops.{_⊕_, _⊗_}
+use Rattle.numbers.specs.declared.complex.Complex.{Complex}
 use Rattle.sums.specs.Tree.Good.{isNumber}
 use Rattle.formats.specs.declared.record.Primitive.the-variants as prim
 use Rattle.formats.specs.Tree.{Nodes, size}
 use Rattle.writing.specs.Draft.Writing.{push, does, append, one, two, wrapped}
 use Rattle.writing.proofs.draft.Fine.{Fine, fine-more, fine-one, fine-append, fine-say, fine-wrapped, plain-does}
-use Rattle.theorems.specs.Value.{Exponent, Power, power, IsWholeOrHalf, termValue}
+use Rattle.values.specs.Value.{Exponent, Power, power, termValue}
+use Rattle.theorems.specs.Terms.{IsWholeOrHalf}
 use Rattle.theorems.specs.Records.{costOf}
 use Rattle.theorems.proofs.Speed.Steps.{Stop, or, or-join, bad, restate, identity-out, multiplies}
 use Rattle.theorems.proofs.Speed.Peaks.{light}
@@ -32,7 +34,7 @@ stopSum at x r (power k c ∷ ts) =
     or (stopTerm at x k c) (or (bad (r ⊕ termValue x k c) (at + costOf k c)) (stopSum (at + costOf k c + 1) x (r ⊕ termValue x k c) ts))
 
 -- the same places, counted in two ways
-pub same-places : (x r : Float) (k : Exponent) (c : Float) (ts : List Power) {o o′ : Option Stop} {a b d e : ℕ} → o ≡ o′ → b ≡ a → d ≡ a + costOf k c → e ≡ a + costOf k c + 1
+pub same-places : (x r : Float) (k : Exponent) (c : Complex) (ts : List Power) {o o′ : Option Stop} {a b d e : ℕ} → o ≡ o′ → b ≡ a → d ≡ a + costOf k c → e ≡ a + costOf k c + 1
     → or (or (or o (stopTerm b x k c)) (bad (r ⊕ termValue x k c) d)) (stopSum e x (r ⊕ termValue x k c) ts) ≡ or o′ (stopSum a x r (power k c ∷ ts))
 unfolding stopSum
 same-places x r k c ts {o′ = o} {a} eo eb ed ee =
@@ -72,7 +74,7 @@ built-x = record {
   };
 }
 
-pub built-term : (p c : Float) (k : Exponent) → T (isNumber p) → T (isNumber c) → IsWholeOrHalf p k
+pub built-term : (p : Float) (c : Complex) (k : Exponent) → T (isNumber p) → T (isNumber (c .re)) → IsWholeOrHalf p k
     → Built (piece p k c) 4 1 (λ x. termValue x k c) (cond (light k c) 1 2) (λ x at. stopTerm at x k c)
 built-term p c k fp fc w = record { fine = piece-fine p c k fp fc; yields = λ x fx. piece-yields c fc x p k fp w }
 

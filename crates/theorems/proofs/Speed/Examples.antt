@@ -25,11 +25,13 @@ use Rattle.running.specs.declared.RunAnswer.{RunAnswer}
 use Rattle.running.specs.declared.RunAnswer.the-variants.{Value, Refused}
 use Rattle.running.specs.Primitives.{times, power, leave, apply, act}
 use Rattle.running.specs.Running.{runs, runNodes}
-use Rattle.theorems.specs.Value.{Power, RootTerms, nothing, term, termValue, plusTerms, value}
+use Rattle.values.specs.Value.{Exponent, Power, termValue, plusTerms, value}
+use Rattle.theorems.specs.Terms.{RootTerms, nothing, term}
 use Rattle.theorems.specs.Records.{shapes, peakOf, rootFirst, exactPeak}
 use Rattle.theorems.specs.Places.{inTerm, inSum, inAll, firstNotFinite}
 use Rattle.theorems.specs.Contract.PowerSum.{PowerSum}
-use Rattle.theorems.specs.Value as value
+use Rattle.values.specs.Value as value
+use Rattle.theorems.proofs.Speed.Listed.{all-real}
 use Rattle.theorems.proofs.Speed.Theorem.{power-sum}
 
 abbrev pub three64 : Float
@@ -38,6 +40,10 @@ three64 = ofBits binary64 0x4008000000000000
 -- c times x to the p, before the rest
 abbrev pub x-to : Float → Float → Sum → Sum
 x-to p c r = and kinds.X p Sum.none (complex.real c) r
+
+-- the same in a list of terms
+abbrev pub powerOf : Exponent → Float → Power
+powerOf k c = value.power k (complex.real c)
 
 abbrev pub run-written : Written → Float → RunAnswer
 run-written (wrote ns) x = runNodes ns x
@@ -48,7 +54,7 @@ abbrev sum : Sum
 sum = x-to zero64 one64 (x-to two64 three64 Sum.none)
 
 abbrev terms : List Power
-terms = value.power (value.whole 0) one64 ∷ value.power (value.whole 2) three64 ∷ []
+terms = powerOf (value.whole 0) one64 ∷ powerOf (value.whole 2) three64 ∷ []
 
 -- its terms
 listed : RootTerms sum terms
@@ -72,7 +78,7 @@ good = (
 -- so the theorem speaks of it
 pub written : (ns : Nodes) × PowerSum sum terms ns
 unfolding entries
-written = power-sum 1 sum terms good (lit≤ tt) real listed
+written = power-sum 1 sum terms good (lit≤ tt) (all-real sum real) listed
 
 -- at 2: 13, 11 steps, peak 3
 promised : (value two64 terms ≡ fin false 13 (pos 0)) × (recordsFor (shapes terms) ≡ 11) × (exactPeak terms ≡ 3) × (firstNotFinite (inAll two64 terms) ≡ none)

@@ -7,17 +7,18 @@ use mathlib.Core.Logic.{_↔_}
 use mathlib.Core.Option.{Option, none, some}
 use lib.Dec.{T}
 use lib.ListN.{length}
-use lib.Ieee.{Float, binary64, eq}
+use lib.Ieee.{Float, binary64}
 use lib.Ieee.Bits.{is-true}
 use lib.Ieee.Fits.{and-i, and-r}
 use lib.Ieee.Scale.{finite}
-use Rattle.numbers.specs.Signs.{zero64, one64}
+use Rattle.numbers.specs.Signs.{zero64}
 use Rattle.numbers.specs.Ops.{_⊕_, _⊗_}
 use Rattle.numbers.proofs.Bools.{bool-ext, and-true, T-of}
 use Rattle.numbers.proofs.Finite.{add-finite, mul-finite}
 use Rattle.numbers.specs.Radical.Root.{root}
+use Rattle.numbers.specs.declared.complex.Complex.{Complex}
 use Rattle.running.specs.Primitives.{times}
-use Rattle.theorems.specs.Value.{Exponent, whole, half, Power, power, termValue, timesUnless, plusTerms, value}
+use Rattle.values.specs.Value.{Exponent, whole, half, Power, power, isOne, termValue, timesUnless, plusTerms, value}
 use Rattle.theorems.specs.Records.{costOf, isX}
 use Rattle.theorems.specs.Places.{Formed, formed, formedUnless, inTerm, inSum, inAll, unlessFinite, firstNotFinite}
 
@@ -75,19 +76,19 @@ module _ (x : Float) (fx : T (finite x)) where
   after-product true at v c = and-true (finite v)
   after-product false at v c = ap (λ (t : Bool). finite v && t) (none-bad (finite (v ⊗ c)) at) ∙ mul-left v c
 
-  term-finite : (at : ℕ) (k : Exponent) (c : Float) → isNone (firstNotFinite (inTerm at x k c)) ≡ finite (termValue x k c)
+  term-finite : (at : ℕ) (k : Exponent) (c : Complex) → isNone (firstNotFinite (inTerm at x k c)) ≡ finite (termValue x k c)
   unfolding isNone firstNotFinite inTerm termValue times
   term-finite at (whole zero) c =
-      none-unless (finite (x ⊗ zero64)) (at + 1) (unlessFinite (finite (x ⊗ zero64 ⊕ c)) (at + 3) none)
-      ∙ ap (λ (t : Bool). finite (x ⊗ zero64) && t) (none-bad (finite (x ⊗ zero64 ⊕ c)) (at + 3))
-      ∙ add-left (x ⊗ zero64) c
+      none-unless (finite (x ⊗ zero64)) (at + 1) (unlessFinite (finite (x ⊗ zero64 ⊕ c .re)) (at + 3) none)
+      ∙ ap (λ (t : Bool). finite (x ⊗ zero64) && t) (none-bad (finite (x ⊗ zero64 ⊕ c .re)) (at + 3))
+      ∙ add-left (x ⊗ zero64) (c .re)
   term-finite at half c =
-      none-unless (finite (root x)) at (firstNotFinite (formedUnless (eq c one64) (at + 2) (root x ⊗ c))) ∙ after-product (eq c one64) (at + 2) (root x) c
+      none-unless (finite (root x)) at (firstNotFinite (formedUnless (isOne c) (at + 2) (root x ⊗ c .re))) ∙ after-product (isOne c) (at + 2) (root x) (c .re)
   term-finite at (whole (suc zero)) c =
-      ap (λ (t : Bool). t && isNone (firstNotFinite (formedUnless (eq c one64) (at + 1) (x ⊗ c)))) (sym (is-true (finite x) fx)) ∙ after-product (eq c one64) (at + 1) x c
+      ap (λ (t : Bool). t && isNone (firstNotFinite (formedUnless (isOne c) (at + 1) (x ⊗ c .re)))) (sym (is-true (finite x) fx)) ∙ after-product (isOne c) (at + 1) x (c .re)
   term-finite at (whole (suc (suc n))) c =
-      none-unless (finite (times (suc n) x x)) (at + 1) (firstNotFinite (formedUnless (eq c one64) (at + 3) (times (suc n) x x ⊗ c)))
-      ∙ after-product (eq c one64) (at + 3) (times (suc n) x x) c
+      none-unless (finite (times (suc n) x x)) (at + 1) (firstNotFinite (formedUnless (isOne c) (at + 3) (times (suc n) x x ⊗ c .re)))
+      ∙ after-product (isOne c) (at + 3) (times (suc n) x x) (c .re)
 
   sum-finite : (at : ℕ) (r : Float) (ts : List Power) → finite r && isNone (firstNotFinite (inSum at x r ts)) ≡ finite (plusTerms x r ts)
   unfolding isNone firstNotFinite inSum plusTerms

@@ -5,18 +5,18 @@ use mathlib.Core.Bool.{Bool, true, false, _&&_, cond, true≢false}
 use mathlib.Core.List.{List, [], _∷_}
 use native.Mathlib.Omega.{arith}
 use lib.ListN.{length}
-use lib.Ieee.{Float, eq}
-use Rattle.numbers.specs.Signs.{one64}
-use Rattle.theorems.specs.Value.{Exponent, whole, half, Power, power, twice, Rising}
+use Rattle.numbers.specs.declared.complex.Complex.{Complex}
+use Rattle.values.specs.Value.{Exponent, whole, half, Power, power, isOne}
+use Rattle.theorems.specs.Terms.{twice, Rising}
 use Rattle.theorems.specs.Records.{isX, peakOf, rootFirst, exactPeak}
 use Rattle.theorems.specs.Roots.{anyRoot}
 
 -- ---- one term
 
 -- √x and x need no number beside them
-abbrev pub light : Exponent → Float → Bool
+abbrev pub light : Exponent → Complex → Bool
 light (whole k) c = isX (whole k) c
-light half c = eq c one64
+light half c = isOne c
 
 pub peak-low : (b : Bool) → 1 ≤ cond b 1 2
 peak-low true = omega arith
@@ -27,7 +27,7 @@ peak-high true = omega arith
 peak-high false = omega arith
 
 -- from x to the 1.5 on every power needs one
-pub not-bare : (k : Exponent) (c : Float) → 3 ≤ twice k → light k c ≡ false
+pub not-bare : (k : Exponent) (c : Complex) → 3 ≤ twice k → light k c ≡ false
 not-bare half c h = absurd (omega arith)
 not-bare (whole zero) c h = refl
 not-bare (whole (suc zero)) c h = absurd (omega arith)
@@ -58,21 +58,21 @@ peak-some k (power l c ∷ ts) h =
     (m .0, omega (arith, m .1))
 
 -- the peak where something is written for the first term
-pub first-peak : (k : Exponent) (c : Float) (ts : List Power) → isX k c ≡ false → Rising (suc (twice k)) ts → peakAfter (cond (light k c) 1 2) ts ≡ exactPeak (power k c ∷ ts)
+pub first-peak : (k : Exponent) (c : Complex) (ts : List Power) → isX k c ≡ false → Rising (suc (twice k)) ts → peakAfter (cond (light k c) 1 2) ts ≡ exactPeak (power k c ∷ ts)
 unfolding peakAfter peakOf rootFirst
 first-peak (whole k) c [] e up = rw e
 first-peak (whole k) c (power l d ∷ ts) e up =
     let q = peak-high (light l d) in
     rw e (peak-after (suc (max 2 (cond (light l d) 1 2))) ts (omega arith) ∙ omega arith)
-first-peak half c [] e up = go (eq c one64)
+first-peak half c [] e up = go (isOne c)
   where
     go : (b : Bool) → cond b 1 2 ≡ 2 - cond b 1 0
     go true = refl
     go false = refl
 first-peak half c (power half d ∷ ts) e up = absurd (omega (arith, up .0))
 first-peak half c (power (whole l) d ∷ ts) e up =
-    let q = peak-low (eq c one64) in
-    peak-after (suc (max (cond (eq c one64) 1 2) (cond (isX (whole l) d) 1 2))) ts (omega arith) ∙ go (eq c one64) (isX (whole l) d)
+    let q = peak-low (isOne c) in
+    peak-after (suc (max (cond (isOne c) 1 2) (cond (isX (whole l) d) 1 2))) ts (omega arith) ∙ go (isOne c) (isX (whole l) d)
   where
     go : (a b : Bool) → suc (max (cond a 1 2) (cond b 1 2)) + length ts ≡ suc (suc (suc (length ts))) - cond (a && b) 1 0
     go true true = omega arith

@@ -23,7 +23,8 @@ use Rattle.sums.specs.Tree.Good.{isEmpty, Before, Good}
 use Rattle.sums.specs.Tree.Order.{cmpEach, cmpTerm}
 use Rattle.sums.proofs.tree.Order.{Key, good-key, term-chain}
 use Rattle.sums.proofs.order.Walk.{GoodFirst, good-and}
-use Rattle.theorems.specs.Value.{Exponent, whole, half, Power, IsWholeOrHalf, twice, Rising}
+use Rattle.values.specs.Value.{Exponent, whole, half, Power}
+use Rattle.theorems.specs.Terms.{IsWholeOrHalf, twice, Rising}
 use Rattle.theorems.proofs.Speed.Terms.{means-0, half-finite}
 use Rattle.theorems.proofs.Speed.Steps.{number-finite}
 use Rattle.theorems.proofs.Speed.Listed.{Listed, nothing, zero-term, term}

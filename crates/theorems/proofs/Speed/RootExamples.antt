@@ -12,12 +12,12 @@ use Rattle.writing.specs.ToNodes.{toNodes}
 use Rattle.writing.specs.Count.{cost, costs, recordsFor}
 use Rattle.running.specs.declared.RunAnswer.{RunAnswer}
 use Rattle.running.specs.declared.RunAnswer.the-variants.{Value, Refused}
-use Rattle.theorems.specs.Value as value
-use Rattle.theorems.specs.Value.{whole, half, Power, power, termValue, plusTerms}
+use Rattle.values.specs.Value as value
+use Rattle.values.specs.Value.{whole, half, Power, termValue, plusTerms}
 use Rattle.theorems.specs.Records.{shapes, records, peakOf, rootFirst, exactPeak}
 use Rattle.theorems.specs.Roots.{placeOfSqrt}
 use Rattle.theorems.proofs.Computing.{arithmetic, comparing, listBytes, listRules, writing, acting}
-use Rattle.theorems.proofs.Speed.Examples.{three64, x-to, run-written}
+use Rattle.theorems.proofs.Speed.Examples.{three64, x-to, powerOf, run-written}
 
 abbrev pub number : ℕ → Float
 number b = ofBits binary64 b
@@ -32,29 +32,29 @@ pub record Case : Type 0 where
 -- √x and √x + x and √x + x + x², with a peak of as many numbers as terms; then 3√x and √x + 2x and 1 + √x, with one more
 unfoldable pub cases : List Case
 cases =
-    record { sum = x-to half64 one64 Sum.none; terms = power half one64 ∷ []; at-4 = Value two64 1 1; sqrt = 0 }
+    record { sum = x-to half64 one64 Sum.none; terms = powerOf half one64 ∷ []; at-4 = Value two64 1 1; sqrt = 0 }
     ∷ record {
       sum = x-to half64 one64 (x-to one64 one64 Sum.none);
-      terms = power half one64 ∷ power (whole 1) one64 ∷ [];
+      terms = powerOf half one64 ∷ powerOf (whole 1) one64 ∷ [];
       at-4 = Value (number 0x4018000000000000) 4 2;
       sqrt = 2;
     }
     ∷ record {
       sum = x-to half64 one64 (x-to one64 one64 (x-to two64 one64 Sum.none));
-      terms = power half one64 ∷ power (whole 1) one64 ∷ power (whole 2) one64 ∷ [];
+      terms = powerOf half one64 ∷ powerOf (whole 1) one64 ∷ powerOf (whole 2) one64 ∷ [];
       at-4 = Value (number 0x4036000000000000) 9 3;
       sqrt = 4;
     }
-    ∷ record { sum = x-to half64 three64 Sum.none; terms = power half three64 ∷ []; at-4 = Value (number 0x4018000000000000) 3 2; sqrt = 0 }
+    ∷ record { sum = x-to half64 three64 Sum.none; terms = powerOf half three64 ∷ []; at-4 = Value (number 0x4018000000000000) 3 2; sqrt = 0 }
     ∷ record {
       sum = x-to half64 one64 (x-to one64 two64 Sum.none);
-      terms = power half one64 ∷ power (whole 1) two64 ∷ [];
+      terms = powerOf half one64 ∷ powerOf (whole 1) two64 ∷ [];
       at-4 = Value (number 0x4024000000000000) 6 3;
       sqrt = 2;
     }
     ∷ record {
       sum = x-to zero64 one64 (x-to half64 one64 Sum.none);
-      terms = power (whole 0) one64 ∷ power half one64 ∷ [];
+      terms = powerOf (whole 0) one64 ∷ powerOf half one64 ∷ [];
       at-4 = Value three64 8 3;
       sqrt = 6;
     }

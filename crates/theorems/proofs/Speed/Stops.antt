@@ -17,13 +17,15 @@ use Rattle.numbers.specs.Ops.{_⊕_, _⊗_}
 use Rattle.numbers.proofs.Bools.{and-true}
 use Rattle.numbers.proofs.Values.{bits-0}
 use Rattle.numbers.proofs.Zeros.{zero-of, zero-finite, zero-or-not, mul-zero-right, add-zeros, zero-plus}
+use Rattle.numbers.specs.declared.complex.Complex.{Complex}
 use Rattle.limits.specs.declared.Refusal.the-variants.{NeedsMath}
 use Rattle.sums.specs.Tree.Sums.{Sum, size as entries, entry}
 use Rattle.sums.specs.Tree.Kinds as kinds
 use Rattle.sums.specs.Tree.Good.{isNumber, Good}
 use Rattle.sums.proofs.order.Walk.{good-and}
 use Rattle.writing.specs.Count.{cost}
-use Rattle.theorems.specs.Value.{Exponent, whole, half, Power, power, Rising, termValue}
+use Rattle.values.specs.Value.{Exponent, whole, half, Power, power, termValue}
+use Rattle.theorems.specs.Terms.{Rising}
 use Rattle.theorems.specs.Records.{costOf, isX}
 use Rattle.theorems.specs.Places.{Formed, formed, inTerm, inSum, inAll, unlessFinite, firstNotFinite}
 use Rattle.theorems.specs.Roots.{anyRoot, lacksRoot, placeOfSqrt}
@@ -46,7 +48,7 @@ first-append (formed at v ∷ fs) gs = go (finite v) (firstNotFinite fs) (firstN
 
 module _ (x : Float) where
   -- x isn't below zero, or the first term isn't a root; and so for the others
-  term-15 : (at : ℕ) (k : Exponent) (c : Float) (ts : List Power) → lacksRoot x (power k c ∷ ts) ≡ false
+  term-15 : (at : ℕ) (k : Exponent) (c : Complex) (ts : List Power) → lacksRoot x (power k c ∷ ts) ≡ false
       → (stopTerm at x k c ≡ fifteen (firstNotFinite (inTerm at x k c))) × (lacksRoot x ts ≡ false)
   unfolding anyRoot
   term-15 at (whole k) c ts l = (refl, l)
@@ -82,7 +84,7 @@ no-root-after lo (power half c ∷ ts) h up = absurd (omega (arith, up .0))
 -- the first coefficient is a number
 abbrev FirstNumber : List Power → Type 0
 FirstNumber [] = Unit {0}
-FirstNumber (power k c ∷ ts) = T (isNumber c)
+FirstNumber (power k c ∷ ts) = T (isNumber (c .re))
 
 pub first-number : (left : ℕ) {s : Sum} {ts : List Power} → Good left s → Listed s ts → FirstNumber ts
 first-number left g nothing = tt
@@ -91,15 +93,16 @@ first-number left g (term {p} {k} {j} {c} {r} z re w t) = good-and left (entry k
 
 module _ (x : Float) (fx : T (finite x)) where
   -- x times 0 plus c is finite
-  constant-goes : (at : ℕ) (c : Float) → T (isNumber c) → stopTerm at x (whole 0) c ≡ none
+  constant-goes : (at : ℕ) (c : Complex) → T (isNumber (c .re)) → stopTerm at x (whole 0) c ≡ none
   unfolding inTerm firstNotFinite
   constant-goes at c n =
       let z = mul-zero-right binary64 x zero64 fx (zero-of zero64 false bits-0) in
-      let plus : T (finite (x ⊗ zero64 ⊕ c)) = ⊎-elim
-      (λ y. zero-finite (x ⊗ zero64 ⊕ c) (add-zeros binary64 (x ⊗ zero64) c z y))
-      (λ y. subst (λ (v : Float). T (finite v)) (sym (zero-plus binary64 (x ⊗ zero64) c z (and-r (finite c) (fits binary64 c) n) (λ i. absurd (y i)))) (and-l (finite c) (fits binary64 c) n))
-      (zero-or-not c) in
-      rw (is-true (finite (x ⊗ zero64)) (zero-finite (x ⊗ zero64) z), is-true (finite (x ⊗ zero64 ⊕ c)) plus)
+      let plus : T (finite (x ⊗ zero64 ⊕ c .re)) = ⊎-elim
+      (λ y. zero-finite (x ⊗ zero64 ⊕ c .re) (add-zeros binary64 (x ⊗ zero64) (c .re) z y))
+      (λ y. subst (λ (v : Float). T (finite v)) (sym (zero-plus binary64 (x ⊗ zero64) (c .re) z (and-r (finite (c .re)) (fits binary64 (c .re)) n) (λ i. absurd (y i))))
+      (and-l (finite (c .re)) (fits binary64 (c .re)) n))
+      (zero-or-not (c .re)) in
+      rw (is-true (finite (x ⊗ zero64)) (zero-finite (x ⊗ zero64) z), is-true (finite (x ⊗ zero64 ⊕ c .re)) plus)
 
   below : (ts : List Power) → FirstNumber ts → Rising 0 ts → lt x zero64 ≡ true → anyRoot ts ≡ true → stopAll x ts ≡ some (stopAt NeedsMath (placeOfSqrt ts))
   unfolding stopAll stopSum anyRoot cost

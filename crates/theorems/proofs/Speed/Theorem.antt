@@ -1,7 +1,7 @@
--- Every good sum of whole powers and of a square root without imaginary parts has a list, and it runs as document 01 says. Assumes nothing.
+-- Every good sum of whole powers and of a square root whose coefficients can be written as real has a list, and it runs as document 01 says. Assumes nothing.
 use Prim.Native.Nat.{ℕ, _≤_}
 use mathlib.Core.Path.{_≡_, sym, ap, _∙_}
-use mathlib.Core.Bool.{false}
+use mathlib.Core.Bool.{true, false}
 use mathlib.Core.List.{List, [], _∷_}
 use mathlib.Core.Option.{Option}
 use native.Mathlib.Omega.{arith}
@@ -20,15 +20,16 @@ use Rattle.writing.proofs.draft.Fine.{Fine, fine-good}
 use Rattle.writing.specs.Count as count
 use Rattle.writing.specs.Count.{Powers}
 use Rattle.writing.proofs.Count.{record-count}
-use Rattle.theorems.specs.Reals.{RealSum}
 use Rattle.running.specs.declared.RunAnswer.{RunAnswer}
 use Rattle.running.specs.Running.{ended, runNodes, runList}
-use Rattle.theorems.specs.Value.{Power, RootTerms, value}
+use Rattle.values.specs.Value.{Power, value}
+use Rattle.theorems.specs.Terms.{RootTerms}
+use Rattle.values.specs.ValueOf.{allReal}
 use Rattle.theorems.specs.Records.{shapes, exactPeak}
 use Rattle.theorems.specs.Contract.PowerSum.{PowerSum}
 use Rattle.theorems.proofs.Speed.Listed.{Listed, listed, nothing, zero-term, term}
 use Rattle.theorems.proofs.Speed.Steps.{Stop, state, out, fifteen}
-use Rattle.theorems.proofs.Speed.Terms.{form-is, can-write, one-real}
+use Rattle.theorems.proofs.Speed.Terms.{form-is, can-write}
 use Rattle.theorems.proofs.Speed.Rising.{rising, few-terms}
 use Rattle.theorems.proofs.Speed.Whole.{whole-list}
 use Rattle.theorems.proofs.Speed.Stops.{first-number, stops-15, stops-14}
@@ -43,7 +44,7 @@ powers left g nothing = count.nothing
 powers left g (zero-term {k = l} {p} {j} {c} {r = s} z t) = count.zero z (powers left (good-and left (entry l (entries j) p c) j s g .rest) t)
 powers left g (term {p} {k = l} {j} {c} {r = s} z re w t) =
     let f = good-and left (entry kinds.X (entries j) p c) j s g in
-    rw (form-is p l (f .entry-good .number) w, one-real c re) at (count.term {p = p} {j = j} {c = c} z (can-write c (f .entry-good .re) re) (powers left (f .rest) t))
+    rw (form-is p l (f .entry-good .number) w) at (count.term {p = p} {j = j} {c = c} z (can-write c (f .entry-good .re) re) (powers left (f .rest) t))
 
 -- a list that keeps the rules runs as its bytes do
 bytes-run : (ns : Nodes) (x : Float) → Fine 2048 129 ns → T (finite x) → runList (encode ns) x ≡ runNodes ns x
@@ -51,8 +52,8 @@ unfolding runList
 bytes-run ns x f fx =
     rw (fine-good ns (omega arith) (omega arith) f, is-true (finite x) fx, parse-encode ns record { fields = f .fields; ok = f .ok; few = f .few })
 
--- the list that is written for a good sum of such powers without imaginary parts
-pub power-sum : (left : ℕ) (s : Sum) (ts : List Power) → Good left s → entries s ≤ 64 → RealSum s → RootTerms s ts → (ns : Nodes) × PowerSum s ts ns
+-- the list that is written for a good sum of such powers, whose outermost coefficients can be written as real
+pub power-sum : (left : ℕ) (s : Sum) (ts : List Power) → Good left s → entries s ≤ 64 → allReal s ≡ true → RootTerms s ts → (ns : Nodes) × PowerSum s ts ns
 unfolding runNodes
 power-sum left s ts g few real terms =
     let t = listed real terms in

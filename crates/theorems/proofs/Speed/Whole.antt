@@ -7,9 +7,9 @@ use mathlib.Core.Option.{Option, none}
 use native.Mathlib.Omega.{arith}
 use lib.Dec.{T}
 use lib.ListN.{length}
-use lib.Ieee.{Float, eq}
+use lib.Ieee.{Float}
 use lib.Ieee.Scale.{finite}
-use Rattle.numbers.specs.Signs.{zero64, one64}
+use Rattle.numbers.specs.Signs.{zero64}
 use Rattle.numbers.specs.Ops.{_⊕_, _⊗_}
 use Rattle.numbers.proofs.Bools.{and-false}
 use Rattle.numbers.specs.declared.complex.Complex.{Complex}
@@ -27,7 +27,8 @@ use Rattle.writing.specs.ToNodes.{isBare, write}
 use Rattle.writing.specs.Count.{cost}
 use Rattle.running.specs.Primitives.{times}
 use Rattle.running.specs.Running.{runs}
-use Rattle.theorems.specs.Value.{Exponent, whole, half, Power, power, IsWholeOrHalf, twice, Rising, termValue, plusTerms, value}
+use Rattle.values.specs.Value.{Exponent, whole, half, Power, power, isOne, termValue, plusTerms, value}
+use Rattle.theorems.specs.Terms.{IsWholeOrHalf, twice, Rising}
 use Rattle.theorems.specs.Records.{formOf, costOf, isX, peakOf, rootFirst, exactPeak}
 use Rattle.theorems.specs.Places.{inTerm, firstNotFinite}
 use Rattle.theorems.proofs.Speed.Listed.{Listed, nothing, zero-term, term}
@@ -80,18 +81,18 @@ module _ (left : ℕ) where
   more g (term {p} {k = l} {j} {c} {r = s} {ts} z re w t) id a i m n d r k b few K y =
       let f = first-good kinds.X p j c s g in
       let N = rec a i m in
-      let P = piece p l (c .re) in
-      let v : Float → Float = λ x. r x ⊕ termValue x l (c .re) in
-      let h = more (f .rest) t (id || isBare (formOf l)) (on (size N + 1)) (rec (body (size N)) N end) (append P (one (does prim.Add))) (n + 7) (d + 2) v (suc (max k (cond (light l (c .re)) 1 2)))
-      (λ x at. or (or (b x (at + 2)) (stopTerm (at + (size N + 2)) x l (c .re))) (bad (v x) (at + (size N + 2) + size P))) (omega arith) (omega arith)
-      (built-join (built-term p (c .re) l (f .entry-good .number) (f .entry-good .re) w) (omega arith) K (peak-low (light l (c .re))) y) in
+      let P = piece p l c in
+      let v : Float → Float = λ x. r x ⊕ termValue x l c in
+      let h = more (f .rest) t (id || isBare (formOf l)) (on (size N + 1)) (rec (body (size N)) N end) (append P (one (does prim.Add))) (n + 7) (d + 2) v (suc (max k (cond (light l c) 1 2)))
+      (λ x at. or (or (b x (at + 2)) (stopTerm (at + (size N + 2)) x l c)) (bad (v x) (at + (size N + 2) + size P))) (omega arith) (omega arith)
+      (built-join (built-term p c l (f .entry-good .number) (f .entry-good .re) w) (omega arith) K (peak-low (light l c)) y) in
       let e : (at : ℕ) → at + 2 * length ts + 2 ≡ at + 2 * suc (length ts) = λ at. omega arith in
       record {
         list = h .list;
         written = (rw (and-false (not id)) at (write-term p j c s id N l z (f .entry-good .number) (f .entry-good .re) re w)) ∙ h .written;
         built = rebuild _ _ _ _ (omega arith) (omega arith) refl
-            (λ x at. same-places x (r x) l (c .re) ts {a = at + 2 * suc (length ts) + size N} (ap (b x) (e at))
-            (omega arith) (omega (arith, piece-size p (c .re) l)) (omega (arith, piece-size p (c .re) l, joined-size N P)))
+            (λ x at. same-places x (r x) l c ts {a = at + 2 * suc (length ts) + size N} (ap (b x) (e at))
+            (omega arith) (omega (arith, piece-size p c l)) (omega (arith, piece-size p c l, joined-size N P)))
             (h .built);
       }
 
@@ -105,17 +106,17 @@ module _ (left : ℕ) where
       record { list = h .list; written = write-zero p j c s true end l z ∙ h .written; built = h .built }
   only g (term {p} {k = l} {j} {c} {r = s} {ts} z re w t) up few =
       let f = first-good kinds.X p j c s g in
-      let P = piece p l (c .re) in
-      let v : Float → Float = λ x. x ⊕ termValue x l (c .re) in
+      let P = piece p l c in
+      let v : Float → Float = λ x. x ⊕ termValue x l c in
       let h = more (f .rest) t true (does prim.Dup) end (append P (one (does prim.Add))) 7 1 v 3
-      (λ x at. or (stopTerm (at + 1) x l (c .re)) (bad (v x) (at + 1 + size P))) (omega arith) (omega arith)
-      (built-dup (built-term p (c .re) l (f .entry-good .number) (f .entry-good .re) w) (rw (not-bare l (c .re) (up .0)))) in
+      (λ x at. or (stopTerm (at + 1) x l c) (bad (v x) (at + 1 + size P))) (omega arith) (omega arith)
+      (built-dup (built-term p c l (f .entry-good .number) (f .entry-good .re) w) (rw (not-bare l c (up .0)))) in
       record {
         list = h .list;
         written = write-term p j c s true end l z (f .entry-good .number) (f .entry-good .re) re w ∙ h .written;
         built = rebuild _ _ _ _ (omega arith) (omega arith) (peak-after 3 ts (omega arith))
-            (λ x at. same-places x x l (c .re) ts {o = none} {o′ = none} {a = at + (2 * suc (length ts) - 1)} refl
-            (omega arith) (omega (arith, piece-size p (c .re) l)) (omega (arith, piece-size p (c .re) l, dup-size P)))
+            (λ x at. same-places x x l c ts {o = none} {o′ = none} {a = at + (2 * suc (length ts) - 1)} refl
+            (omega arith) (omega (arith, piece-size p c l)) (omega (arith, piece-size p c l, dup-size P)))
             (h .built);
       }
 
@@ -147,7 +148,7 @@ whole-of {ts = ts} {q = q} h few deep er eb eq low high =
       run = λ x fx. h .built .yields x fx .run [] 0 0 0 1 (omega arith) (omega arith) ∙ (λ i. out (eb x i) (state (er x i ∷ []) (en i) (ep i)));
     }
 
-stop-all : (x : Float) (k : Exponent) (c : Float) (ts : List Power) {a b : ℕ} → a ≡ 2 * length ts - cond (isX k c) 1 0 → b ≡ a + costOf k c
+stop-all : (x : Float) (k : Exponent) (c : Complex) (ts : List Power) {a b : ℕ} → a ≡ 2 * length ts - cond (isX k c) 1 0 → b ≡ a + costOf k c
     → or (stopTerm a x k c) (stopSum b x (termValue x k c) ts) ≡ stopAll x (power k c ∷ ts)
 unfolding stopAll
 stop-all x k c ts {a} ea eb =
@@ -157,8 +158,8 @@ stop-all x k c ts {a} ea eb =
 
 module _ (left : ℕ) where
   -- something is written for it
-  first : {s : Sum} {ts : List Power} (p c : Float) (k : Exponent) (a : Record) (i m : Nodes) → T (isNumber p) → T (isNumber c) → IsWholeOrHalf p k → isX k c ≡ false → piece p k c ≡ rec a i m
-      → Good left s → Listed s ts → Rising (suc (twice k)) ts → length ts ≤ 64 → Whole s (isBare (formOf k)) (piece p k c) (power k c ∷ ts)
+  first : {s : Sum} {ts : List Power} (p : Float) (c : Complex) (k : Exponent) (a : Record) (i m : Nodes) → T (isNumber p) → T (isNumber (c .re)) → IsWholeOrHalf p k
+      → isX k c ≡ false → piece p k c ≡ rec a i m → Good left s → Listed s ts → Rising (suc (twice k)) ts → length ts ≤ 64 → Whole s (isBare (formOf k)) (piece p k c) (power k c ∷ ts)
   unfolding value
   first {s} {ts} p c k a i m fp fc w n e g d up few =
       let q = first-peak k c ts n up in
@@ -170,7 +171,7 @@ module _ (left : ℕ) where
       rw e (whole-of h (omega arith) (omega arith) (λ x. refl) (λ x. stop-all x k c ts (rw n (omega arith)) (omega (arith, z))) q (omega arith) (omega arith))
 
   -- bare x
-  first-bare : {s : Sum} {ts : List Power} (c : Float) → eq c one64 ≡ true → Good left s → Listed s ts → Rising 3 ts → length ts ≤ 64 → Whole s true end (power (whole 1) c ∷ ts)
+  first-bare : {s : Sum} {ts : List Power} (c : Complex) → isOne c ≡ true → Good left s → Listed s ts → Rising 3 ts → length ts ≤ 64 → Whole s true end (power (whole 1) c ∷ ts)
   unfolding value termValue times inTerm firstNotFinite cost peakOf rootFirst
   first-bare {ts = ts} c e g d up few =
       whole-of (only left g d up few) (omega arith) (omega arith) (λ x. rw e) (λ x. places x) (peaks ts) (low ts) (high ts few)
@@ -190,16 +191,16 @@ module _ (left : ℕ) where
       high [] h = omega arith
       high (u ∷ us) h = omega arith
 
-  first-term : {s : Sum} {ts : List Power} (p c : Float) (k : Exponent) → T (isNumber p) → T (isNumber c) → IsWholeOrHalf p k → Good left s → Listed s ts → Rising (suc (twice k)) ts → length ts ≤ 64
-      → Whole s (isBare (formOf k)) (piece p k c) (power k c ∷ ts)
+  first-term : {s : Sum} {ts : List Power} (p : Float) (c : Complex) (k : Exponent) → T (isNumber p) → T (isNumber (c .re)) → IsWholeOrHalf p k
+      → Good left s → Listed s ts → Rising (suc (twice k)) ts → length ts ≤ 64 → Whole s (isBare (formOf k)) (piece p k c) (power k c ∷ ts)
   unfolding append
   first-term p c (whole zero) fp fc w g d up few = first p c (whole 0) _ _ _ fp fc w refl refl g d up few
   first-term p c half fp fc w g d up few = first p c half _ _ _ fp fc w refl refl g d up few
-  first-term {s} {ts} p c (whole (suc zero)) fp fc w g d up few = go (eq c one64) refl
+  first-term {s} {ts} p c (whole (suc zero)) fp fc w g d up few = go (isOne c) refl
     where
-      go : (b : Bool) → eq c one64 ≡ b → Whole s true (piece p (whole 1) c) (power (whole 1) c ∷ ts)
+      go : (b : Bool) → isOne c ≡ b → Whole s true (piece p (whole 1) c) (power (whole 1) c ∷ ts)
       go true e = let z : piece p (whole 1) c ≡ end = rw e in rw z (first-bare c e g d up few)
-      go false e = first p c (whole 1) (push c) end (one (does prim.Mul)) fp fc w e (rw e) g d up few
+      go false e = first p c (whole 1) (push (c .re)) end (one (does prim.Mul)) fp fc w e (rw e) g d up few
   first-term p c (whole (suc (suc zero))) fp fc w g d up few = first p c (whole 2) _ _ _ fp fc w refl refl g d up few
   first-term p c (whole (suc (suc (suc n)))) fp fc w g d up few = first p c (whole (suc (suc (suc n)))) _ _ _ fp fc w refl refl g d up few
 
@@ -216,5 +217,5 @@ module _ (left : ℕ) where
       record { list = h .list; fine = h .fine; written = write-zero p j c s false end l z ∙ h .written; run = h .run }
   whole-list g (term {p} {k = l} {j} {c} {r = s} {ts} z re w t) up few =
       let f = first-good left kinds.X p j c s g in
-      let h = first-term p (c .re) l (f .entry-good .number) (f .entry-good .re) w (f .rest) t (up .1) (omega arith) in
+      let h = first-term p c l (f .entry-good .number) (f .entry-good .re) w (f .rest) t (up .1) (omega arith) in
       record { list = h .list; fine = h .fine; written = write-term p j c s false end l z (f .entry-good .number) (f .entry-good .re) re w ∙ h .written; run = h .run }

@@ -18,6 +18,7 @@ use Rattle.formats.specs.declared.record.Record.{Record}
 use Rattle.formats.specs.Tree.{Nodes}
 use Rattle.writing.specs.Draft.Writing.{push, append, Written, wrote, canWrite}
 use Rattle.writing.specs.ToNodes.{Form, form, isBare, isEmpty, before, plus, close, write}
+use Rattle.theorems.proofs.Speed.Listed.{small-zero}
 use Rattle.theorems.proofs.Speed.Terms.{can-write}
 use Rattle.theorems.specs.Readback.Terms.{Term, isZero}
 use Rattle.theorems.proofs.readback.Written.{piece, write-zero, write-term}
@@ -67,7 +68,7 @@ listed-written : {s : Sum} {ts : List Term} → TermsListed s ts → (id : Bool)
 unfolding write writeAll
 listed-written terms-of.nothing id ns = refl
 listed-written (zero-entry {k} {p} {j} {c} {r} z l) id ns = write-zero false p j c r id ns k z ∙ listed-written l id ns
-listed-written (term-entry {p} {j} {c} {r} z n l) id ns = write-term false p j c r id ns z (can-write c (n .coef .re) (n .coef .real)) ∙ listed-written l _ _
+listed-written (term-entry {p} {j} {c} {r} z n l) id ns = write-term false p j c r id ns z (can-write c (n .coef .re) (small-zero (c .im) (n .coef .real))) ∙ listed-written l _ _
 
 -- ---- the same for what came
 
@@ -98,7 +99,7 @@ module _ (t : Term) (p : Float) (d : Complex) (n : Nice t) (k : Kept t p d) wher
       ap₂ (λ (v : Float) (b : Bool). piece (form p) p (push v) b) (k .same .re) one-same ∙ piece-same (push (t .coef .re)) (complex.same (t .coef) complex.one)
 
   kept-written : canWrite false d ≡ true
-  kept-written = can-write d (subst (λ (v : Float). T (isNumber v)) (sym (k .same .re)) (n .coef .re)) (k .same .im)
+  kept-written = can-write d (subst (λ (v : Float). T (isNumber v)) (sym (k .same .re)) (n .coef .re)) (small-zero (d .im) (k .same .im))
 
 came-written : {e : Bool} {ts : List Term} {u : Sum} → Came e ts u → AllNice ts → (id : Bool) (ns : Nodes) → write false u id ns ≡ writeAll ts id ns
 unfolding write writeAll AllNice

@@ -25,6 +25,7 @@ use Rattle.stack.specs.State.{Walked, went, stopped, isHandled}
 use Rattle.modifiers.specs.Modifiers.{runAll}
 use Rattle.modifiers.specs.Reading.{runners, readNodes, done}
 use Rattle.writing.specs.Draft.Writing.{push, does, on, body, append, one, two, wrapped, wrote, numberRecord, canWrite}
+use Rattle.theorems.proofs.Speed.Listed.{small-zero}
 use Rattle.theorems.proofs.Speed.Terms.{can-write}
 use Rattle.writing.specs.ToNodes.{Form, form, isBare, write}
 use Rattle.theorems.proofs.Speed.Steps.{number-finite}
@@ -76,7 +77,7 @@ writes-next true ds t = sym (go ds)
 -- a coefficient of the formula can be written, with either flag
 pub fair-written : (flag : Bool) (c : Complex) → Fair c → canWrite flag c ≡ true
 fair-written true c g = rw (number-finite (c .re) (g .re), number-finite (c .im) (g .im))
-fair-written false c g = can-write c (g .re) (g .real)
+fair-written false c g = can-write c (g .re) (small-zero (c .im) (g .real))
 
 -- s, written after the list so far, makes a list; all the terms ts come of reading it
 pub record Whole (flag : Bool) (s : Sum) (id : Bool) (ns : Nodes) (ts : List Term) : Type 0 where

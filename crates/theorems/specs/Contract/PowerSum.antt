@@ -15,7 +15,7 @@ use Rattle.writing.specs.ToNodes.{toNodes}
 use Rattle.writing.specs.Count.{recordsFor}
 use Rattle.running.specs.declared.RunAnswer.the-variants.{Value, Refused}
 use Rattle.running.specs.Running.{runNodes, runList}
-use Rattle.theorems.specs.Value.{Power, value}
+use Rattle.values.specs.Value.{Power, value}
 use Rattle.theorems.specs.Records.{shapes, exactPeak}
 use Rattle.theorems.specs.Places.{inAll, firstNotFinite}
 use Rattle.theorems.specs.Roots.{lacksRoot, placeOfSqrt}

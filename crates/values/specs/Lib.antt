@@ -1,0 +1,4 @@
+-- The root of the definitions of values.
+pub mod Value
+pub mod ValueOf
+pub mod Contract
