@@ -13,10 +13,12 @@ use running::RunAnswer;
 use stack::slots::WORKING;
 use sums::entry::Taken;
 use values::ValueAnswer;
+use values::powers::Quick;
 ghost use Rattle.algebra.specs.Answer.Making.{OfBytes};
 ghost use Rattle.algebra.specs.Contract.Writers.{writeBy};
 ghost use Rattle.algebra.specs.Reading.{readNumbers};
 ghost use Rattle.formats.specs.Tree.{recordsIn};
+ghost use Rattle.values.specs.ValueOf.{ValueOfBytes};
 ghost use Rattle.algebra.specs.Replies.{Promised, ofRead, ofAnswer, ofRun, ofCost, ofValue};
 ghost use mathlib.Core.List.{[]};
 ghost use mathlib.Core.Path.{_≡_};
@@ -180,9 +182,9 @@ pub fn write_faithful(sum: &[u8], complex: bool, out: &mut [u8]) -> Answer
 
 // ---- of a sum and a number
 
-// The value at x of a sum that is handed over. No list is written, and nothing but the sum's own places is needed.
-pub fn value(sum: &[u8], x: f64) -> ValueAnswer
-    ensures { λ r. ⌜ Promised (entry.value x) (now (sum .entry)) [] [] (ofValue r) ⌝ }
+// The value at x of a sum that is taken in. Nothing but the sum's own places is needed.
+fn value_taken(sum: &[u8], x: f64) -> ValueAnswer
+    ensures { λ r. ⌜ ValueOfBytes (now (sum .entry)) x r ⌝ }
 {
     let mut kinds = [0u8; SUM_ENTRIES];
     let mut insides = [0u8; SUM_ENTRIES];
@@ -191,6 +193,17 @@ pub fn value(sum: &[u8], x: f64) -> ValueAnswer
     match taken {
         Taken::Refused(q) => ValueAnswer::Refused(q),
         Taken::Sum(n) => values::value_of(&kinds, &insides, &numbers, n, x),
+    }
+}
+
+// The value at x of a sum that is handed over. No list is written, and a sum of powers of x is not taken in either.
+pub fn value(sum: &[u8], x: f64) -> ValueAnswer
+    ensures { λ r. ⌜ Promised (entry.value x) (now (sum .entry)) [] [] (ofValue r) ⌝ }
+{
+    let quick = values::powers::quick_value(sum, x);
+    match quick {
+        Quick::Answer(a) => a,
+        Quick::Other => value_taken(sum, x),
     }
 }
 

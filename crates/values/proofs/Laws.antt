@@ -2,23 +2,25 @@
 use Prim.Native.Nat.{ℕ, zero, suc, _+_, _-_, _≤_}
 use mathlib.Core.Path.{_≡_, refl, sym, ap, _∙_}
 use mathlib.Core.Bool.{Bool, true, false, _&&_}
-use mathlib.Core.List.{List, _∷_}
+use mathlib.Core.List.{List, [], _∷_}
 use native.Mathlib.Omega.{arith}
 use lib.Dec.{eqb}
 use lib.Ieee.{Float}
+use lib.Ieee.Scale.{finite}
 use Rattle.numbers.proofs.Bools.{and-true, and-false}
 use Rattle.numbers.specs.Numbers.{smallWhole}
 use Rattle.numbers.specs.declared.SmallWhole.the-variants.{Is, Other}
 use Rattle.numbers.specs.Complex.Arith as complex
 use Rattle.cells.specs.declared.Entry.{Entry}
 use Rattle.sums.specs.Tree.Kinds as kinds
+use Rattle.sums.specs.Tree.Sums.{Sum}
 use Rattle.numbers.specs.Ops.{_⊗_}
 use Rattle.numbers.specs.declared.complex.Complex.{Complex}
 use Rattle.running.specs.Primitives.{times}
 use Rattle.values.specs.declared.Found.{Found}
 use Rattle.values.specs.Value.{Exponent, whole, Power, power, isOne, timesUnless, termValue, plusTerms, value}
-use Rattle.values.specs.ValueOf.{isZero}
-use Rattle.values.specs.Contract.Findings.{plus, onward, Reached, Adds, Takes}
+use Rattle.values.specs.ValueOf.{isZero, valueOf}
+use Rattle.values.specs.Contract.Findings.{plus, onward, judged, Reached, Adds, Takes, Finds}
 
 -- n products and then m more
 times-on : (n m : ℕ) (x p : Float) → times m x (times n x p) ≡ times (n + m) x p
@@ -72,3 +74,10 @@ module _ (x : Float) (f : Found) (e : Entry) where
     sums = λ ts. rw (z, w, a .any, a .sum) (onward-term x (f .any) (f .sum) (whole n) (e .coef) ts);
     reached = a .reached;
   }
+
+-- ---- every entry was met
+
+-- what was found is judged as the definition has it
+pub judged-all : (x : Float) (s : Sum) (f : Found) → finite x ≡ true → Finds x s f → judged (f .whole) (f .real) (onward x (f .any) (f .sum) []) ≡ valueOf s x
+unfolding valueOf
+judged-all x s f e h = rw (e, h .powers, h .reals, h .sums) refl

@@ -2,4 +2,6 @@
 pub mod Laws
 pub mod Walk
 pub mod Taking
+pub mod Flat
+pub mod Passing
 pub mod Examples

@@ -11,13 +11,16 @@ use Rattle.limits.specs.declared.Refusal.{Refusal}
 use Rattle.limits.specs.declared.Refusal.the-variants.{BadRecord, TooDeep, NeedsMath, NotFinite}
 use Rattle.limits.specs.Refusals.{refusalNo}
 use Rattle.cells.specs.Contract.Book.{Book}
-use Rattle.sums.specs.Tree.Sums.{Sum}
+use Rattle.sums.specs.Tree.Sums.{Sum, size}
+use Rattle.sums.specs.Tree.Good.{Good}
 use Rattle.sums.specs.Contract.Lies.{Lies, Held}
 use Rattle.sums.specs.Contract.Laid.{Laid}
 use Rattle.sums.specs.declared.entry.Taken.{Taken}
 use Rattle.sums.specs.declared.entry.Taken.the-variants as taken
+use Rattle.sums.specs.Entry.Encoding.{encodeSum}
 use Rattle.sums.specs.Entry.Taking.{Weighed}
-use Rattle.sums.proofs.bytes.Theorem.{settled, only}
+use Rattle.sums.proofs.bytes.Theorem.{settled, only, weighed-good}
+use Rattle.sums.proofs.bytes.Laws.{encode-unique}
 use Rattle.values.specs.declared.ValueAnswer.{ValueAnswer}
 use Rattle.values.specs.declared.ValueAnswer.the-variants.{Value, Refused}
 use Rattle.values.specs.Value.{value}
@@ -35,6 +38,15 @@ module _ {l : List ℕ} {x : Float} {t : Taken} (w : Weighed l t) where
 
   pub value-taken : {n : ℕ} {b : Book} {r : ValueAnswer} → t ≡ taken.Sum n → Laid l b n → ((s : Sum) → Lies b 0 n 4 s → r ≡ valueOf s x) → ValueOfBytes l x r
   value-taken e d f = record { weight = t; weighed = w; refuses = λ q g. absurd (not-both g e); takes = λ m g s i k. f s (d .every s i k) }
+
+-- the value of a sum whose bytes these are
+pub value-known : {l : List ℕ} {x : Float} {r : ValueAnswer} (s : Sum) → encodeSum s ≡ l → Good 4 s → 1 ≤ size s → size s ≤ 64 → r ≡ valueOf s x → ValueOfBytes l x r
+value-known {l} {x} s e g some few v = record {
+  weight = taken.Sum (size s);
+  weighed = subst (λ (m : List ℕ). Weighed m (taken.Sum (size s))) e (weighed-good s g some few);
+  refuses = λ q h. absurd (not-both h refl);
+  takes = λ n h u d k. v ∙ ap (λ (z : Sum). valueOf z x) (encode-unique 4 4 s u g k few (e ∙ sym d));
+}
 
 -- a sum lies where it was taken in
 pub value-held : {l : List ℕ} {b : Book} {n : ℕ} → Laid l b n → Held b 0 n 4

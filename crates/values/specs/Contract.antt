@@ -1,2 +1,3 @@
 -- What contracts between own functions, or laws, cite, and no promise to a user.
 pub mod Findings
+pub mod Powers

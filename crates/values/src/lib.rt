@@ -1,4 +1,6 @@
 // The value of a sum at x, straight from its terms. No list is written: the outermost terms are met once, in rising power, and what is found in them is judged at the end.
+pub mod powers;
+
 use cells::Entry;
 use limits::Refusal;
 use numbers::SmallWhole;
@@ -13,7 +15,7 @@ ghost use Rattle.running.specs.Primitives.{times};
 ghost use Rattle.sums.specs.Contract.Lies.{Held, OfOne};
 ghost use Rattle.values.specs.Value.{isOne, timesUnless};
 ghost use Rattle.values.specs.ValueOf.{valueOf, valueNumbers};
-ghost use Rattle.values.specs.Contract.Findings.{plus, onward, judged, Reached, Adds, Takes, Finds};
+ghost use Rattle.values.specs.Contract.Findings.{plus, onward, judged, Reached, Adds, Takes, Starts, Finds};
 
 // A value, or a refusal; everything is at place 0.
 pub enum ValueAnswer {
@@ -133,7 +135,7 @@ fn add_power(x: f64, f: Found, n: u64, c: Complex) -> Found
 }
 
 // The next outermost term. A term that is zero is asked nothing.
-fn take_term(x: f64, f: Found, e: Entry) -> Found
+pub fn take_term(x: f64, f: Found, e: Entry) -> Found
     requires { ⌜ Reached x f ⌝ }
     ensures { λ r. ⌜ Takes x f e r ⌝ }
 {
@@ -176,7 +178,7 @@ fn total(x: f64, f: Found) -> f64
 }
 
 // What was found, judged: 14 for the whole sum comes before 15. One test at the end is enough, since what isn't finite stays so.
-fn judge(x: f64, f: Found) -> ValueAnswer
+pub fn judge(x: f64, f: Found) -> ValueAnswer
     ensures { λ r. ⌜ r ≡ judged (f .whole) (f .real) (onward x (f .any) (f .sum) []) ⌝ }
 {
     if !f.whole {
@@ -192,19 +194,26 @@ fn judge(x: f64, f: Found) -> ValueAnswer
     ValueAnswer::Value(v)
 }
 
-// The outermost terms of the sum of the first n cells, in turn.
-fn find(kinds: &[u8], insides: &[u8], numbers: &[[u64; 3]], n: usize, x: f64) -> Found
-    requires { ⌜ Held (lent kinds insides numbers) 0 n sumLevels ⌝ }
-    ensures { λ r. ⌜ OfOne (entering kinds insides numbers) 0 n sumLevels (λ s. Finds x s r) ⌝ }
+// Before the first term: the last power of x is x itself.
+pub fn nothing_found(x: f64) -> Found
+    ensures { λ r. ⌜ Starts x r ⌝ }
 {
-    let mut f = Found {
+    Found {
         whole: true,
         real: true,
         any: false,
         sum: 0.0,
         exponent: 1,
         power: x,
-    };
+    }
+}
+
+// The outermost terms of the sum of the first n cells, in turn.
+fn find(kinds: &[u8], insides: &[u8], numbers: &[[u64; 3]], n: usize, x: f64) -> Found
+    requires { ⌜ Held (lent kinds insides numbers) 0 n sumLevels ⌝ }
+    ensures { λ r. ⌜ OfOne (entering kinds insides numbers) 0 n sumLevels (λ s. Finds x s r) ⌝ }
+{
+    let mut f = nothing_found(x);
     let mut i = 0usize;
     while i < n {
         let e = cells::load(kinds, insides, numbers, i);

@@ -1,41 +1,21 @@
--- The sum is taken and valued, or refused. Assumes nothing.
+-- The quick way's answer, or that of the sum taken in. Assumes nothing.
 use mathlib.Core.Path.{refl}
-use Rattle.values.proofs.Taking.{value-refused, value-taken, value-held}
 use borrow.Author.Needs.{needs}
 use Rattle.algebra.proofs.value.Statement.{statement}
 use Rattle.algebra.proofs.value.Tie as tie
 
-value-of-requires : tie.Need-value-of-requires
-value-of-requires c κs =
-    let after-taken2 = c .before .before .before .before in
-    let after-take-in = after-taken2 .before .before .before .before .before in
-    value-held (after-take-in .take-in .ensures .1 _ (after-taken2 .taken2 .given .1))
-
 returns : tie.Need-returns
 returns c =
-    let after-take-in = c .before .before .before .before .before .before in
-    (_, refl, value-refused (after-take-in .take-in .ensures .0) (c .before .taken .given .1), refl)
-
-returns-2 : tie.Need-returns-2
-returns-2 c =
-    let after-taken2 = c .before .before .before .before .before in
-    let took = after-taken2 .before .before .before .before .before .take-in .ensures in
-    let given = after-taken2 .taken2 .given .1 in
-    (_, refl, value-taken (took .0) given (took .1 _ given) (c .value-of .ensures), refl)
+    let quick = c .before .quick .given in
+    (quick .0 .0, refl, c .before .before .before .quick-value .ensures (quick .0 .0) (quick .1), refl)
 
 pub value-spec : {M : Type 1} → statement M
 value-spec =
     tie.close
     (tie.spec
-    (λ c. search needs)
-    (λ c. search needs)
-    (λ c. search needs)
     (λ c κs. search needs)
     (λ c. search needs)
     (λ c. search needs)
-    (λ c. search needs)
-    (λ c. search needs)
-    (λ c. search needs)
-    value-of-requires
+    (λ c κs. search needs)
     returns
-    returns-2)
+    (λ c. (c .value-taken .result, refl, c .value-taken .ensures, refl)))

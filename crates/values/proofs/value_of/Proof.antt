@@ -3,6 +3,7 @@ use borrow.Author.Needs.{needs}
 use borrow.Author.Tests.{not-true, not-false}
 use mathlib.Core.Path.{_≡_, refl, sym, _∙_}
 use Rattle.values.specs.ValueOf.{valueOf}
+use Rattle.values.proofs.Laws.{judged-all}
 use Rattle.values.proofs.value_of.Statement.{statement}
 use Rattle.values.proofs.value_of.Tie as tie
 
@@ -18,5 +19,5 @@ value-of-spec =
     (λ c s l.
     let found = c .before in
     let test = found .before in
-    let h = found .find .ensures s l in
-    rw (sym (test .before .is-finite .ensures) ∙ not-false _ (test .if1 .left), ← h .powers, ← h .reals, ← h .sums) (c .judge .ensures)))
+    let fine = sym (test .before .is-finite .ensures) ∙ not-false _ (test .if1 .left) in
+    c .judge .ensures ∙ judged-all _ s (found .find .result) fine (found .find .ensures s l)))

@@ -48,6 +48,12 @@ pub record Takes (x : Float) (f : Found) (e : Entry) (r : Found) : Type 0 where
   pub sums : (ts : List Power) → onward x (f .any) (f .sum) (listed (isZero (e .coef)) (smallWhole (e .num)) (e .coef) ts) ≡ onward x (r .any) (r .sum) ts
   pub reached : Reached x r
 
+-- nothing was met yet: what is said of a sum is what is still to come
+pub record Starts (x : Float) (f : Found) : Type 0 where
+  pub tests : (f .whole ≡ true) × (f .real ≡ true)
+  pub none-yet : f .any ≡ false
+  pub reached : Reached x f
+
 -- every term of the sum was met
 pub record Finds (x : Float) (s : Sum) (f : Found) : Type 0 where
   pub powers : f .whole ≡ allPowers s
