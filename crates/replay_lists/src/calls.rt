@@ -1,4 +1,5 @@
 // Calls of an entry on one input: with just the room that its output needs, with more, with a byte less, and on the input less a byte.
+use crate::count::COUNTS;
 use crate::entries;
 use crate::entries::Answer;
 use crate::entries::Keyword;
@@ -68,7 +69,7 @@ fn is_refused(k: Keyword, input: &[u8], room: usize, number: u64) -> bool
 }
 
 // The room that a success needs, less a byte.
-fn with_short_room(name: &[u8], counts: &mut [u64; 104], k: Keyword, input: &[u8], n: usize)
+fn with_short_room(name: &[u8], counts: &mut [u64; COUNTS], k: Keyword, input: &[u8], n: usize)
     requires { ⌜ n ≤ 16389 ⌝ }
 {
     if n == 0 {
@@ -86,7 +87,7 @@ fn with_short_room(name: &[u8], counts: &mut [u64; 104], k: Keyword, input: &[u8
 }
 
 // The input less its last byte.
-fn with_short_input(name: &[u8], counts: &mut [u64; 104], k: Keyword, input: &[u8]) {
+fn with_short_input(name: &[u8], counts: &mut [u64; COUNTS], k: Keyword, input: &[u8]) {
     let n = input.len();
     if n == 0 {
         return;
@@ -106,7 +107,7 @@ fn with_short_input(name: &[u8], counts: &mut [u64; 104], k: Keyword, input: &[u
 // With just the room that is needed, and with more.
 fn with_enough_room(
     name: &[u8],
-    counts: &mut [u64; 104],
+    counts: &mut [u64; COUNTS],
     k: Keyword,
     input: &[u8],
     answer: Answer,
@@ -129,7 +130,7 @@ fn with_enough_room(
 // Every call on one input, whose answer and output are stored.
 pub fn replay(
     name: &[u8],
-    counts: &mut [u64; 104],
+    counts: &mut [u64; COUNTS],
     k: Keyword,
     input: &[u8],
     answer: Answer,

@@ -44,6 +44,14 @@ pub const DERIVATIVE_FAITHFUL: usize = 11;
 
 pub const INTEGRAL_FAITHFUL: usize = 12;
 
+pub const VALUE: usize = 13;
+
+const ROWS: usize = VALUE + 1;
+
+const COLUMNS: usize = 8;
+
+pub const COUNTS: usize = ROWS * COLUMNS;
+
 pub const ANSWERS: usize = 0;
 
 pub const SHORT_ROOMS: usize = 2;
@@ -51,10 +59,10 @@ pub const SHORT_ROOMS: usize = 2;
 pub const SHORT_INPUTS: usize = 4;
 
 // One more of these.
-fn note(counts: &mut [u64; 104], row: usize, column: usize)
-    requires { ⌜ (row < 13) × (column < 8) ⌝ }
+fn note(counts: &mut [u64; COUNTS], row: usize, column: usize)
+    requires { ⌜ (row < 14) × (column < 8) ⌝ }
 {
-    let i = row * 8 + column;
+    let i = row * COLUMNS + column;
     let n = counts[i];
     if n < u64::MAX {
         counts[i] = n + 1;
@@ -62,20 +70,20 @@ fn note(counts: &mut [u64; 104], row: usize, column: usize)
 }
 
 // One more line of this sort.
-pub fn note_line(counts: &mut [u64; 104], column: usize)
+pub fn note_line(counts: &mut [u64; COUNTS], column: usize)
     requires { ⌜ column < 8 ⌝ }
 {
     note(counts, LINES, column);
 }
 
-fn print(counts: &[u64; 104], row: usize, column: usize)
-    requires { ⌜ (row < 13) × (column < 8) ⌝ }
+fn print(counts: &[u64; COUNTS], row: usize, column: usize)
+    requires { ⌜ (row < 14) × (column < 8) ⌝ }
 {
-    io::print_decimal(STDOUT_FILENO, counts[row * 8 + column]);
+    io::print_decimal(STDOUT_FILENO, counts[row * COLUMNS + column]);
 }
 
 // Writes the place of a call that did not go as it should, if few did not before it.
-fn report(name: &[u8], counts: &[u64; 104], what: &[u8]) {
+fn report(name: &[u8], counts: &[u64; COUNTS], what: &[u8]) {
     if 8 < counts[FAILED] {
         return;
     }
@@ -90,13 +98,13 @@ fn report(name: &[u8], counts: &[u64; 104], what: &[u8]) {
 // Counts a call, and whether it went as it should; where not, it is reported.
 pub fn tally(
     name: &[u8],
-    counts: &mut [u64; 104],
+    counts: &mut [u64; COUNTS],
     row: usize,
     column: usize,
     goes: bool,
     what: &[u8],
 )
-    requires { ⌜ (row < 13) × (column < 7) ⌝ }
+    requires { ⌜ (row < 14) × (column < 7) ⌝ }
 {
     note(counts, row, column);
     if goes {
@@ -107,8 +115,8 @@ pub fn tally(
     report(name, counts, what);
 }
 
-fn print_both(counts: &[u64; 104], row: usize, column: usize, between: &[u8], after: &[u8])
-    requires { ⌜ (row < 13) × (column < 7) ⌝ }
+fn print_both(counts: &[u64; COUNTS], row: usize, column: usize, between: &[u8], after: &[u8])
+    requires { ⌜ (row < 14) × (column < 7) ⌝ }
 {
     print(counts, row, column);
     io::write_all(STDOUT_FILENO, between);
@@ -116,8 +124,8 @@ fn print_both(counts: &[u64; 104], row: usize, column: usize, between: &[u8], af
     io::write_all(STDOUT_FILENO, after);
 }
 
-fn summary_of(counts: &[u64; 104], row: usize, name: &[u8])
-    requires { ⌜ row < 13 ⌝ }
+fn summary_of(counts: &[u64; COUNTS], row: usize, name: &[u8])
+    requires { ⌜ row < 14 ⌝ }
 {
     io::write_all(STDOUT_FILENO, name);
     print_both(counts, row, ANSWERS, b" answers, ", b" agree; ");
@@ -137,27 +145,29 @@ fn summary_of(counts: &[u64; 104], row: usize, name: &[u8])
     );
 }
 
-// A run writes no bytes, so there is no room that could be short.
-fn summary_of_runs(counts: &[u64; 104]) {
-    io::write_all(STDOUT_FILENO, b"run: ");
-    print_both(counts, RUN, ANSWERS, b" answers, ", b" agree; ");
+// A run and a value write no bytes, so there is no room that could be short.
+fn summary_without_room(counts: &[u64; COUNTS], row: usize, name: &[u8])
+    requires { ⌜ row < 14 ⌝ }
+{
+    io::write_all(STDOUT_FILENO, name);
+    print_both(counts, row, ANSWERS, b" answers, ", b" agree; ");
     print_both(
         counts,
-        RUN,
+        row,
         SHORT_INPUTS,
         b" inputs a byte short, ",
         b" refused\n",
     );
 }
 
-fn print_line(counts: &[u64; 104], column: usize, after: &[u8])
+fn print_line(counts: &[u64; COUNTS], column: usize, after: &[u8])
     requires { ⌜ column < 8 ⌝ }
 {
     print(counts, LINES, column);
     io::write_all(STDOUT_FILENO, after);
 }
 
-pub fn summary(counts: &[u64; 104]) {
+pub fn summary(counts: &[u64; COUNTS]) {
     print_line(counts, LISTS, b" lists, ");
     print_line(counts, SUMS, b" sums\n");
     summary_of(counts, READ, b"read: ");
@@ -171,7 +181,8 @@ pub fn summary(counts: &[u64; 104]) {
     summary_of(counts, WRITE_FAITHFUL, b"write_faithful: ");
     summary_of(counts, DERIVATIVE_FAITHFUL, b"derivative_faithful: ");
     summary_of(counts, INTEGRAL_FAITHFUL, b"integral_faithful: ");
-    summary_of_runs(counts);
+    summary_without_room(counts, RUN, b"run: ");
+    summary_without_room(counts, VALUE, b"value: ");
     print_line(counts, SKIPPED, b" lines skipped, ");
     print_line(counts, BROKEN, b" broken, ");
     print_line(counts, CUT_OFF, b" cut off or too long\n");

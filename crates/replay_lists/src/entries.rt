@@ -16,6 +16,7 @@ pub enum Keyword {
     Integral,
     Inverse,
     Run,
+    Value,
     BackReal,
     BackComplex,
     WriteFaithfulReal,
@@ -67,6 +68,9 @@ pub fn keyword_of(line: &[u8]) -> Keyword {
     if crate::text::is_keyword(line, b"run") {
         return Keyword::Run;
     }
+    if crate::text::is_keyword(line, b"value") {
+        return Keyword::Value;
+    }
     if crate::text::is_keyword(line, b"back 0") {
         return Keyword::BackReal;
     }
@@ -107,6 +111,7 @@ pub fn word_len(k: Keyword) -> usize {
         Keyword::Integral => 8,
         Keyword::Inverse => 7,
         Keyword::Run => 3,
+        Keyword::Value => 5,
         Keyword::BackReal => 6,
         Keyword::BackComplex => 6,
         Keyword::WriteFaithfulReal => 16,
@@ -119,7 +124,7 @@ pub fn word_len(k: Keyword) -> usize {
 
 // The row in which an entry's calls are counted; a line that is no answer makes no call.
 pub fn row(k: Keyword) -> usize
-    ensures { λ r. ⌜ r < 13 ⌝ }
+    ensures { λ r. ⌜ r < 14 ⌝ }
 {
     match k {
         Keyword::Read => crate::count::READ,
@@ -131,6 +136,7 @@ pub fn row(k: Keyword) -> usize
         Keyword::Integral => crate::count::INTEGRAL,
         Keyword::Inverse => crate::count::INVERSE,
         Keyword::Run => crate::count::RUN,
+        Keyword::Value => crate::count::VALUE,
         Keyword::BackReal => crate::count::BACK,
         Keyword::BackComplex => crate::count::BACK,
         Keyword::WriteFaithfulReal => crate::count::WRITE_FAITHFUL,

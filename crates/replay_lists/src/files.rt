@@ -1,4 +1,5 @@
 // A file, piece by piece: what is left of a piece past its last whole line stands before the next.
+use crate::count::COUNTS;
 use crate::lines;
 use crate::lines::Held;
 ghost use mathlib.Core.Path.{_≡_};
@@ -29,7 +30,7 @@ fn keep(text: &mut [u8], from: usize, n: usize) -> usize
 }
 
 // At the end of a file nothing is left: else it ends within a line, or a line has no room.
-fn finish(counts: &mut [u64; 104], had: usize) {
+fn finish(counts: &mut [u64; COUNTS], had: usize) {
     if 0 < had {
         crate::count::note_line(counts, crate::count::CUT_OFF);
     }
@@ -39,7 +40,7 @@ fn finish(counts: &mut [u64; 104], had: usize) {
 fn run_open(
     name: &[u8],
     fd: i32,
-    counts: &mut [u64; 104],
+    counts: &mut [u64; COUNTS],
     text: &mut [u8],
     input: &mut [u8],
     want: &mut [u8],
@@ -62,7 +63,7 @@ fn run_open(
 }
 
 // Every line of the file of this name. The text has room for a line of 2,048 records in full.
-pub fn run(name: &[u8], counts: &mut [u64; 104]) {
+pub fn run(name: &[u8], counts: &mut [u64; COUNTS]) {
     let fd = os::open_read(name);
     if fd < 0 {
         crate::count::note_line(counts, crate::count::CUT_OFF);

@@ -1,5 +1,7 @@
 // The lines of a text: an input is held, and the answers after it are replayed on it.
+use crate::at_x;
 use crate::calls;
+use crate::count::COUNTS;
 use crate::entries;
 use crate::entries::Answer;
 use crate::entries::Keyword;
@@ -34,7 +36,7 @@ enum Stored {
     Broken,
 }
 
-fn list_line(line: &[u8], counts: &mut [u64; 104], input: &mut [u8]) -> Held {
+fn list_line(line: &[u8], counts: &mut [u64; COUNTS], input: &mut [u8]) -> Held {
     let decoded = crate::text::decode(line, 4, RECORD, input);
     match decoded {
         Decoded::Bytes(n) => {
@@ -48,7 +50,7 @@ fn list_line(line: &[u8], counts: &mut [u64; 104], input: &mut [u8]) -> Held {
     }
 }
 
-fn sum_line(line: &[u8], counts: &mut [u64; 104], input: &mut [u8]) -> Held {
+fn sum_line(line: &[u8], counts: &mut [u64; COUNTS], input: &mut [u8]) -> Held {
     let decoded = crate::text::decode(line, 3, ENTRY, input);
     match decoded {
         Decoded::Bytes(n) => {
@@ -116,7 +118,7 @@ fn stored_of(line: &[u8], k: Keyword, want: &mut [u8]) -> Stored {
 // The calls on the first n bytes of the input, of whose output the first m bytes of want are stored.
 fn replay(
     name: &[u8],
-    counts: &mut [u64; 104],
+    counts: &mut [u64; COUNTS],
     k: Keyword,
     input: &[u8],
     n: usize,
@@ -155,7 +157,7 @@ fn held_bytes(held: Held) -> usize {
 fn answer_line(
     name: &[u8],
     line: &[u8],
-    counts: &mut [u64; 104],
+    counts: &mut [u64; COUNTS],
     k: Keyword,
     held: Held,
     input: &[u8],
@@ -174,7 +176,7 @@ fn answer_line(
     replay(name, counts, k, input, n, answer, want, m);
 }
 
-fn run_line(name: &[u8], line: &[u8], counts: &mut [u64; 104], held: Held, input: &[u8]) {
+fn run_line(name: &[u8], line: &[u8], counts: &mut [u64; COUNTS], held: Held, input: &[u8]) {
     let Held::List(n) = held else {
         crate::count::note_line(counts, crate::count::BROKEN);
         return;
@@ -186,11 +188,23 @@ fn run_line(name: &[u8], line: &[u8], counts: &mut [u64; 104], held: Held, input
     runs::replay(name, counts, line, &input[..n]);
 }
 
+fn value_line(name: &[u8], line: &[u8], counts: &mut [u64; COUNTS], held: Held, input: &[u8]) {
+    let Held::Sum(n) = held else {
+        crate::count::note_line(counts, crate::count::BROKEN);
+        return;
+    };
+    if input.len() < n {
+        crate::count::note_line(counts, crate::count::BROKEN);
+        return;
+    }
+    at_x::replay(name, counts, line, &input[..n]);
+}
+
 // One line: what is held after it.
 fn run(
     name: &[u8],
     line: &[u8],
-    counts: &mut [u64; 104],
+    counts: &mut [u64; COUNTS],
     held: Held,
     input: &mut [u8],
     want: &mut [u8],
@@ -202,6 +216,10 @@ fn run(
         Keyword::Sum => sum_line(line, counts, input),
         Keyword::Run => {
             run_line(name, line, counts, held, input);
+            held
+        }
+        Keyword::Value => {
+            value_line(name, line, counts, held, input);
             held
         }
         Keyword::Other => {
@@ -235,7 +253,7 @@ pub fn run_all(
     name: &[u8],
     text: &[u8],
     n: usize,
-    counts: &mut [u64; 104],
+    counts: &mut [u64; COUNTS],
     held: Held,
     input: &mut [u8],
     want: &mut [u8],

@@ -1,4 +1,5 @@
 // Runs of one list: at the number that a line gives, and on the list less a byte.
+use crate::count::COUNTS;
 use crate::text::Number;
 use crate::text::Numbers;
 
@@ -58,7 +59,7 @@ fn stored_of(line: &[u8]) -> Stored {
 }
 
 // The number with these bits; infinity for every number that isn't finite, since a NaN has many patterns.
-fn number_of(bits: u64) -> f64 {
+pub fn number_of(bits: u64) -> f64 {
     if numbers::finite_bits(bits) {
         return f64::from_bits(bits);
     }
@@ -66,7 +67,7 @@ fn number_of(bits: u64) -> f64 {
 }
 
 // Whether a number is finite and has these bits.
-fn has_bits(x: f64, bits: u64) -> bool {
+pub fn has_bits(x: f64, bits: u64) -> bool {
     if numbers::is_finite(x) {
         return f64::to_bits(x) == bits;
     }
@@ -83,7 +84,7 @@ fn is_given(list: &[u8], want: Run) -> bool {
 }
 
 // The list less its last byte is refused, and nothing is told of it.
-fn with_short_input(name: &[u8], counts: &mut [u64; 104], list: &[u8], x: u64) {
+fn with_short_input(name: &[u8], counts: &mut [u64; COUNTS], list: &[u8], x: u64) {
     let n = list.len();
     if n == 0 {
         return;
@@ -109,7 +110,7 @@ fn with_short_input(name: &[u8], counts: &mut [u64; 104], list: &[u8], x: u64) {
 }
 
 // Every run of the list that a line asks for.
-pub fn replay(name: &[u8], counts: &mut [u64; 104], line: &[u8], list: &[u8]) {
+pub fn replay(name: &[u8], counts: &mut [u64; COUNTS], line: &[u8], list: &[u8]) {
     let stored = stored_of(line);
     let Stored::Answer(run) = stored else {
         crate::count::note_line(counts, crate::count::BROKEN);
