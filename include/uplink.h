@@ -43,7 +43,8 @@ enum uplink_number {
     UPLINK_BAD_RECORD = 11,        /* the bytes are no list, or no sum */
     UPLINK_NO_ROOM = 12,           /* a sum, the stack, or what is held grows too large */
     UPLINK_TOO_DEEP = 13,          /* nested too deep */
-    UPLINK_NEEDS_MATH = 14,        /* a power, log or root outside of the exact cases; in the run also a root below zero */
+    UPLINK_NEEDS_MATH = 14,        /* a power, log or root outside of the exact cases; in the run also a root below zero; in
+                                    * uplink_value a term that is no whole power of x */
     UPLINK_NOT_FINITE = 15,        /* a number that isn't finite, given or formed, but for a power of x */
     UPLINK_BIG_POWER = 16,         /* a sum raised to a whole number above 64 */
     UPLINK_OUTPUT_ROOM = 17,       /* the output lent is too short */
@@ -123,7 +124,7 @@ enum uplink_term {
 /* Place: the record that refused while a list was read or run, else 0. */
 struct uplink_answer {
     uint64_t place;
-    uint64_t count; /* entries or records written */
+    uint64_t count; /* entries or records written; uplink_value writes none */
 };
 
 struct uplink_read_answer {
@@ -200,6 +201,19 @@ uint64_t uplink_integral_faithful(const uint8_t *list, size_t list_bytes, uint8_
  * and the zero that it finds; below zero it is UPLINK_NEEDS_MATH. */
 uint64_t uplink_run(const uint8_t *list, size_t list_bytes, double x, double *value,
                     struct uplink_run_answer *answer);
+
+/* The value of a sum at x, without a list; +0 when refused. Terms whose coefficient is zero in both parts don't
+ * matter, whatever they are. Each other outermost term is to be x to a whole power from 0 to 64 (-0 counts as 0;
+ * 0.5 isn't one). They are added in rising power: the power 0 is x * 0 + c, every other one the product from the
+ * left, times the real part of the coefficient unless that is 1. Without terms it is x * 0. To the bit this is what
+ * uplink_run gives at x for the list that uplink_write writes of the sum with the flag 0.
+ *
+ * The refusals, asked in this order: UPLINK_BAD_RECORD and UPLINK_TOO_DEEP, as of uplink_write; UPLINK_NOT_FINITE
+ * where x isn't finite; UPLINK_NEEDS_MATH where any of the terms is no such power; UPLINK_NOT_FINITE where the
+ * imaginary part of one of them reaches 2^-52 (a smaller one is dropped, as in writing), or where a value formed
+ * isn't finite. Place and count are 0, always. */
+uint64_t uplink_value(const uint8_t *sum, size_t sum_bytes, double x, double *value,
+                      struct uplink_answer *answer);
 
 /* How many steps a reading of the list takes, known before it is read. A step is a record that is run,
  * counted as often as it runs, and a body is a step of its own: Dup, Mul are 2 steps, Both with the body

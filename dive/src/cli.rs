@@ -39,6 +39,11 @@ pub enum Command {
         file: String,
         x: f64,
     },
+    /// The value of the list's formula.
+    Value {
+        list: ToRead,
+        x: f64,
+    },
     Table {
         list: ToRead,
         minutes: Minutes,
@@ -146,6 +151,7 @@ fn command(name: &str, words: Words) -> Result<Command, Failure> {
     check_options(name, &words)?;
     match name {
         "run" => run(words.plain),
+        "value" => value(words),
         "table" => table(words),
         "plot" => plot(words),
         _ => of_one_file(name, words),
@@ -153,12 +159,13 @@ fn command(name: &str, words: Words) -> Result<Command, Failure> {
 }
 
 /// The commands that read a list as a formula.
-const READING: [&str; 7] = [
+const READING: [&str; 8] = [
     "read",
     "derivative",
     "integral",
     "inverse",
     "write",
+    "value",
     "table",
     "plot",
 ];
@@ -170,7 +177,7 @@ fn check_options(name: &str, words: &Words) -> Result<(), Failure> {
     if words.csv && name != "table" {
         return Err(Failure::Usage("--csv is for the table alone".into()));
     }
-    if words.out.is_some() && matches!(name, "show" | "cost" | "run" | "table") {
+    if words.out.is_some() && matches!(name, "show" | "cost" | "run" | "value" | "table") {
         return Err(Failure::Usage(
             "what it finds is printed, and it takes no -o".into(),
         ));
@@ -224,9 +231,15 @@ fn of_one_file(name: &str, words: Words) -> Result<Command, Failure> {
 }
 
 fn run(plain: Vec<String>) -> Result<Command, Failure> {
-    let [file, x] = exactly(plain, "FILE and X")?;
-    let x = numbers::parse(&x).map_err(|message| Failure::Usage(format!("X: {message}")))?;
+    let (file, x) = file_and_x(plain)?;
     Ok(Command::Run { file, x })
+}
+
+fn value(words: Words) -> Result<Command, Failure> {
+    let long = words.long;
+    let (file, x) = file_and_x(words.plain)?;
+    let list = ToRead { file, long };
+    Ok(Command::Value { list, x })
 }
 
 fn table(words: Words) -> Result<Command, Failure> {
@@ -266,6 +279,12 @@ fn needed(out: Option<String>) -> Result<String, Failure> {
     out.ok_or_else(|| Failure::Usage("-o and the name of a file to write are needed".into()))
 }
 
+fn file_and_x(plain: Vec<String>) -> Result<(String, f64), Failure> {
+    let [file, x] = exactly(plain, "FILE and X")?;
+    let x = numbers::parse(&x).map_err(|message| Failure::Usage(format!("X: {message}")))?;
+    Ok((file, x))
+}
+
 fn list_and_minutes(plain: Vec<String>, long: bool) -> Result<(ToRead, Minutes), Failure> {
     let [file, from, to, step] = exactly(plain, "FILE, FROM, TO and STEP")?;
     let minutes = Minutes::parse([&from, &to, &step])?;
@@ -292,13 +311,6 @@ mod tests {
         let file = || String::from("a.txt");
         let list = |long| ToRead { file: file(), long };
         assert_eq!(parsed("show a.txt"), Ok(Command::Show { file: file() }));
-        assert_eq!(
-            parsed("run a.txt -2.5"),
-            Ok(Command::Run {
-                file: file(),
-                x: -2.5
-            })
-        );
         let out = Some(String::from("b"));
         assert_eq!(
             parsed("read -o b a.txt"),
@@ -330,10 +342,25 @@ mod tests {
         assert_eq!(parsed("--version"), Ok(Command::Version));
     }
 
+    #[test]
+    fn commands_with_an_x_are_understood() {
+        let file = || String::from("a.txt");
+        let x = -2.5;
+        let run = Command::Run { file: file(), x };
+        assert_eq!(parsed("run a.txt -2.5"), Ok(run));
+        let list = ToRead {
+            file: file(),
+            long: true,
+        };
+        let value = Command::Value { list, x };
+        assert_eq!(parsed("value a.txt -2.5 --long"), Ok(value));
+    }
+
     /// A command line of the commands that have these names.
     fn lines<'a>(names: &'a [&str]) -> impl Iterator<Item = String> + 'a {
         names.iter().map(|name| match *name {
             "run" => "run a.txt 1".into(),
+            "value" => "value a.txt 1".into(),
             "table" => "table a.txt 0 1 1".into(),
             "plot" => "plot a.txt 0 1 1 -o b".into(),
             "assemble" => "assemble a.txt -o b".into(),
@@ -347,6 +374,7 @@ mod tests {
             Ok(
                 Command::Read { list, .. }
                 | Command::Make { list, .. }
+                | Command::Value { list, .. }
                 | Command::Table { list, .. }
                 | Command::Plot { list, .. },
             ) => list.long,
@@ -372,7 +400,9 @@ mod tests {
             assert_eq!(writer_of(&line), Writer::Faithful, "{line}");
             assert_eq!(writer_of(&(line.clone() + " --as-rust")), Writer::AsRust);
         }
-        for line in lines(&["show", "text", "cost", "read", "inverse", "run", "table"]) {
+        for line in lines(&[
+            "show", "text", "cost", "read", "inverse", "run", "value", "table",
+        ]) {
             assert!(refused(&(line + " --as-rust")).contains("takes no --as-rust"));
         }
     }
@@ -385,6 +415,12 @@ mod tests {
         assert!(refused("run a.txt")
             .contains("it takes FILE and X, and 1 words are given\nusage: dive run FILE X"));
         assert!(refused("run a.txt two").contains("X: `two` is no number"));
+        assert!(refused("value a.txt").contains(
+            "it takes FILE and X, and 1 words are given\nusage: dive value FILE X [--long]"
+        ));
+        assert!(refused("value a.txt 1 2").contains("it takes FILE and X, and 3 words"));
+        assert!(refused("value a.txt two").contains("X: `two` is no number"));
+        assert!(refused("value a.txt 1 -o b").contains("no -o"));
         assert!(refused("plot a.txt 0 1 0.1").contains("-o and the name"));
         assert!(refused("plot a.txt 1 1 0.1 -o b").contains("below TO"));
         assert!(refused("table a.txt 0 1 0").contains("STEP"));

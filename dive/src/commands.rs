@@ -17,7 +17,7 @@ use crate::{
     remarks,
     source::{save, Source},
     table::{self, Minutes},
-    words,
+    value, words,
     writer::Writer,
 };
 
@@ -60,6 +60,7 @@ pub fn run(command: Command) -> Done {
             out,
         } => make(asked, writer, &list, out.as_deref()),
         Command::Run { file, x } => run_list(&file, x),
+        Command::Value { list, x } => value_of(&list, x),
         Command::Table { list, minutes, csv } => table(&list, minutes, csv),
         Command::Plot { list, minutes, out } => plot(&list, minutes, &out),
     }
@@ -201,6 +202,14 @@ fn run_list(file: &str, x: f64) -> Done {
         ran.peak
     )
     .into())
+}
+
+fn value_of(list: &ToRead, x: f64) -> Done {
+    let found = value::value(&list.load()?, x)?;
+    Ok(Printed {
+        text: format!("value  {}\n", numbers::decimal(found.value)),
+        remarks: found.remarks,
+    })
 }
 
 fn table(list: &ToRead, minutes: Minutes, csv: bool) -> Done {

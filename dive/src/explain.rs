@@ -1,8 +1,11 @@
 //! Refusals explained: by name, place and a sentence that helps.
 
-use uplink::{bytes, list_fault, Primitive, Record, Refusal, Refused, SUM_BYTES};
+use uplink::{
+    bytes, list_fault, read, Entry, Primitive, Record, Refusal, Refused, Term, SUM_BYTES,
+};
 
 use crate::{
+    formula::first_term,
     numbers,
     source::{fault_sentence, Source},
     words,
@@ -20,6 +23,8 @@ pub enum Asked {
     Write,
     /// The value at this x.
     Run(f64),
+    /// The formula's value at this x.
+    Value(f64),
 }
 
 impl Asked {
@@ -32,6 +37,7 @@ impl Asked {
             Asked::Inverse => "its inverse".into(),
             Asked::Write => "writing it anew".into(),
             Asked::Run(x) => format!("its run at x = {}", numbers::text(x)),
+            Asked::Value(x) => format!("the value of its formula at x = {}", numbers::text(x)),
         }
     }
 }
@@ -78,6 +84,7 @@ fn sentence(asked: Asked, source: &Source, refusal: Refusal, record: Option<Reco
         (Asked::Run(x), Some(record)) => of_the_run(refusal, &record, x),
         (Asked::Run(_), None) => of_x(refusal),
         (_, Some(record)) => of_reading(refusal, &record),
+        (Asked::Value(x), None) => of_the_value(source, refusal, x),
         (_, None) => of_the_result(asked, refusal),
     };
     special.unwrap_or_else(|| in_general(refusal))
@@ -186,6 +193,40 @@ fn of_the_result(asked: Asked, refusal: Refusal) -> Option<String> {
     Some(text.into())
 }
 
+/// A formula that is read, and has no value at x.
+fn of_the_value(source: &Source, refusal: Refusal, x: f64) -> Option<String> {
+    let sum = read(&source.list().ok()?).ok()?.entries;
+    if !x.is_finite() {
+        return of_x(refusal);
+    }
+    if refusal == Refusal::NeedsMath {
+        let term = first_term(&sum, |entry| !is_zero(entry) && !is_whole_power(entry.term))?;
+        return Some(format!(
+            "The formula is read, but has the term {term}, and a value is formed of whole powers of x from 0 to 64 alone. \
+             `dive read` shows the formula."
+        ));
+    }
+    let is_imaginary = |entry: &Entry| entry.im.abs() >= f64::EPSILON;
+    Some(match first_term(&sum, is_imaginary) {
+        Some(term) => format!(
+            "The formula is read, but its term {term} has an imaginary part, and the value is a real number: only imaginary parts below 2^-52 are left out. \
+             `dive read` shows the formula."
+        ),
+        None => format!(
+            "At x = {} a power of x, a term or what they add up to is infinite or not a number.",
+            numbers::text(x)
+        ),
+    })
+}
+
+fn is_zero(entry: &Entry) -> bool {
+    entry.re == 0.0 && entry.im == 0.0
+}
+
+fn is_whole_power(term: Term) -> bool {
+    matches!(term, Term::X(power) if (0.0..=64.0).contains(&power) && power.fract() == 0.0)
+}
+
 #[cfg(test)]
 mod tests {
     use uplink::LIST_BYTES;
@@ -207,8 +248,11 @@ mod tests {
             add(Asked::Write, writer.anew(list, &mut room).err());
         }
         add(Asked::Inverse, bytes::inverse(list, &mut room).err());
-        for x in [2.0, f64::NAN] {
+        for x in [2.0, 1e200, f64::NAN] {
             add(Asked::Run(x), bytes::run(list, x).err());
+            let sum = bytes::read(list, &mut room);
+            let value = sum.and_then(|found| bytes::value(found.sum, x));
+            add(Asked::Value(x), value.err());
         }
         found
     }

@@ -41,6 +41,12 @@ pub fn formula(sum: &[Entry]) -> String {
     text
 }
 
+/// The first of the outermost terms that is looked for, with its coefficient.
+pub fn first_term(sum: &[Entry], is_it: impl Fn(&Entry) -> bool) -> Option<String> {
+    let (entry, inside) = level(sum).find(|(entry, _)| is_it(entry))?;
+    Some(formula(&[&[*entry], inside].concat()))
+}
+
 fn with_coefficient(entry: &Entry, inside: &[Entry]) -> String {
     let number = coefficient(entry);
     match entry.term {

@@ -21,6 +21,7 @@ dive: formulas of dives as lists of steps
   dive inverse FILE                    the list that undoes it
   dive write FILE                      the same formula, written anew
   dive run FILE X                      the list's value at x
+  dive value FILE X                    the formula's value at x
   dive table FILE FROM TO STEP         minutes, depth and speed
   dive plot FILE FROM TO STEP -o OUT   the same as a picture (SVG)
   dive help COMMAND                    more about a command
@@ -41,7 +42,7 @@ Exit codes: 0 done, 1 refused, 2 wrong usage or a file that can't be read or
 written.
 ";
 
-pub const COMMANDS: [Command; 14] = [
+pub const COMMANDS: [Command; 15] = [
     Command {
         name: "show",
         usage: "show FILE",
@@ -78,9 +79,9 @@ own. Both runs its body twice, so a Both inside a Both doubles the steps, and a
 short list can take longer than anyone can wait. More than 2^64 - 2 steps are
 not told apart: `more than 18 quintillion` is printed for them.
 
-Commands that read the list (read, derivative, integral, inverse, write, table,
-plot) ask for this number first. Above ten million they print it and stop,
-unless --long is given.
+Commands that read the list (read, derivative, integral, inverse, write, value,
+table, plot) ask for this number first. Above ten million they print it and
+stop, unless --long is given.
 
 Example: 62 Boths, one inside the other
 
@@ -147,6 +148,32 @@ derived.
 
 Pow gives 1 for the power 0, whatever number is raised. Read as a formula the
 same step makes the constant 0, and the derivative goes by that.
+",
+    },
+    Command {
+        name: "value",
+        usage: "value FILE X [--long]",
+        about: "\
+Reads the list as a formula, and prints the formula's value at x = X. No list is
+written or run for it: the terms that aren't zero are added in rising power. If
+the list has no complex step, this is to the bit what `dive run` gives for the
+list that `dive write` writes.
+
+A value is formed of whole powers of x from 0 to 64. Any other term is refused,
+a root or a sine for example. Imaginary parts below 2^-52 are left out, larger
+ones are refused.
+
+The list itself may give something else when it is run, or nothing, and then a
+remark says so, and why if that is known: the power 0 gives 1 where it is run
+and 0 where it is read; the root of x^2 is the magnitude of x where it is run
+and x where it is read; other steps round otherwise; and not every step that is
+read is run.
+
+Example
+
+  dive value samples/fork.txt 5        # 150, although Fork isn't run
+  dive value samples/nought.txt 0      # 0, where `dive run` gives 5
+  dive value samples/turn.txt -4       # 210, where `dive run` gives 90
 ",
     },
     Command {

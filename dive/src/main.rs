@@ -20,6 +20,7 @@ mod source;
 mod stored;
 mod svg;
 mod table;
+mod value;
 mod words;
 mod writer;
 

@@ -4,13 +4,16 @@ use uplink::{read, Entry, Primitive, Record, Term};
 
 use crate::formula::formula;
 
+/// Whether the step at a place is 'to the power 0', straight behind its push.
+pub fn raises_to_nought(list: &[Record], place: usize) -> bool {
+    let pow = Record::Primitive(Primitive::Pow);
+    let is_nought = |record| matches!(record, Record::RealPush(power) if power == 0.0);
+    list[place] == pow && place > 0 && is_nought(list[place - 1])
+}
+
 /// Of a list with the step 'to the power 0', which runs otherwise than it reads.
 pub fn of_list(list: &[Record]) -> Option<String> {
-    let pow = Record::Primitive(Primitive::Pow);
-    let is_nought = |pair: &[Record]| {
-        matches!(pair[0], Record::RealPush(power) if power == 0.0) && pair[1] == pow
-    };
-    let place = list.windows(2).position(is_nought)? + 1;
+    let place = (0..list.len()).find(|&place| raises_to_nought(list, place))?;
     Some(format!(
         "record {place} raises to the power 0, which gives 1 where the list is run and 0 where it is read as a formula: \
          depth and speed may not belong together (docs/DIFFERENCES.md, Reading and running)"

@@ -470,7 +470,9 @@ fn the_rusts_list_computes_another_formula() {
 
 #[test]
 fn of_powers_both_writers_write_the_same() {
-    for sample in ["parabola", "cubic", "fit", "on", "fork", "drag", "root"] {
+    for sample in [
+        "parabola", "cubic", "fit", "on", "fork", "drag", "root", "nought", "turn",
+    ] {
         for command in ["derivative", "integral", "write"] {
             let plain = line(&format!("{command} samples/{sample}.txt"));
             let rusts = line(&format!("{command} samples/{sample}.txt --as-rust"));

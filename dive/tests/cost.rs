@@ -10,12 +10,13 @@ use uplink::{encode_list, Record};
 const HOSTILE: &str = "samples/hostile.txt";
 
 /// The commands that read a list as a formula, with what follows the file's name.
-const READING: [(&str, &str); 7] = [
+const READING: [(&str, &str); 8] = [
     ("read", ""),
     ("derivative", ""),
     ("integral", ""),
     ("inverse", ""),
     ("write", ""),
+    ("value", "2.5"),
     ("table", "0 10 1"),
     ("plot", "0 10 1 -o"),
 ];
@@ -68,6 +69,8 @@ fn samples_have_their_costs() {
         ("fork", "10"),
         ("drag", "9"),
         ("root", "10"),
+        ("nought", "15"),
+        ("turn", "7"),
         ("swell", "13"),
         ("unfinished", "8"),
         ("hostile", "18446744073709551613"),
@@ -80,7 +83,7 @@ fn samples_have_their_costs() {
 
 #[test]
 fn a_run_takes_the_steps_that_the_cost_says() {
-    for sample in ["parabola", "cubic", "fit", "on", "root"] {
+    for sample in ["parabola", "cubic", "fit", "on", "root", "nought", "turn"] {
         let cost = line(&format!("cost samples/{sample}.txt")).done();
         let ran = line(&format!("run samples/{sample}.txt 1")).done();
         assert!(ran.contains(&cost), "{sample}: {ran}");

@@ -1,4 +1,4 @@
-/* Calls every function of uplink.h on answers that document 01 prints, on lists of functions, on lists whose cost is known, and on wrong input. */
+/* Calls every function of uplink.h on answers that document 01 prints, on lists of functions, on sums beside their lists, on lists whose cost is known, and on wrong input. */
 #include "uplink.h"
 #include <stdio.h>
 #include <string.h>
@@ -271,6 +271,109 @@ static void refusals(void)
     expect(value == 0 && ran.place == 2 && ran.steps == 0 && ran.peak == 0, "with value, steps and peak 0");
 }
 
+/* The number, the value to the bit, and place and count 0; nothing beside value and answer is written. */
+static void has_value(const void *sum, size_t bytes, double x, uint64_t number, double value, const char *what)
+{
+    struct uplink_answer answers[3];
+    double values[3];
+    uint8_t around[sizeof *answers];
+
+    memset(around, 0xa5, sizeof around);
+    memset(answers, 0xa5, sizeof answers);
+    memset(values, 0xa5, sizeof values);
+    expect(uplink_value(sum, bytes, x, &values[1], &answers[1]) == number, what);
+    expect(memcmp(&values[1], &value, sizeof value) == 0, what);
+    expect(answers[1].place == 0 && answers[1].count == 0, "at place 0, with count 0");
+    expect(memcmp(&answers[0], around, sizeof around) == 0 && memcmp(&answers[2], around, sizeof around) == 0, "nothing is written beside the answer");
+    expect(memcmp(&values[0], around, sizeof value) == 0 && memcmp(&values[2], around, sizeof value) == 0, "nothing is written beside the value");
+}
+
+static void has_no_value(const void *sum, size_t bytes, double x, uint64_t number, const char *what)
+{
+    has_value(sum, bytes, x, number, 0.0, what);
+}
+
+/* The value of a sum is that of the run of its list. */
+static void values_as_run(const struct uplink_entry *sum, size_t count, const char *what)
+{
+    static const double numbers[] = {0, -0.0, 1, -1, 2.5, -0.1, 0.7, 5e-324, -1e-200, 1e4, -1e15};
+    struct uplink_record list[64];
+    struct uplink_answer written;
+    struct uplink_run_answer ran;
+    double value;
+    size_t i;
+
+    expect(uplink_write((const uint8_t *)sum, count * sizeof *sum, 0, (uint8_t *)list, sizeof list, &written) == UPLINK_DONE, what);
+    for (i = 0; i < sizeof numbers / sizeof *numbers; i++) {
+        expect(uplink_run((uint8_t *)list, written.count * sizeof *list, numbers[i], &value, &ran) == UPLINK_DONE, what);
+        has_value(sum, count * sizeof *sum, numbers[i], UPLINK_DONE, value, what);
+    }
+}
+
+static void values(void)
+{
+    struct uplink_entry dive[] = {term(UPLINK_TERM_X, 0, 1, 60), term(UPLINK_TERM_X, 0, 2, -6)};
+    struct uplink_entry powers[] = {term(UPLINK_TERM_X, 0, -0.0, 0.1), term(UPLINK_TERM_X, 0, 1, 1), term(UPLINK_TERM_X, 0, 2, 0.3),
+                                    term(UPLINK_TERM_X, 0, 3, 1), term(UPLINK_TERM_X, 0, 7, -1.7), term(UPLINK_TERM_X, 0, 19, 1e-9)};
+    struct uplink_entry zeros[] = {term(UPLINK_TERM_X, 0, -1, 0), term(UPLINK_TERM_X, 0, 0.5, -0.0), term(UPLINK_TERM_X, 0, 2, 3),
+                                   term(UPLINK_TERM_SIN, 1, 0, 0), term(UPLINK_TERM_X, 0, 65, 2)};
+    struct uplink_entry high[] = {term(UPLINK_TERM_X, 0, 64, 3)};
+
+    has_value(dive, sizeof dive, 2.5, UPLINK_DONE, 112.5, "112.5 metres after 2.5 minutes");
+    has_value(high, sizeof high, -2, UPLINK_DONE, 3 * 18446744073709551616.0, "3 x^64 at -2");
+    has_value(zeros, 2 * sizeof *zeros, -2, UPLINK_DONE, -0.0, "nothing but zeros, at -2");
+    values_as_run(dive, 2, "60 x - 6 x^2");
+    values_as_run(powers, 6, "six powers, one of them -0");
+    values_as_run(zeros, 5, "zeros that are no whole powers");
+    values_as_run(zeros, 2, "nothing but zeros");
+    powers[2].im = -1.1102230246251565e-16;
+    powers[3].im = 1.1102230246251565e-16;
+    values_as_run(powers, 6, "imaginary parts below 2^-52");
+}
+
+static void no_values(void)
+{
+    const double infinite = 1e308 * 10, below_zero = -infinite, no_number = infinite - infinite;
+    struct uplink_entry dive[] = {term(UPLINK_TERM_X, 0, 1, 60), term(UPLINK_TERM_X, 0, 2, -6)};
+    struct uplink_entry sine[] = {term(UPLINK_TERM_X, 0, 1, 1), term(UPLINK_TERM_SIN, 1, 0, 1), term(UPLINK_TERM_X, 0, 1, 1)};
+    struct uplink_entry deep[] = {term(UPLINK_TERM_SIN, 4, 0, 1), term(UPLINK_TERM_SIN, 3, 0, 1), term(UPLINK_TERM_SIN, 2, 0, 1),
+                                  term(UPLINK_TERM_SIN, 1, 0, 1), term(UPLINK_TERM_X, 0, 1, 1)};
+
+    has_no_value(dive, 0, 1, UPLINK_BAD_RECORD, "no entries are no sum");
+    has_no_value(dive, sizeof dive - 1, 1, UPLINK_BAD_RECORD, "a length that isn't whole entries");
+    has_no_value(sine, 2 * sizeof *sine, infinite, UPLINK_BAD_RECORD, "no sum, before an x that isn't finite");
+    has_no_value(deep, sizeof deep, no_number, UPLINK_TOO_DEEP, "four levels, before an x that isn't finite");
+    has_no_value(deep + 1, sizeof deep - sizeof *deep, 1, UPLINK_NEEDS_MATH, "three levels");
+    has_no_value(sine, sizeof sine, infinite, UPLINK_NOT_FINITE, "x infinite, before a sine");
+    has_no_value(dive, sizeof dive, below_zero, UPLINK_NOT_FINITE, "x infinite below zero");
+    has_no_value(dive, sizeof dive, no_number, UPLINK_NOT_FINITE, "x not a number");
+    sine[0].im = 1;
+    has_no_value(sine, sizeof sine, 1, UPLINK_NEEDS_MATH, "a sine, before an imaginary part");
+    has_no_value(sine, sizeof *sine, 1, UPLINK_NOT_FINITE, "an imaginary part");
+    has_no_value(dive, sizeof dive, 1e200, UPLINK_NOT_FINITE, "a power that overflows");
+}
+
+static void no_powers(void)
+{
+    static const double powers[] = {0.5, -1, 65, 1.0000000000000002, -5e-324, 1e300};
+    struct uplink_entry sum[2], line[] = {term(UPLINK_TERM_X, 0, 0, 1.5e308), term(UPLINK_TERM_X, 0, 1, 1e308)};
+    size_t i;
+
+    for (i = 0; i < sizeof powers / sizeof *powers; i++) {
+        sum[powers[i] < 2] = term(UPLINK_TERM_X, 0, 2, 1e308);
+        sum[powers[i] > 2] = term(UPLINK_TERM_X, 0, powers[i], 5e-324);
+        has_no_value(sum, sizeof sum, 3, UPLINK_NEEDS_MATH, "a power that isn't a whole one from 0 to 64, before an overflow");
+    }
+    has_no_value(line, sizeof line, 1, UPLINK_NOT_FINITE, "a sum that overflows");
+    has_no_value(line + 1, sizeof *line, 2, UPLINK_NOT_FINITE, "a product that overflows");
+    line[0].im = 2.220446049250313e-16;
+    has_no_value(line, sizeof line, 0, UPLINK_NOT_FINITE, "an imaginary part of 2^-52");
+    line[0].im = -2.220446049250313e-16;
+    has_no_value(line, sizeof line, 0, UPLINK_NOT_FINITE, "an imaginary part of -2^-52");
+    line[0].re = 0;
+    has_no_value(line, sizeof line, 0, UPLINK_NOT_FINITE, "an imaginary part without a real one");
+}
+
 static void costs(const struct uplink_record *list, size_t count, uint64_t steps, const char *what)
 {
     struct uplink_cost_answer answer = {7, 7};
@@ -387,6 +490,9 @@ int main(void)
     nought();
     overflows();
     refusals();
+    values();
+    no_values();
+    no_powers();
     steps();
     limits();
     no_costs();

@@ -5,9 +5,10 @@
  * Every buffer is of exact size and comes from malloc, and the answers start undefined, so that valgrind sees
  * any byte read or written outside of what was lent and any answer that isn't written. The program itself sees
  * that a refusal changes no byte and has counts of zero, that a success leaves the bytes past its count, that
- * the input stays, that room doesn't change a result, that the same call twice gives the same, and that both
- * writers refuse alike. Nested Both, which nobody can read to its end, and damaged copies of it go through
- * uplink_cost alone, which has to tell in milliseconds what they cost.
+ * the input stays, that room doesn't change a result, that the same call twice gives the same, that both
+ * writers refuse alike, and that uplink_value gives to the bit what the run of the written list gives. Nested
+ * Both, which nobody can read to its end, and damaged copies of it go through uplink_cost alone, which has to
+ * tell in milliseconds what they cost.
  *
  * With a third word it does wrong on purpose, to show that it would be noticed: it writes a byte past the room
  * that was lent, changes a byte after a refusal, or reads an answer that nobody wrote. */
@@ -223,9 +224,20 @@ static void grow_level(int nesting) {
     }
 }
 
+/* Whole powers of x alone, up to 64 and at times past it: most have a value. */
+static void grow_powers(void) {
+    size_t step = below(4) == 0 ? 1 : 1 + below(9);
+    for (size_t power = below(5); power <= 64 + below(2) && entry_count < UPLINK_MOST_ENTRIES; power += 1 + below(step)) {
+        struct uplink_entry *entry = put_entry(UPLINK_TERM_X, (double)power);
+        if (below(8) != 0) entry->im = below(2) == 0 ? 0 : 1.1102230246251565e-16;
+    }
+    if (entry_count > 0 && entries[0].number == 0 && below(2) == 0) entries[0].number = -0.0;
+}
+
 static struct bytes some_sum(void) {
     entry_count = 0;
-    grow_level(0);
+    if (below(3) == 0) grow_powers();
+    else grow_level(0);
     return copy_of(entries, entry_count * sizeof *entries);
 }
 
@@ -268,21 +280,21 @@ static struct bytes some_bytes(int is_list) {
 
 enum function {
     READ, DERIVATIVE, INTEGRAL, INVERSE, DERIVATIVE_FAITHFUL, INTEGRAL_FAITHFUL, DERIVE, INTEGRATE, WRITE, WRITE_FAITHFUL,
-    RUN, COST, FUNCTIONS
+    VALUE, RUN, COST, FUNCTIONS
 };
 
 static const char *const names[FUNCTIONS] = {
     "read", "derivative", "integral", "inverse", "derivative_faithful", "integral_faithful", "derive", "integrate", "write",
-    "write_faithful", "run", "cost"};
+    "write_faithful", "value", "run", "cost"};
 static unsigned long counts[FUNCTIONS][NUMBERS];
 static const char *wrong = "";
 
 static int takes_a_list(enum function function) {
-    return function != DERIVE && function != INTEGRATE && function != WRITE && function != WRITE_FAITHFUL;
+    return function < DERIVE || function > VALUE;
 }
 
 static int writes_bytes(enum function function) {
-    return function != RUN && function != COST;
+    return function < VALUE;
 }
 
 static size_t result_size(enum function function) {
@@ -330,6 +342,7 @@ static struct given call(enum function function, struct bytes input, uint8_t com
     case WRITE: given.number = uplink_write(input.at, input.length, complex, out, room, two); break;
     case WRITE_FAITHFUL: given.number = uplink_write_faithful(input.at, input.length, complex, out, room, two); break;
     case COST: given.number = uplink_cost(input.at, input.length, cost); break;
+    case VALUE: given.number = uplink_value(input.at, input.length, x, value, two); break;
     default: given.number = uplink_run(input.at, input.length, x, value, ran);
     }
     if (function == READ || strcmp(wrong, "forgotten") == 0)
@@ -340,6 +353,7 @@ static struct given call(enum function function, struct bytes input, uint8_t com
         given.place = cost->place, given.second = cost->steps;
     else
         given.place = two->place, given.second = two->count;
+    if (function == VALUE) given.value = *value;
     if (strcmp(wrong, "overrun") == 0) given.out.at[room] = FILL;
     if (strcmp(wrong, "changed") == 0 && given.number != 0 && room > 0) out[room - 1] = 0;
     free(two), free(three), free(ran), free(cost), free(value);
@@ -365,6 +379,7 @@ static void check(enum function function, struct bytes input, struct given given
             fail(function, input, room, "a place that no record has");
     } else {
         if (given.place != 0) fail(function, input, room, "a success with a place");
+        if (function == VALUE && given.second != 0) fail(function, input, room, "a value with a count");
         if (!writes_bytes(function)) return;
         if (given.second > room / size) fail(function, input, room, "more counted than there is room for");
         if (!all_filled(given.out, given.second * size)) fail(function, input, room, "a byte past the count changed");
@@ -418,6 +433,44 @@ static void refuse_alike(enum function first, enum function second, struct bytes
     free(one.out.at), free(other.out.at);
 }
 
+/* Whether an outermost term that isn't zero is something else than x to a whole power from 0 to 64. */
+static int has_other_term(struct bytes sum) {
+    for (size_t at = 0; at < sum.length;) {
+        struct uplink_entry entry;
+        memcpy(&entry, sum.at + at, sizeof entry);
+        int is_power = entry.kind == UPLINK_TERM_X && entry.number >= 0 && entry.number <= 64 && entry.number == (int)entry.number;
+        if ((entry.re != 0 || entry.im != 0) && !is_power) return 1;
+        at += (1 + (size_t)entry.inside) * sizeof entry;
+    }
+    return 0;
+}
+
+/* The value of a sum at x is that of its list, and so is the number, but for x and for terms that are asked before a list is written. */
+static void value_as_run(struct bytes sum, double x) {
+    struct given value = call_twice(VALUE, sum, 0, x, 0);
+    struct given list = call(WRITE, sum, 0, 0, UPLINK_LIST_BYTES);
+    struct bytes written = {list.out.at, list.second * UPLINK_RECORD_BYTES};
+    struct given ran = call(RUN, written, 0, x, 0);
+    uint64_t number = list.number == 0 ? ran.number : list.number;
+    if (list.number == 0 || list.number == UPLINK_NOT_FINITE) {
+        if (x - x != 0) number = UPLINK_NOT_FINITE;
+        else if (has_other_term(sum)) number = UPLINK_NEEDS_MATH;
+    }
+    if (value.number != number) fail(VALUE, sum, 0, "another number");
+    if (number == 0 && memcmp(&value.value, &ran.value, sizeof x) != 0) fail(VALUE, sum, 0, "the list has another value");
+    free(value.out.at), free(list.out.at), free(ran.out.at);
+}
+
+/* All kinds of x: zeros, small and large ones, those whose powers overflow, and those that aren't finite. */
+static void value_at_all(struct bytes sum) {
+    static const double numbers[] = {0, -0.0, 1, -1, 0.7, -2.5, 5e-324, -1e-160, 2e4, -3e5, 1e155, -1.7976931348623157e308};
+    for (size_t i = 0; i < sizeof numbers / sizeof *numbers; i++) value_as_run(sum, numbers[i]);
+    value_as_run(sum, some_number());
+    value_as_run(sum, 1e308 * 10);
+    value_as_run(sum, -1e308 * 10);
+    value_as_run(sum, 1e308 * 10 - 1e308 * 10);
+}
+
 /* Every list function on lists and at times on sums, and the reverse. */
 static void send_to_all(int is_list) {
     struct bytes input = some_bytes(is_list);
@@ -429,6 +482,7 @@ static void send_to_all(int is_list) {
         refuse_alike(INTEGRAL, INTEGRAL_FAITHFUL, input);
     } else {
         refuse_alike(WRITE, WRITE_FAITHFUL, input);
+        value_at_all(input);
     }
     free(input.at);
 }

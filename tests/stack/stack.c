@@ -19,12 +19,12 @@ enum { STACK_BYTES = 1 << 20, ALIGNMENT = 1 << 16, PAINT = 0xa5, MOST_WORDS = 1 
 
 enum function {
     READ, DERIVATIVE, INTEGRAL, DERIVATIVE_FAITHFUL, INTEGRAL_FAITHFUL, INVERSE, RUN, COST, DERIVE, INTEGRATE, WRITE, WRITE_FAITHFUL,
-    FUNCTIONS
+    VALUE, FUNCTIONS
 };
 
 static const char *const function_names[FUNCTIONS] = {
     "read", "derivative", "integral", "derivative_faithful", "integral_faithful", "inverse", "run", "cost", "derive", "integrate",
-    "write", "write_faithful"};
+    "write", "write_faithful", "value"};
 
 /* ---- the bounds */
 
@@ -45,23 +45,23 @@ static const struct {
     const char *name;
     unsigned most[FUNCTIONS];
 } bounds[ROWS] = {
-    [EMPTY] =      {"the empty list", { 37900,  56800,  54100,  69200,  69400,  35200,   2700,    700,   6300,   6500,  25100,  40400}},
-    [SQUARE] =     {"a square",       { 41100,  60000,  60000,  69200,  69400,  41100,   2900,    800,   6300,   6500,  25100,  40400}},
-    [CUBE] =       {"a cube",         { 41400,  60300,  60300,  69200,  69400,  41400,   2900,    800,   6300,   6500,  25100,  40400}},
-    [LARGE] =      {"(x + 1)^63",     { 41500,  60400,  60400,  69200,  69400,  41500,   2900,    800,   6300,   6500,  25100,  40400}},
-    [WHOLE] =      {"whole arena",    { 41500,  60400,  60400,  69200,  69400,  41500,   2900,    800,   6300,   6500,  25100,  40400}},
-    [COMPLEX] =    {"Complex",        { 41500,  60400,  60400,  69200,  69400,  41500,   2900,    800,   6300,   6500,  25100,  40400}},
-    [CONSTANT] =   {"Exp2 of 5",      { 41400,  60300,  60300,  68700,  69400,  41400,   2900,    800,   6300,   6500,  25100,  40400}},
-    [NOT] =        {"Not",            { 41100,  60000,  60000,  69200,  69400,  41100,   2900,    800,   6300,   6500,  25100,  40400}},
-    [RECIPROCAL] = {"Reciprocal",     { 41600,  60500,  60500,  69200,  69500,  41600,   2900,    800,   6300,   6500,  25100,  40400}},
-    [QUOTIENT] =   {"Div",            { 41600,  60500,  60500,  68700,  69400,  41600,   2900,    800,   6300,   6500,  25100,  40400}},
-    [PRIMITIVES] = {"any primitive",  { 41600,  60500,  60500,  69300,  69500,  41600,   2900,    800,   6600,   6800,  25400,  40500}},
-    [DIVS] =       {"three Divs",     { 73300,  92200,  92200,  73400,  73600,  73300,   2900,    800,  30100,   7400,  26200,  41500}},
-    [SINE] =       {"x^2 + sin x",    { 41300,  60200,  60200,  69300,  69500,  41300,   2900,    800,   6600,   6800,  25400,  40500}},
-    [SINES] =      {"x^2 + 3 sines",  { 41400,  60300,  60300,  41500,  41700,  41500,   2900,    800,   7200,   7400,  26200,  41500}},
-    [LONG_SINE] =  {"sin of 63",      { 41500,  60400,  60400,  41600,  41800,  41500,   2900,    800,   6600,   6800,  25400,  40500}},
-    [RUNS] =       {"128 runs",       { 41100,  60000,  60000,  69200,  69400,  41100,  43500,  14300,   6300,   6500,  25100,  40400}},
-    [NESTED] =     {"64 modifiers",   { 99700, 118600, 118600,  99800, 100000,  99700,  23200,  14300,   6300,   6500,  25100,  40400}},
+    [EMPTY] =      {"the empty list", { 37900,  56800,  54100,  69200,  69400,  35200,   2700,    700,   6300,   6500,  25100,  40400,   2600}},
+    [SQUARE] =     {"a square",       { 41100,  60000,  60000,  69200,  69400,  41100,   2900,    800,   6300,   6500,  25100,  40400,   2600}},
+    [CUBE] =       {"a cube",         { 41400,  60300,  60300,  69200,  69400,  41400,   2900,    800,   6300,   6500,  25100,  40400,   2600}},
+    [LARGE] =      {"(x + 1)^63",     { 41500,  60400,  60400,  69200,  69400,  41500,   2900,    800,   6300,   6500,  25100,  40400,   2600}},
+    [WHOLE] =      {"whole arena",    { 41500,  60400,  60400,  69200,  69400,  41500,   2900,    800,   6300,   6500,  25100,  40400,   2600}},
+    [COMPLEX] =    {"Complex",        { 41500,  60400,  60400,  69200,  69400,  41500,   2900,    800,   6300,   6500,  25100,  40400,   2600}},
+    [CONSTANT] =   {"Exp2 of 5",      { 41400,  60300,  60300,  68700,  69400,  41400,   2900,    800,   6300,   6500,  25100,  40400,   2600}},
+    [NOT] =        {"Not",            { 41100,  60000,  60000,  69200,  69400,  41100,   2900,    800,   6300,   6500,  25100,  40400,   2600}},
+    [RECIPROCAL] = {"Reciprocal",     { 41600,  60500,  60500,  69200,  69500,  41600,   2900,    800,   6300,   6500,  25100,  40400,   2600}},
+    [QUOTIENT] =   {"Div",            { 41600,  60500,  60500,  68700,  69400,  41600,   2900,    800,   6300,   6500,  25100,  40400,   2600}},
+    [PRIMITIVES] = {"any primitive",  { 41600,  60500,  60500,  69300,  69500,  41600,   2900,    800,   6600,   6800,  25400,  40500,   3000}},
+    [DIVS] =       {"three Divs",     { 73300,  92200,  92200,  73400,  73600,  73300,   2900,    800,  30100,   7400,  26200,  41500,   3600}},
+    [SINE] =       {"x^2 + sin x",    { 41300,  60200,  60200,  69300,  69500,  41300,   2900,    800,   6600,   6800,  25400,  40500,   3000}},
+    [SINES] =      {"x^2 + 3 sines",  { 41400,  60300,  60300,  41500,  41700,  41500,   2900,    800,   7200,   7400,  26200,  41500,   3600}},
+    [LONG_SINE] =  {"sin of 63",      { 41500,  60400,  60400,  41600,  41800,  41500,   2900,    800,   6600,   6800,  25400,  40500,   3000}},
+    [RUNS] =       {"128 runs",       { 41100,  60000,  60000,  69200,  69400,  41100,  43500,  14300,   6300,   6500,  25100,  40400,   2600}},
+    [NESTED] =     {"64 modifiers",   { 99700, 118600, 118600,  99800, 100000,  99700,  23200,  14300,   6300,   6500,  25100,  40400,   2600}},
 };
 
 /* ---- lists in words */
@@ -227,7 +227,8 @@ static uint64_t ask(const struct call *call) {
     case DERIVE: return uplink_derive(call->input, call->length, output, sizeof output, &answer);
     case INTEGRATE: return uplink_integrate(call->input, call->length, output, sizeof output, &answer);
     case WRITE: return uplink_write(call->input, call->length, complex_flag, output, sizeof output, &answer);
-    default: return uplink_write_faithful(call->input, call->length, complex_flag, output, sizeof output, &answer);
+    case WRITE_FAITHFUL: return uplink_write_faithful(call->input, call->length, complex_flag, output, sizeof output, &answer);
+    default: return uplink_value(call->input, call->length, 1.5, &value, &answer);
     }
 }
 

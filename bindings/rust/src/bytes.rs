@@ -1,4 +1,4 @@
-//! The twelve entries over bytes, with the caller's buffers: nothing is allocated.
+//! The thirteen entries over bytes, with the caller's buffers: nothing is allocated.
 //!
 //! A buffer of [`SUM_BYTES`](crate::SUM_BYTES) has room for any sum and one of [`LIST_BYTES`](crate::LIST_BYTES) for any list. A refusal changes no byte
 //! of it; a result is written to its front, and the bytes behind that stay as they were.
@@ -183,6 +183,30 @@ pub fn run(list: &[u8], x: f64) -> Result<Ran, Refused> {
     let (number, value, [place, steps, peak]) = ffi::run(list, x);
     checked(number, place)?;
     Ok(Ran { value, steps, peak })
+}
+
+/// The value of a sum at x, without a list: to the bit what [`run`] gives for the list that [`write`] makes of the sum, with `is_complex` false.
+///
+/// Terms whose coefficient is zero in both parts don't matter. Each other outermost term is to be x to a whole power from 0 to 64 (-0 counts as 0, and 0.5 isn't one). They are added in
+/// rising power: the power 0 is x·0 + c, every other one the product from the left, times the real part of the coefficient unless that is 1. Without terms the value is x·0.
+///
+/// ```
+/// use uplink::{bytes, encode_sum, Entry, Refusal};
+/// // 60 x - 6 x^2
+/// let depth = encode_sum(&[Entry::power(1.0, 60.0), Entry::power(2.0, -6.0)]);
+/// assert_eq!(bytes::value(&depth, 2.5)?, 112.5);
+/// let root = encode_sum(&[Entry::power(0.5, 1.0)]);
+/// assert_eq!(bytes::value(&root, 9.0).map_err(|refused| refused.refusal), Err(Refusal::NeedsMath));
+/// # Ok::<(), uplink::Refused>(())
+/// ```
+///
+/// # Errors
+/// In this order, all at place 0: BadRecord, TooDeep; NotFinite where x isn't finite; NeedsMath where any of the terms is no such power; NotFinite where the imaginary part of one of them
+/// reaches 2^-52 (a smaller one is dropped, as in writing), or where a value formed isn't finite.
+pub fn value(sum: &[u8], x: f64) -> Result<f64, Refused> {
+    let (number, value, [place, _]) = ffi::value(sum, x);
+    checked(number, place)?;
+    Ok(value)
 }
 
 /// How many steps a reading of the list takes, known before it is read, in time linear in its records.

@@ -84,6 +84,13 @@ mod raw {
             value: *mut f64,
             answer: *mut u64,
         ) -> u64;
+        pub fn uplink_value(
+            sum: *const u8,
+            sum_len: usize,
+            x: f64,
+            value: *mut f64,
+            answer: *mut u64,
+        ) -> u64;
         pub fn uplink_cost(list: *const u8, list_len: usize, answer: *mut u64) -> u64;
     }
 }
@@ -161,6 +168,15 @@ pub fn run(list: &[u8], x: f64) -> (u64, f64, [u64; 3]) {
             answer.as_mut_ptr(),
         )
     };
+    (number, value, answer)
+}
+
+/// The value, and place and count.
+pub fn value(sum: &[u8], x: f64) -> (u64, f64, Answer) {
+    let (mut value, mut answer) = (0.0, [0; 2]);
+    // SAFETY: as in `read`.
+    let number =
+        unsafe { raw::uplink_value(sum.as_ptr(), sum.len(), x, &mut value, answer.as_mut_ptr()) };
     (number, value, answer)
 }
 

@@ -22,5 +22,5 @@ pub use record::{
 pub use refusal::{Refusal, Refused};
 pub use typed::{
     cost, derivative, derivative_faithful, derive, integral, integral_faithful, integrate, inverse,
-    read, run, write, write_faithful, Sum,
+    read, run, value, write, write_faithful, Sum,
 };

@@ -111,7 +111,7 @@ impl Refusal {
             NoRoom => "a sum or the stack grows past its limit",
             TooDeep => "records or terms lie too deep inside one another",
             NeedsMath => "a power, a root, a logarithm or a function is asked for that this code can't compute",
-            NotFinite => "a coefficient or another number is infinite or not a number, or has an imaginary part where it is written as real",
+            NotFinite => "a coefficient or another number is infinite or not a number, or has an imaginary part where a real number is needed",
             BigPower => "a sum is raised to a whole power above 64",
             OutputRoom => "the result doesn't fit the bytes lent for it, and none of it was written",
             PowerNotFinite => "a power of x is infinite",

@@ -1,4 +1,4 @@
-//! The twelve entries over typed lists and sums.
+//! The thirteen entries over typed lists and sums.
 
 use crate::{
     bytes, decode_list, decode_sum, encode_list, encode_sum, Entry, Ran, Record, Refused,
@@ -211,6 +211,24 @@ pub fn integral_faithful(list: &[Record]) -> Result<Vec<Record>, Refused> {
 /// As [`bytes::run`].
 pub fn run(list: &[Record], x: f64) -> Result<Ran, Refused> {
     bytes::run(&encode_list(list), x)
+}
+
+/// The value of a sum at x, without a list: to the bit what [`run`] gives for the list that [`write`] makes of it. Which terms have one is told at [`bytes::value`].
+///
+/// ```
+/// use uplink::{run, value, write, Entry, Refusal};
+/// // 60 x - 6 x^2
+/// let depth = [Entry::power(1.0, 60.0), Entry::power(2.0, -6.0)];
+/// assert_eq!(value(&depth, 0.1)?, run(&write(&depth, false)?, 0.1)?.value);
+/// let root = [Entry::power(0.5, 1.0)];
+/// assert_eq!(value(&root, 9.0).map_err(|refused| refused.refusal), Err(Refusal::NeedsMath));
+/// # Ok::<(), uplink::Refused>(())
+/// ```
+///
+/// # Errors
+/// As [`bytes::value`].
+pub fn value(sum: &[Entry], x: f64) -> Result<f64, Refused> {
+    bytes::value(&encode_sum(sum), x)
 }
 
 /// How many steps a reading of the list takes, known before it is read. What a step is, is told at [`bytes::cost`].

@@ -140,6 +140,38 @@ fn stored_answers_of_the_run_hold() {
     assert_eq!(count, 505 * 8);
 }
 
+/// What the library answers to a line about a value, and what is stored; values as their bits.
+fn values(line: &Line<'_>, sum: &[u8]) -> [Result<u64, Refused>; 2] {
+    let bits = |at: usize| u64::from_str_radix(line.words[at], 16).expect("16 digits");
+    let stored = match Refusal::from_number(line.number(1)) {
+        Some(refusal) => Err(Refused { refusal, place: 0 }),
+        None => Ok(bits(2)),
+    };
+    let found = bytes::value(sum, f64::from_bits(bits(0)));
+    [found.map(f64::to_bits), stored]
+}
+
+#[test]
+fn stored_answers_of_the_value_hold() {
+    let text = file("values.txt");
+    let (mut sum, mut sums, mut count) = (Vec::new(), 0, 0);
+    for line in lines(&text) {
+        match line.keyword {
+            "sum" => {
+                sum = line.bytes(0, ENTRY_BYTES);
+                sums += 1;
+            }
+            keyword => {
+                assert_eq!(keyword, "value");
+                let [found, stored] = values(&line, &sum);
+                assert_eq!(found, stored, "{:?} of {sum:?}", line.words);
+                count += 1;
+            }
+        }
+    }
+    assert!(sums > 250 && count == 8 * sums, "{sums} {count}");
+}
+
 #[test]
 fn faults_are_found_exactly_where_lists_are_refused_as_a_whole() {
     for name in ["lists.txt", "limits.txt"] {
@@ -190,5 +222,7 @@ fn empty_slices_are_taken() {
     let no_room = bytes::derivative(&[], &mut []).expect_err("no room");
     assert_eq!(no_room.refusal, Refusal::OutputRoom);
     let no_sum = bytes::derive(&[], &mut []).expect_err("no sum");
+    assert_eq!(no_sum.refusal, Refusal::BadRecord);
+    let no_sum = bytes::value(&[], 2.5).expect_err("no sum");
     assert_eq!(no_sum.refusal, Refusal::BadRecord);
 }
