@@ -1,12 +1,13 @@
 //! The plain program's forms, with answers as the library gives them.
 
-use plain::{Refused, Room, Run, RunRoom, general, short};
-use proved::{Ran, Told};
+use plain::{Refused, Room, Run, RunRoom, ValueRoom, general, short};
+use proved::{Ran, Told, Valued};
 
 /// The room that is lent to the plain program, and that nobody clears.
 pub struct Lent {
     room: Box<Room>,
     run_room: Box<RunRoom>,
+    value_room: Box<ValueRoom>,
 }
 
 impl Default for Lent {
@@ -14,6 +15,7 @@ impl Default for Lent {
         Lent {
             room: Box::new(Room::new()),
             run_room: Box::new(RunRoom::new()),
+            value_room: Box::new(ValueRoom::new()),
         }
     }
 }
@@ -23,6 +25,7 @@ pub type Named<F> = (&'static str, F);
 /// From bytes to bytes, with N numbers to tell.
 pub type FromBytes<const N: usize> = fn(&mut Lent, &[u8], &mut [u8]) -> Told<N>;
 pub type RunAt = fn(&mut Lent, &[u8], f64) -> Ran;
+pub type ValueAt = fn(&mut Lent, &[u8], f64) -> Valued;
 
 pub const DERIVATIVE: [Named<FromBytes<2>>; 4] = [
     ("cleared room", |_, list, out| {
@@ -59,6 +62,13 @@ pub const RUN: [Named<RunAt>; 2] = [
     }),
 ];
 
+pub const VALUE: [Named<ValueAt>; 2] = [
+    ("cleared room", |_, sum, x| valued(plain::value(sum, x))),
+    ("lent room", |lent, sum, x| {
+        valued(plain::value_in(&mut lent.value_room, sum, x))
+    }),
+];
+
 fn told<const N: usize>(answer: Result<[u64; N], Refused>) -> Told<N> {
     match answer {
         Ok(answer) => Told { number: 0, answer },
@@ -85,5 +95,12 @@ fn ran(answer: Result<Run, Refused>) -> Ran {
     Ran {
         value: answer.map_or(0, |run| run.value.to_bits()),
         told: told(answer.map(|run| [0, run.steps as u64, run.peak as u64])),
+    }
+}
+
+fn valued(answer: Result<f64, Refused>) -> Valued {
+    Valued {
+        value: answer.map_or(0, f64::to_bits),
+        told: told(answer.map(|_| [0, 0])),
     }
 }

@@ -1,10 +1,10 @@
 //! Holds the plain program against the proved library: number, place, counts,
 //! flag and value of every form's answers, and every byte of the room that is
-//! lent for them.
+//! lent for them. Lists are derived, read and run, sums have their values.
 
 use std::{fmt, fs, path::Path};
 
-use backlog::{Backlog, SIZES, Shape};
+use backlog::{Backlog, POWERS, SIZES, Shape};
 use compare::{
     difference::{Difference, Input, whole_hex},
     lists::{BLOCK, Block, seed_of},
@@ -12,7 +12,8 @@ use compare::{
     seen::Seen,
 };
 use oracle::{
-    cost, costly, crowded, generate,
+    cost, costly, crowded, functions, generate,
+    power_sums::{self, NUMBERS, some_number},
     random::Random,
     records::{MOST_RECORDS, RECORD},
     stored::{self, RUN_AT},
@@ -21,7 +22,7 @@ use oracle::{
 use proved::Told;
 
 use crate::{
-    forms::{self, FromBytes, Lent, Named},
+    forms::{self, FromBytes, Lent, Named, ValueAt},
     sides::X,
 };
 
@@ -35,6 +36,7 @@ const MOST_STEPS: u64 = 100_000;
 pub struct Held {
     lists: usize,
     random_lists: usize,
+    sums: usize,
     answers: usize,
     differences: Vec<String>,
 }
@@ -52,16 +54,18 @@ impl fmt::Display for Held {
         }
         write!(
             f,
-            "plain program: {} lists, {} of them random, {} answers held against the proved library's, {} differ",
+            "plain program: {} lists, {} of them random, and {} sums, {} answers held against the proved library's, {} differ",
             self.lists,
             self.random_lists,
+            self.sums,
             self.answers,
             self.differences.len()
         )
     }
 }
 
-/// Every stored list, those near limits, those that are measured, and so many random ones.
+/// Every stored list and sum, those near limits, those that are measured, and so
+/// many random lists, with random sums among them.
 pub fn hold(random_lists: usize) -> Held {
     let near_limits = [
         generate::near_limits(),
@@ -70,8 +74,11 @@ pub fn hold(random_lists: usize) -> Held {
     ]
     .concat();
     let mut holder = Holder::new();
-    for list in stored_lists() {
-        holder.list(&list, &RUN_AT);
+    for input in stored_inputs() {
+        match input {
+            stored::Input::List(list) => holder.list(&list, &RUN_AT),
+            stored::Input::Sum(sum) => holder.sum(&sum),
+        }
     }
     for list in near_limits.iter().chain(&crowded::near_limits()) {
         holder.some_run(list);
@@ -79,24 +86,29 @@ pub fn hold(random_lists: usize) -> Held {
     for list in measured_lists() {
         holder.list(&list, &[X]);
     }
+    let measured_sums = POWERS.map(|powers| backlog::sums_of(powers).sums).concat();
+    for sums in [functions::sums(), power_sums::at_limits(), measured_sums] {
+        sums.iter().for_each(|sum| holder.sum(sum));
+    }
     holder.random(random_lists, &near_limits);
     holder.held
 }
 
-fn stored_lists() -> Vec<Vec<u8>> {
+fn stored_inputs() -> Vec<stored::Input> {
     let vectors = Path::new(env!("CARGO_MANIFEST_DIR")).join("../vectors");
-    let mut lists = Vec::new();
-    for name in ["lists.txt", "limits.txt", "runs.txt"] {
+    let mut inputs = Vec::new();
+    for name in [
+        "lists.txt",
+        "sums.txt",
+        "limits.txt",
+        "faithful.txt",
+        "values.txt",
+        "runs.txt",
+    ] {
         let text = fs::read_to_string(vectors.join(name)).expect("stored answers");
-        lists.extend(
-            text.lines()
-                .filter_map(|line| match stored::Input::parse(line) {
-                    Some(stored::Input::List(list)) => Some(list),
-                    _ => None,
-                }),
-        );
+        inputs.extend(text.lines().filter_map(stored::Input::parse));
     }
-    lists
+    inputs
 }
 
 fn measured_lists() -> Vec<Vec<u8>> {
@@ -134,6 +146,7 @@ const READ: Entry<3> = Entry {
 struct Holder {
     held: Held,
     seen: Seen,
+    seen_sums: Seen,
     random: Random,
     lent: Lent,
     room: Room,
@@ -145,6 +158,7 @@ impl Holder {
         Holder {
             held: Held::default(),
             seen: Seen::default(),
+            seen_sums: Seen::default(),
             random: Random::new(SEED),
             lent: Lent::default(),
             room: Room::default(),
@@ -160,6 +174,7 @@ impl Holder {
                 let before = self.held.lists;
                 self.some_run(&block.list());
                 self.held.random_lists += self.held.lists - before;
+                block.sums().iter().for_each(|sum| self.sum(sum));
             }
             index += 1;
         }
@@ -196,6 +211,32 @@ impl Holder {
                 let call = format!("run at {x:?}, {form}");
                 let (owed, given) = (format!("{owed:?}"), format!("{given:?}"));
                 let difference = Difference::new(call, Input::List(list), owed, given);
+                self.held.differences.push(difference.to_string());
+            }
+        }
+    }
+
+    /// The values of a sum that wasn't met before, at numbers of every sort.
+    fn sum(&mut self, sum: &[u8]) {
+        if !self.seen_sums.is_new(sum) {
+            return;
+        }
+        self.held.sums += 1;
+        let random = some_number(&mut self.random);
+        for x in NUMBERS.into_iter().chain([X, random]) {
+            self.value(sum, x, &forms::VALUE);
+        }
+    }
+
+    fn value(&mut self, sum: &[u8], x: f64, forms: &[Named<ValueAt>]) {
+        let owed = proved::value(sum, x);
+        for (form, value) in forms {
+            let given = value(&mut self.lent, sum, x);
+            self.held.answers += 1;
+            if given != owed {
+                let call = format!("value at {x:?}, {form}");
+                let (owed, given) = (format!("{owed:?}"), format!("{given:?}"));
+                let difference = Difference::new(call, Input::Sum(sum), owed, given);
                 self.held.differences.push(difference.to_string());
             }
         }
@@ -255,6 +296,43 @@ mod tests {
         Entry {
             forms,
             ..DERIVATIVE
+        }
+    }
+
+    fn found_in_values(value: ValueAt) -> usize {
+        let mut holder = Holder::new();
+        let sum = functions::powers(&[(1.0, 2.0), (64.0, 3.0)]);
+        for sum in [&sum[..], &sum[1..]] {
+            for x in NUMBERS {
+                holder.value(sum, x, &[("one", value)]);
+            }
+        }
+        holder.held.differences.len()
+    }
+
+    #[test]
+    fn wrong_values_are_found() {
+        let right = forms::VALUE[1].1;
+        assert_eq!(found_in_values(right), 0);
+        let wrong: [ValueAt; 3] = [
+            |lent, sum, x| {
+                let mut valued = forms::VALUE[1].1(lent, sum, x);
+                valued.value ^= u64::from(x == 0.7);
+                valued
+            },
+            |lent, sum, x| {
+                let mut valued = forms::VALUE[1].1(lent, sum, x);
+                valued.told.number = valued.told.number.min(14);
+                valued
+            },
+            |lent, sum, x| {
+                let mut valued = forms::VALUE[1].1(lent, sum, x);
+                valued.told.answer[0] += u64::from(valued.told.number == 11);
+                valued
+            },
+        ];
+        for value in wrong {
+            assert!(found_in_values(value) > 0);
         }
     }
 

@@ -10,6 +10,7 @@ mod measure;
 mod measurements;
 mod report;
 mod sides;
+mod values;
 mod writers;
 
 use measurements::Measurements;
@@ -18,7 +19,7 @@ const USAGE: &str = "\
 bench: the proved library, a plain program and the Rust module, measured in one process
 
     bench [--rounds R] [--record FILE]    measure, in 31 rounds if nothing else is said; with --record what is printed is written to FILE too
-    bench --hold N                        hold the plain program against the proved library: on stored lists, those near limits and N random ones";
+    bench --hold N                        hold the plain program against the proved library: on stored lists and sums, those near limits and N random ones";
 
 #[derive(Debug, PartialEq, Eq)]
 enum Task {

@@ -76,6 +76,23 @@ impl<'a> Side<'a> {
             over: Box::new(over),
         }
     }
+
+    /// A side that goes over inputs of its own, as many as the others have.
+    pub fn over_own<A>(
+        name: &'static str,
+        own: &'a [Vec<u8>],
+        mut ask: impl FnMut(&[u8]) -> A + 'a,
+    ) -> Side<'a> {
+        let over = move |lists: &[&[u8]]| {
+            for input in &own[..lists.len()] {
+                drop(black_box(ask(black_box(input))));
+            }
+        };
+        Side {
+            name,
+            over: Box::new(over),
+        }
+    }
 }
 
 /// How often rounds are gone, and how often each side goes over the lists in one.
@@ -159,5 +176,19 @@ mod tests {
         let measured = by_turns(Turns::over(&lists, 4), &lists, &mut sides);
         drop(sides);
         assert_eq!((measured.len(), a, b), (2, 5000, 5000));
+    }
+
+    #[test]
+    fn a_side_with_inputs_of_its_own() {
+        let own = [vec![1], vec![2, 3]];
+        let mut bytes = 0;
+        let mut sides = [Side::over_own("a", &own, |input| bytes += input.len())];
+        let turns = Turns {
+            rounds: 1,
+            times_a_turn: 1,
+        };
+        by_turns(turns, &[&[], &[]], &mut sides);
+        drop(sides);
+        assert_eq!(bytes, 6);
     }
 }

@@ -8,6 +8,7 @@ use crate::{
     costs::{self, CostLine, ReadingLine},
     report::{self, Setting},
     sides::{Entry, Table},
+    values,
     writers::{self, WriterLine},
 };
 
@@ -19,6 +20,8 @@ pub struct Measurements {
     tables: [Table; 3],
     /// Of lists that grow, for each entry and shape.
     growth: [[Table; 2]; 3],
+    /// Of sums.
+    values: Table,
     writers: Vec<WriterLine>,
     costs: Vec<CostLine>,
     readings: Vec<ReadingLine>,
@@ -44,6 +47,7 @@ impl Measurements {
             setting,
             tables: Entry::ALL.map(|entry| of_groups(entry, &groups, rounds)),
             growth: Entry::ALL.map(|entry| Shape::ALL.map(|shape| grown(entry, shape, rounds))),
+            values: values::values(rounds),
             writers: groups.iter().map(writer).collect(),
             costs: groups.iter().map(cost).collect(),
             readings: costs::readings(),
@@ -54,6 +58,7 @@ impl Measurements {
         report::head(&self.setting)
             + &report::bars(&self.shown().bars())
             + &self.tables()
+            + &report::values(&self.values)
             + &report::writers(&self.writers)
             + &report::costs(&self.costs, &self.readings)
     }
@@ -66,6 +71,7 @@ impl Measurements {
             run,
             kinds: Kind::ALL.len(),
             growth: &self.growth[0],
+            values: &self.values,
         }
     }
 

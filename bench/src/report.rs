@@ -7,6 +7,7 @@ use crate::{
     costs::{CostLine, ReadingLine},
     measure::Measured,
     sides::{MODULE, Table},
+    values::RUN_OF_LIST,
     writers::WriterLine,
 };
 
@@ -30,8 +31,8 @@ What is inside the timed part:
   none of document 01's limits to check.
 
 The room for a result is allocated once, outside, and never cleared, for all but the module, which allocates its own. Before anything is timed, the answers of all sides are compared,
-byte for byte. `bench --hold 1000000` holds the plain program against the proved library on every stored list, on lists near limits and on a million random ones; `./test` does so
-with a part of them.
+byte for byte. `bench --hold 1000000` holds the plain program against the proved library on every stored list and sum, on those near limits and on a million random lists, with sums
+among them; `./test` does so with a part of them.
 ";
 
 const LISTS: &str = "\
@@ -39,6 +40,15 @@ The lists (bench/backlog) are the same ones each time: sums of 1 to 12 whole pow
 (x - a)(x - b)²; sums with square roots, and with functions of a straight line. Each has a derivative. 'All lists' are these ten thousand with kinds mixed; each kind is timed by
 itself too. Besides: drag formulas, sums with x to the power 1.5, and lists of one step, which show what a step takes beside the empty list. The run is of the derivatives' lists at
 1.5, of those that run to a value. Lists that grow have the powers from 1 up, 50 lists of each size.
+";
+
+const VALUES: &str = "\
+## Values of sums
+
+`uplink_value` at 1.5 of sums of whole powers with coefficients as a fit has them, from bytes to a value, by turns with two others, in nanoseconds a sum. `uplink_run` runs the list that
+`write` gives for the same sum; it is written once, outside of the timed part. The plain program takes the sum's bytes in by the same rules, into an array of 64 terms, and goes over the
+powers, each product from that of the last power on; with cleared room it clears the array at each call. 50 sums of each number of powers, up to the power 15; of 64 powers those from 0
+to 63. At most half the run's time was asked for, and at most 1.2 times the plain program's. All values are compared before, to the bit.
 ";
 
 const WRITERS: &str = "\
@@ -154,7 +164,7 @@ fn cell(measured: &Measured) -> String {
 /// Tables with the sides that have the library's short cuts, each under its title.
 pub fn with_short_cuts(level: &str, tables: &[(String, &Table)]) -> String {
     let section = |(title, table): &(String, &Table)| {
-        let table = against(table, |name| !name.ends_with(WITHOUT));
+        let table = against("lists", table, |name| !name.ends_with(WITHOUT));
         format!("\n{level} {title}\n\n{table}")
     };
     tables.iter().map(section).collect()
@@ -164,22 +174,22 @@ pub fn with_short_cuts(level: &str, tables: &[(String, &Table)]) -> String {
 pub fn without_short_cuts(level: &str, tables: &[(String, &Table)]) -> String {
     let has_some = |table: &Table| table.names.iter().any(|name| name.ends_with(WITHOUT));
     let section = |(title, table): &(String, &Table)| {
-        let table = against(table, |name| name.ends_with(WITHOUT));
+        let table = against("lists", table, |name| name.ends_with(WITHOUT));
         format!("\n{level} {title}\n\n{table}")
     };
     let tables = tables.iter().filter(|(_, table)| has_some(table));
     tables.map(section).collect()
 }
 
-/// The proved library against some of the other sides.
-fn against(measured: &Table, is_shown: impl Fn(&str) -> bool) -> String {
+/// The proved library against some of the other sides, over lists or sums.
+fn against(over: &str, measured: &Table, is_shown: impl Fn(&str) -> bool) -> String {
     let others = 1..measured.names.len();
     let others: Vec<usize> = others
         .filter(|&side| is_shown(measured.names[side]))
         .collect();
     let names = others.iter().map(|&side| full_name(measured.names[side]));
     let names: Vec<String> = names.collect();
-    let mut heads = vec!["lists", "number", "proved"];
+    let mut heads = vec![over, "number", "proved"];
     for name in &names {
         heads.extend([name, "ratio"]);
     }
@@ -200,9 +210,14 @@ fn against(measured: &Table, is_shown: impl Fn(&str) -> bool) -> String {
 
 fn full_name(side: &str) -> String {
     match side.strip_suffix(WITHOUT).unwrap_or(side) {
-        MODULE => MODULE.into(),
+        other @ (MODULE | RUN_OF_LIST) => other.into(),
         form => format!("plain, {form}"),
     }
+}
+
+/// The section on the values of sums.
+pub fn values(measured: &Table) -> String {
+    format!("\n{VALUES}\n{}", against("sums", measured, |_| true))
 }
 
 /// The section on the two writers.
@@ -319,6 +334,28 @@ mod tests {
              |---|---|---|---|---|\n\
              | some | 3 | 30 (29 to 31) | 40 (39 to 41) | 0.75 |\n"
         );
+    }
+
+    #[test]
+    fn values_stand_beside_runs() {
+        let took = |median| Measured {
+            median,
+            least: median,
+            most: median,
+        };
+        let measured = Table {
+            names: vec![PROVED, "lent room", RUN_OF_LIST],
+            lines: vec![Line {
+                what: "2 powers".into(),
+                lists: 50,
+                sides: [20.0, 16.0, 80.0].map(took).to_vec(),
+            }],
+        };
+        assert!(values(&measured).ends_with(
+            "\n\n| sums | number | proved | plain, lent room | ratio | run of the list | ratio |\n\
+             |---|---|---|---|---|---|---|\n\
+             | 2 powers | 50 | 20 (20 to 20) | 16 (16 to 16) | 1.25 | 80 (80 to 80) | 0.25 |\n"
+        ));
     }
 
     #[test]

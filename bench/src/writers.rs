@@ -41,7 +41,9 @@ pub fn writers(what: &str, group: &Group, rounds: usize) -> WriterLine {
 
 /// What the second writer writes is what the plain second writer of oracle/ does.
 fn check(list: &[u8], out: &mut [u8]) {
-    let owed = judge::derivative_faithful(list).done().expect("a derivative");
+    let owed = judge::derivative_faithful(list)
+        .done()
+        .expect("a derivative");
     let told = proved::derivative_faithful(list, out);
     assert_eq!((told.number, &out[..owed.len()]), (0, &owed[..]));
     assert_eq!(told.answer[1] as usize * RECORD, owed.len());

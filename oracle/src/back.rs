@@ -33,7 +33,8 @@ impl Entry {
         };
         (entry, inside as usize)
     }
-    fn is_zero(self) -> bool {
+    /// Whether both parts of its coefficient are zeros.
+    pub fn is_zero(self) -> bool {
         self.re == 0.0 && self.im == 0.0
     }
     /// The entry of a power of x.

@@ -17,6 +17,7 @@ pub mod functions;
 pub mod generate;
 pub mod meaning;
 pub mod operations;
+pub mod power_sums;
 pub mod quiet;
 pub mod random;
 pub mod records;
@@ -24,6 +25,7 @@ pub mod runner;
 pub mod stand_ins;
 pub mod stored;
 pub mod text;
+pub mod value;
 
 pub mod algebra;
 

@@ -8,6 +8,7 @@ use crate::{
     runner,
     sums::ENTRY,
     text::{from_hex, hex},
+    value::value,
 };
 
 /// Whose answers a file holds.
@@ -21,6 +22,10 @@ pub enum Decider {
 
 /// The numbers at which stored lists are run.
 pub const RUN_AT: [f64; 8] = [2.0, 0.0, -0.0, 0.5, -3.0, 5e-324, 1e308, f64::INFINITY];
+
+/// The numbers at which stored sums have a value or none. At 0.7 and -1.3
+/// another order of products or additions gives other digits.
+pub const VALUE_AT: [f64; 8] = [2.0, 0.7, -1.3, 0.0, -0.0, 5e-324, -f64::MAX, f64::INFINITY];
 
 /// What an entry is asked about.
 #[derive(Debug, Clone, PartialEq, Eq, PartialOrd, Ord)]
@@ -70,6 +75,14 @@ impl Input {
         };
         let lines = answers.map(|(name, answer)| answer_line(name, answer.owed(), RECORD));
         self.line() + &lines.concat()
+    }
+
+    /// A sum's line and the lines of its values at each of [`VALUE_AT`].
+    pub fn value_item(&self) -> Option<String> {
+        match self {
+            Input::List(_) => None,
+            Input::Sum(sum) => Some(self.line() + &VALUE_AT.map(|x| value_line(sum, x)).concat()),
+        }
     }
 
     /// The input's line and the lines of its answers that one decider gives,
@@ -155,6 +168,15 @@ fn run_line(list: &[u8], x: f64) -> String {
             format!("run {at:016x} {number} {place} {:016x} 0 0\n", 0)
         }
     }
+}
+
+/// The same of a value, whose place is always 0 and isn't told.
+fn value_line(sum: &[u8], x: f64) -> String {
+    let (number, value) = match value(sum, x) {
+        Ok(value) => (0, value.to_bits()),
+        Err(refusal) => (refusal.number, 0),
+    };
+    format!("value {:016x} {number} {value:016x}\n", x.to_bits())
 }
 
 /// What is read of the list that a formula is written as, where it comes back.

@@ -4,9 +4,9 @@ use std::{fs, path::Path};
 
 use oracle::{
     features::Features,
-    functions, generate,
+    functions, generate, power_sums,
     runner::{self, Met},
-    stored::{Decider, Input, RUN_AT},
+    stored::{Decider, Input, RUN_AT, VALUE_AT},
 };
 
 fn stored(name: &str) -> String {
@@ -83,6 +83,38 @@ fn faithful_answers_have_every_number() {
 }
 
 #[test]
+fn values() {
+    let items = items(&stored("values.txt"));
+    assert!(items.len() >= 300, "{} items", items.len());
+    for (input, item) in &items {
+        assert_eq!(input.value_item().as_ref(), Some(item));
+    }
+    for sum in power_sums::at_limits().into_iter().map(Input::Sum) {
+        assert!(items.iter().any(|(input, _)| *input == sum), "{sum:?}");
+    }
+}
+
+/// Every number that a value answers, at a number that is finite and at one that isn't.
+#[test]
+fn values_have_every_number() {
+    let text = stored("values.txt");
+    for (x, numbers) in [
+        (VALUE_AT[0], &[0, 11, 13, 14, 15][..]),
+        (f64::INFINITY, &[11, 13, 15]),
+    ] {
+        let mut met: Vec<u8> = Vec::new();
+        let start = format!("value {:016x} ", x.to_bits());
+        for rest in text.lines().filter_map(|line| line.strip_prefix(&start)) {
+            let number = rest.split(' ').next().expect("a number");
+            met.push(number.parse().expect("a number"));
+        }
+        met.sort_unstable();
+        met.dedup();
+        assert_eq!(met, numbers, "at {x}");
+    }
+}
+
+#[test]
 fn runs() {
     let items = items(&stored("runs.txt"));
     assert!(items.len() >= 450, "{} lists", items.len());
@@ -92,11 +124,12 @@ fn runs() {
 }
 
 /// The stored files.
-const FILES: [&str; 5] = [
+const FILES: [&str; 6] = [
     "lists.txt",
     "sums.txt",
     "limits.txt",
     "faithful.txt",
+    "values.txt",
     "runs.txt",
 ];
 
@@ -164,5 +197,5 @@ fn lists_at_limits_are_there() {
 #[test]
 fn small_enough_to_read_in_a_diff() {
     let size: usize = FILES.map(|name| stored(name).len()).iter().sum();
-    assert!(size < 3_300_000, "{size} bytes");
+    assert!(size < 3_400_000, "{size} bytes");
 }

@@ -43,6 +43,14 @@ fn sparse(random: &mut Random, count: usize) -> Vec<Power> {
 /// A sum of 1 to 12 powers: every second one without gaps, from 0 or 1 up.
 pub fn fit(random: &mut Random) -> Vec<Power> {
     let count = 1 + random.below(MOST_POWERS);
+    fit_of(random, count)
+}
+
+/// Such a sum of so many powers; more than there are up to the highest have no gaps.
+pub fn fit_of(random: &mut Random, count: usize) -> Vec<Power> {
+    if count > HIGHEST_POWER {
+        return dense(random, 0, count);
+    }
     match random.below(4) {
         0 => dense(random, 0, count),
         1 => dense(random, 1, count),
@@ -58,8 +66,12 @@ pub fn polynomial(random: &mut Random) -> Vec<Power> {
 
 /// The list that the Rust writes of a sum.
 pub fn written(sum: &[Power]) -> Vec<u8> {
-    let entries: Vec<u8> = sum.iter().flat_map(|&power| entry(power)).collect();
-    judge::write(&entries, false).done().expect("a list")
+    judge::write(&entries(sum), false).done().expect("a list")
+}
+
+/// A sum's bytes.
+pub fn entries(sum: &[Power]) -> Vec<u8> {
+    sum.iter().flat_map(|&power| entry(power)).collect()
 }
 
 fn entry((power, coefficient): Power) -> [u8; ENTRY] {

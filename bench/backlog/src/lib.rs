@@ -1,6 +1,7 @@
 //! The lists that are measured: ten thousand such as a collector derives after
 //! a night in range, and lists of growing size. They are the same ones each
-//! time, on every computer, and each has a derivative that isn't refused.
+//! time, on every computer, and each has a derivative that isn't refused. So
+//! are the sums whose values are measured.
 
 mod formulas;
 
@@ -176,6 +177,28 @@ pub fn grown(shape: Shape, terms: usize) -> Group {
     }))
 }
 
+/// How many powers the sums have whose values are measured.
+pub const POWERS: [usize; 9] = [1, 2, 3, 4, 5, 6, 7, 8, 64];
+
+/// Sums of whole powers, and the list that is written of each.
+#[derive(Debug, Clone, Default, PartialEq, Eq)]
+pub struct Sums {
+    pub sums: Vec<Vec<u8>>,
+    pub lists: Vec<Vec<u8>>,
+}
+
+/// Sums of so many powers, with coefficients as a fit has them.
+pub fn sums_of(powers: usize) -> Sums {
+    let mut random = Random::new(powers as u64);
+    let formulas: Vec<_> = (0..OF_A_SIZE)
+        .map(|_| formulas::fit_of(&mut random, powers))
+        .collect();
+    Sums {
+        sums: formulas.iter().map(|sum| formulas::entries(sum)).collect(),
+        lists: formulas.iter().map(|sum| formulas::written(sum)).collect(),
+    }
+}
+
 const DRAG_FORMULAS: usize = 1000;
 
 /// Sums with x to the power 1.5 beside them, as a dive against drag has it.
@@ -186,7 +209,7 @@ pub fn drag() -> Group {
 
 #[cfg(test)]
 mod tests {
-    use oracle::records::RECORD;
+    use oracle::{records::RECORD, sums::ENTRY};
 
     use super::*;
 
@@ -216,6 +239,18 @@ mod tests {
                 let records = grown(shape, size).lists[0].len() / RECORD;
                 assert!(records > last, "{shape:?} {size}");
                 last = records;
+            }
+        }
+    }
+
+    #[test]
+    fn sums_have_so_many_powers() {
+        for powers in POWERS {
+            let Sums { sums, lists } = sums_of(powers);
+            assert_eq!((sums.len(), lists.len()), (OF_A_SIZE, OF_A_SIZE));
+            for (sum, list) in sums.iter().zip(&lists) {
+                assert_eq!(sum.len(), powers * ENTRY);
+                assert_eq!(judge::write(sum, false).done().as_ref(), Some(list));
             }
         }
     }

@@ -1,6 +1,6 @@
 //! Derivative, read and run of a list of records, from bytes to bytes, as
-//! document 01 has them: plain Rust over fixed arrays, without unsafe code,
-//! without dependencies and without an allocation in a call. It is what bench/
+//! document 01 has them, and the value of a sum: plain Rust over fixed arrays,
+//! without unsafe code, without dependencies and without an allocation in a call. It is what bench/
 //! measures the proved library against and nothing else: what it answers is
 //! held against the proved library's answers.
 //!
@@ -15,6 +15,7 @@ mod read;
 mod records;
 mod run;
 mod sum;
+mod value;
 mod write;
 
 #[cfg(test)]
@@ -22,6 +23,7 @@ mod tests;
 
 pub use records::Refusal;
 pub use run::{Run, RunRoom, run, run_in};
+pub use value::{ValueRoom, value, value_in};
 
 use records::Ends;
 use sum::Term;

@@ -331,6 +331,77 @@ pub fn put_power(
     Ok(into.len + 1)
 }
 
+/// The terms of a sum's bytes: 11 where they break a rule, then 13 where one
+/// lies inside more than three others.
+pub fn take_in<'a>(
+    bytes: &[u8],
+    terms: &'a mut [Term; SUM_ENTRIES],
+) -> Result<&'a [Term], Refusal> {
+    let (entries, rest) = bytes.as_chunks::<ENTRY_BYTES>();
+    if !rest.is_empty() || entries.is_empty() || entries.len() > SUM_ENTRIES {
+        return Err(Refusal::BadRecord);
+    }
+    let sum = &mut terms[..entries.len()];
+    for (entry, term) in entries.iter().zip(&mut *sum) {
+        *term = decode(entry).ok_or(Refusal::BadRecord)?;
+    }
+    if !rises(sum) {
+        return Err(Refusal::BadRecord);
+    }
+    if !nests_within(sum, 1 + MOST_LEVELS) {
+        return Err(Refusal::TooDeep);
+    }
+    Ok(sum)
+}
+
+/// The term of an entry that keeps the rules by itself.
+fn decode(entry: &[u8; ENTRY_BYTES]) -> Option<Term> {
+    const BETWEEN: u64 = 0xffff_ff00;
+    let (words, _) = entry.as_chunks::<8>();
+    let [head, num, re, im] = [words[0], words[1], words[2], words[3]].map(u64::from_le_bytes);
+    let term = Term {
+        kind: u32::from(head as u8),
+        inside: (head >> 32) as u32,
+        num: f64::from_bits(num),
+        coef: Complex {
+            re: f64::from_bits(re),
+            im: f64::from_bits(im),
+        },
+    };
+    let is_good = (X..=COS_H).contains(&term.kind)
+        && head & BETWEEN == 0
+        && (term.kind == X) == (term.inside == 0)
+        && (num == 0 || term.kind == X || term.kind == LOG)
+        && term.num.is_finite()
+        && term.coef.is_finite();
+    is_good.then_some(term)
+}
+
+/// Whether what is inside each term lies in its sum, and all terms of it, and
+/// of every sum inside, stand in strictly rising order.
+fn rises(sum: &[Term]) -> bool {
+    let mut last: Option<(&Term, &[Term])> = None;
+    let mut rest = sum;
+    while let Some((x, after)) = rest.split_first() {
+        let Some((inside, after)) = after.split_at_checked(x.inside as usize) else {
+            return false;
+        };
+        if !rises(inside) {
+            return false;
+        }
+        let is_above = last.is_none_or(|(y, inside_y)| match (y.kind, x.kind) {
+            (X, X) => y.num < x.num,
+            _ => cmp_term(y, inside_y, x, inside) == Ordering::Less,
+        });
+        if !is_above {
+            return false;
+        }
+        last = Some((x, inside));
+        rest = after;
+    }
+    true
+}
+
 /// A sum as entries of 32 bytes.
 pub fn put_out(sum: &[Term], out: &mut [u8]) -> Result<(), Refusal> {
     let (out, _) = out.as_chunks_mut::<ENTRY_BYTES>();

@@ -1,12 +1,16 @@
-//! Document 01's lists and limits, for every form.
+//! Document 01's lists and limits, for every form, and values of sums.
 
 use oracle::{
+    Complex,
+    functions::{function, power, powers},
     judge,
+    power_sums::{NUMBERS, at_limits},
     records::{Record, bytes_of, kind},
+    sums::{self, ENTRY, entry},
     text,
 };
 
-use crate::{Refused, Room, Run, RunRoom, general, run, run_in, short};
+use crate::{Refused, Room, Run, RunRoom, ValueRoom, general, run, run_in, short};
 
 const ROOM: usize = 2048 * 24;
 const FILL: u8 = 0xa5;
@@ -253,4 +257,83 @@ fn up_to_256_values() {
     let crowd = |others: usize| "1 ".repeat(others) + &"Add ".repeat(others);
     assert!(value(&text::list(&crowd(255)), 1.0).is_ok());
     assert_eq!(value(&text::list(&crowd(256)), 1.0), Err((12, 255)));
+}
+
+/// A sum's value, or the number; lent room is as the call before left it.
+fn value_at(room: &mut ValueRoom, sum: &[u8], x: f64) -> Result<u64, u8> {
+    let answer = crate::value(sum, x);
+    assert_eq!(answer, crate::value_in(room, sum, x));
+    let number = |refused: Refused| {
+        assert_eq!(refused.place, 0);
+        refused.number as u8
+    };
+    answer.map(f64::to_bits).map_err(number)
+}
+
+#[track_caller]
+fn has_value(sum: &[u8], x: f64, expected: Result<f64, u8>) {
+    let given = value_at(&mut ValueRoom::new(), sum, x);
+    assert_eq!(given, expected.map(f64::to_bits), "at {x}");
+}
+
+#[test]
+fn values_of_powers() {
+    let sum = powers(&[(0.0, 3.0), (1.0, -2.0), (3.0, 0.5)]);
+    has_value(&sum, 2.0, Ok(3.0));
+    has_value(&sum, f64::INFINITY, Err(15));
+    has_value(&power(3.0, 0.0), -2.0, Ok(-0.0));
+    has_value(&power(64.0, 1.0), 2.0, Ok(18446744073709551616.0));
+    has_value(&power(65.0, 1.0), 2.0, Err(14));
+    has_value(&power(0.5, 1.0), 4.0, Err(14));
+    has_value(&power(1.0, f64::MAX), 2.0, Err(15));
+    for (im, expected) in [(f64::EPSILON, Err(15)), (f64::EPSILON.next_down(), Ok(2.0))] {
+        let sum = entry(sums::kind::X, 1.0, Complex::new(1.0, im), &[]);
+        has_value(&sum, 2.0, expected);
+    }
+}
+
+/// Every sum at and past a limit, at every sort of number, as the plain engine of oracle/ has it.
+#[test]
+fn values_at_limits() {
+    let mut room = ValueRoom::new();
+    for sum in at_limits() {
+        for x in NUMBERS {
+            let owed = oracle::value::value(&sum, x);
+            let owed = owed.map(f64::to_bits).map_err(|refusal| refusal.number);
+            assert_eq!(value_at(&mut room, &sum, x), owed, "{sum:?} at {x}");
+        }
+    }
+}
+
+#[test]
+fn bytes_that_are_no_sum() {
+    let sin = |inside: &[u8]| function((sums::kind::SIN, 0.0), Complex::ZERO, inside);
+    let good = [power(1.0, 2.0), sin(&powers(&[(0.0, 1.0), (1.0, 1.0)]))].concat();
+    has_value(&good, 2.0, Ok(4.0));
+    for length in 0..good.len() {
+        if length != ENTRY {
+            has_value(&good[..length], 2.0, Err(11));
+        }
+    }
+    for (at, byte) in [
+        (0, 0),
+        (0, 9),
+        (1, 1),
+        (3, 1),
+        (4, 1),
+        (ENTRY + 4, 0),
+        (ENTRY + 4, 1),
+        (ENTRY + 4, 3),
+        (ENTRY + 8, 1),
+        (2 * ENTRY + 8 + 7, 0x40),
+    ] {
+        let mut sum = good.clone();
+        sum[at] = byte;
+        has_value(&sum, 2.0, Err(11));
+    }
+    for at in [8, 16, 24] {
+        let mut sum = good.clone();
+        sum[at..at + 8].copy_from_slice(&f64::NAN.to_le_bytes());
+        has_value(&sum, 2.0, Err(11));
+    }
 }

@@ -5,7 +5,7 @@ use oracle::{
     algebra::MOST_STEPS,
     cost, judge,
     random::Random,
-    records::RECORD,
+    records::{MOST_RECORDS, RECORD},
     runner::{self, Met, Ran},
     sums::ENTRY,
 };
@@ -109,7 +109,9 @@ impl<'a> Call<'a> {
             Entry::WriteFaithful => self.ask_writer(library.write_faithful, out),
             Entry::DerivativeFaithful => plain(library.derivative_faithful, out),
             Entry::IntegralFaithful => plain(library.integral_faithful, out),
-            Entry::Run | Entry::Cost => unreachable!("the run and the cost write no bytes"),
+            Entry::Run | Entry::Value | Entry::Cost => {
+                unreachable!("run, value and cost write no bytes")
+            }
         }
     }
     fn ask_writer(self, writer: fn(&[u8], u8, &mut [u8]) -> Told<2>, out: &mut [u8]) -> Numbers {
@@ -174,10 +176,12 @@ impl<'a> From<&'a Answer<ReadSum>> for Owed<'a> {
 
 /// Compares, and counts what it compared.
 pub struct Checker<'a> {
-    library: Library,
+    pub(crate) library: Library,
     seen_sums: &'a Seen,
-    random: Random,
+    pub(crate) random: Random,
     room: Room,
+    /// Room for a list that the library writes and then runs.
+    pub(crate) list: Vec<u8>,
     pub tally: Tally,
 }
 
@@ -188,6 +192,7 @@ impl<'a> Checker<'a> {
             seen_sums,
             random: Random::new(0),
             room: Room::default(),
+            list: vec![0; MOST_RECORDS * RECORD],
             tally: Tally::default(),
         }
     }
@@ -249,6 +254,7 @@ impl<'a> Checker<'a> {
         for complex in [0, 1 + self.random.below(255) as u8] {
             self.written(sum, complex)?;
         }
+        self.values(sum)?;
         for formed in [derived, integrated].into_iter().filter_map(Answer::done) {
             if self.random.once_in(4) {
                 self.sum(&formed)?;
@@ -397,7 +403,7 @@ impl<'a> Checker<'a> {
     /// A refusal is the same whatever the room.
     fn room_for_a_refusal(&mut self) -> usize {
         match self.random.below(32) {
-            0 => 2048 * RECORD,
+            0 => MOST_RECORDS * RECORD,
             1..=9 => 0,
             _ => self.random.below(8 * ENTRY),
         }

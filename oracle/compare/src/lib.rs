@@ -1,5 +1,5 @@
 //! Compares the proved library with the judge: every answer that the port
-//! owes, and the run with the oracle's plain runner.
+//! owes; the run, the cost and the value with the oracle's plain engines.
 
 pub mod arguments;
 pub mod checker;
@@ -10,4 +10,5 @@ pub mod room;
 pub mod roots;
 pub mod seen;
 pub mod tally;
+mod values;
 pub mod work;

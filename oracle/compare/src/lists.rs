@@ -2,7 +2,8 @@
 //! many threads there are.
 
 use oracle::{
-    algebra::random_sums::random_sum, generate, judge, random::Random, records::RECORD, sums::ENTRY,
+    algebra::random_sums::random_sum, generate, judge, power_sums::random_power_sum,
+    random::Random, records::RECORD, sums::ENTRY,
 };
 
 /// How many lists a block has.
@@ -79,12 +80,13 @@ impl<'a> Block<'a> {
         generate::damaged(&mut self.random, &list, &self.last, RECORD)
     }
 
-    /// A random sum and a damaged one, at times.
+    /// A random sum and a damaged one, at times; so of powers of x.
     pub fn sums(&mut self) -> Vec<Vec<u8>> {
-        if !self.random.once_in(4) {
-            return Vec::new();
-        }
-        let sum = random_sum(&mut self.random);
+        let sum = match self.random.below(8) {
+            0 | 1 => random_sum(&mut self.random),
+            2 | 3 => random_power_sum(&mut self.random),
+            _ => return Vec::new(),
+        };
         let damaged = generate::damaged(&mut self.random, &sum, &self.last_sum, ENTRY);
         self.last_sum.clone_from(&sum);
         vec![sum, damaged]

@@ -21,43 +21,54 @@ fn origin_name(origin: Origin) -> &'static str {
 /// The lines that say how much was compared, and the table by entry and number.
 pub fn report(settings: &Settings, compared: &Compared, roots: u64) -> String {
     let mut text = String::new();
-    let tally = &compared.tally;
-    let seconds = compared.time.as_secs_f64();
-    let mut line = |name: &str, value: String| {
+    let all = where_and_how_long(settings, compared).into_iter();
+    for (name, value) in all.chain(how_much(compared, roots)) {
         writeln!(text, "- {name}: {value}").expect("a string grows");
-    };
-    line("seed", settings.seed.to_string());
-    line("threads", settings.threads.to_string());
-    line("machine", format!("{} {}", consts::OS, consts::ARCH));
-    line(
-        "time",
-        format!(
-            "{seconds:.0} s, {:.0} lists a second",
-            tally.all_lists() as f64 / seconds
-        ),
-    );
-    line("lists compared, no two the same", lists(tally));
-    line("sums compared, no two the same", thousands(tally.sums));
-    line("answers compared", answers(tally));
-    line("square roots by themselves", thousands(roots));
-    line("runs that meet a power nought", thousands(tally.noughts));
-    line("costs told as 2^64 - 1", thousands(tally.capped));
-    line(
-        "sums, with either flag, that the two writers write as different lists",
-        thousands(tally.apart),
-    );
-    line("met again, and not compared again", again(tally));
-    line(
-        "unexplained differences",
-        compared.differences.len().to_string(),
-    );
-    if compared.cut_short {
-        line(
-            "cut short",
-            "time ran out before all of them were compared".into(),
-        );
     }
-    text + "\n" + &table(tally)
+    text + "\n" + &table(&compared.tally)
+}
+
+type Named = (&'static str, String);
+
+fn where_and_how_long(settings: &Settings, compared: &Compared) -> Vec<Named> {
+    let seconds = compared.time.as_secs_f64();
+    let lists = compared.tally.all_lists() as f64 / seconds;
+    vec![
+        ("seed", settings.seed.to_string()),
+        ("threads", settings.threads.to_string()),
+        ("machine", format!("{} {}", consts::OS, consts::ARCH)),
+        ("time", format!("{seconds:.0} s, {lists:.0} lists a second")),
+    ]
+}
+
+fn how_much(compared: &Compared, roots: u64) -> Vec<Named> {
+    let tally = &compared.tally;
+    let mut lines = vec![
+        ("lists compared, no two the same", lists(tally)),
+        ("sums compared, no two the same", thousands(tally.sums)),
+        ("answers compared", answers(tally)),
+        ("square roots by themselves", thousands(roots)),
+        ("runs that meet a power nought", thousands(tally.noughts)),
+        ("costs told as 2^64 - 1", thousands(tally.capped)),
+        (
+            "sums, with either flag, that the two writers write as different lists",
+            thousands(tally.apart),
+        ),
+        (
+            "values held against the run of the list that write gives",
+            against_lists(tally),
+        ),
+        ("met again, and not compared again", again(tally)),
+        (
+            "unexplained differences",
+            compared.differences.len().to_string(),
+        ),
+    ];
+    if compared.cut_short {
+        let why = "time ran out before all of them were compared";
+        lines.push(("cut short", why.into()));
+    }
+    lines
 }
 
 fn lists(tally: &Tally) -> String {
@@ -90,6 +101,20 @@ fn answers(tally: &Tally) -> String {
         thousands(tally.compared()),
         thousands(tally.exact),
         thousands(tally.ample)
+    )
+}
+
+fn against_lists(tally: &Tally) -> String {
+    let against = &tally.against_lists;
+    let counts = [
+        against.all(),
+        against.done,
+        against.not_written,
+        against.not_run,
+    ];
+    let [all, done, not_written, not_run] = counts.map(thousands);
+    format!(
+        "{all}; of these {done} are its value, {not_written} are 15 of write, {not_run} are 15 of run at a finite x"
     )
 }
 
@@ -140,6 +165,7 @@ pub fn recorded(command: &str, report: &str, differences: &[String]) -> String {
          Written by the program `compare` itself (`--record`). Every answer that the judge owes was compared: number, place, count, \
          complex flag and each byte; for the run value bits, steps and peak, with the plain runner of oracle/src/runner.rs; \
          the cost with the reckoning of oracle/src/cost.rs; \
+         the value with the plain engine of oracle/src/value.rs, and where it isn't 14 with the library's own run of the list that it writes with the flag false; \
          lists that mean what the sum says with the second writer of oracle/src/algebra/faithful.rs. \
          Columns 1 to 18 are refusals; 17 was asked for by room that is up to one record or entry short.\n\n    {command}\n\n{report}"
     );

@@ -14,10 +14,11 @@ pub enum Entry {
     IntegralFaithful,
     WriteFaithful,
     Run,
+    Value,
     Cost,
 }
 
-pub const ENTRIES: [Entry; 12] = [
+pub const ENTRIES: [Entry; 13] = [
     Entry::Read,
     Entry::Derivative,
     Entry::Integral,
@@ -29,6 +30,7 @@ pub const ENTRIES: [Entry; 12] = [
     Entry::IntegralFaithful,
     Entry::WriteFaithful,
     Entry::Run,
+    Entry::Value,
     Entry::Cost,
 ];
 
@@ -46,6 +48,7 @@ impl Entry {
             Entry::IntegralFaithful => "integral_faithful",
             Entry::WriteFaithful => "write_faithful",
             Entry::Run => "run",
+            Entry::Value => "value",
             Entry::Cost => "cost",
         }
     }
@@ -73,12 +76,13 @@ pub const ORIGINS: [Origin; 5] = [
 pub const NUMBERS: usize = 19;
 
 /// Answers that a comparison of random lists has to meet: the refusals of a
-/// power and of another number that isn't finite; every number of the cost and
-/// of the entries with the second writer.
-const TO_BE_MET: [(Entry, &[usize]); 6] = [
+/// power and of another number that isn't finite; every number of the cost, of
+/// the value and of the entries with the second writer.
+const TO_BE_MET: [(Entry, &[usize]); 7] = [
     (Entry::Read, &[15, 18]),
     (Entry::Derive, &[15, 18]),
     (Entry::Cost, &[0, 11, 13]),
+    (Entry::Value, &[0, 11, 13, 14, 15]),
     (Entry::WriteFaithful, &[0, 11, 13, 15, 17]),
     (Entry::DerivativeFaithful, &FROM_LIST_TO_LIST),
     (Entry::IntegralFaithful, &FROM_LIST_TO_LIST),
@@ -111,6 +115,40 @@ impl Row {
     }
 }
 
+/// Values that were held against the run of the list that `write` gives with
+/// the flag false, by how that ends.
+#[derive(Debug, Clone, Copy, Default, PartialEq, Eq)]
+pub struct AgainstLists {
+    pub done: u64,
+    /// 15 of `write`.
+    pub not_written: u64,
+    /// 15 of `run`, at a number that is finite.
+    pub not_run: u64,
+    /// 11 and 13, and numbers that aren't finite.
+    pub other: u64,
+}
+
+impl AgainstLists {
+    pub fn all(&self) -> u64 {
+        self.done + self.not_written + self.not_run + self.other
+    }
+    fn add(&mut self, other: &AgainstLists) {
+        self.done += other.done;
+        self.not_written += other.not_written;
+        self.not_run += other.not_run;
+        self.other += other.other;
+    }
+    fn missing(&self) -> impl Iterator<Item = String> {
+        let met = [
+            (self.done, "value never is that of a list's run"),
+            (self.not_written, "value never is 15 where write is"),
+            (self.not_run, "value never is 15 where the run is"),
+        ];
+        let missing = met.into_iter().filter(|(count, _)| *count == 0);
+        missing.map(|(_, name)| name.into())
+    }
+}
+
 /// Everything that is counted.
 #[derive(Debug, Clone, Copy, Default, PartialEq, Eq)]
 pub struct Tally {
@@ -128,6 +166,7 @@ pub struct Tally {
     pub capped: u64,
     /// Sums, each with either flag, that the two writers write as different lists.
     pub apart: u64,
+    pub against_lists: AgainstLists,
     /// Calls with room for exactly what is written, and with more.
     pub exact: u64,
     pub ample: u64,
@@ -160,6 +199,7 @@ impl Tally {
             .map(|(entry, number)| format!("{} never answers {number}", entry.name()))
             .chain(capped)
             .chain(alike)
+            .chain(self.against_lists.missing())
             .collect()
     }
     pub fn add(&mut self, other: &Tally) {
@@ -175,6 +215,7 @@ impl Tally {
         self.noughts += other.noughts;
         self.capped += other.capped;
         self.apart += other.apart;
+        self.against_lists.add(&other.against_lists);
         self.exact += other.exact;
         self.ample += other.ample;
     }

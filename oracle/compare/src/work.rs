@@ -9,7 +9,7 @@ use std::{
     time::{Duration, Instant},
 };
 
-use oracle::{costly, crowded, functions, generate, random::Random, sums::ENTRY};
+use oracle::{costly, crowded, functions, generate, power_sums, random::Random, sums::ENTRY};
 use proved::Library;
 
 use crate::{
@@ -54,11 +54,11 @@ enum Work {
 type Lists<'a> = Box<dyn Iterator<Item = Vec<u8>> + Send + 'a>;
 
 /// Lists that are gone through once, in order; then, where random lists are
-/// asked for, sums with functions, and blocks of random lists, by turns with a
-/// few of those near limits, which take long.
+/// asked for, sums with functions and of powers, and blocks of random lists, by
+/// turns with a few of those near limits, which take long.
 struct Source<'a> {
     stretches: Vec<(Origin, Lists<'a>)>,
-    functions: Option<Lists<'a>>,
+    sums: Option<Lists<'a>>,
     near_limits: Option<Lists<'a>>,
     taken: u64,
     next_block: u64,
@@ -82,8 +82,10 @@ impl<'a> Source<'a> {
             stretches.push((Origin::Crowded, Box::new(lists)));
         }
         stretches.reverse();
-        let functions =
-            (settings.is_random()).then(|| -> Lists { Box::new(functions::sums().into_iter()) });
+        let sums = (settings.is_random()).then(|| -> Lists {
+            let sums = [functions::sums(), power_sums::at_limits()];
+            Box::new(sums.into_iter().flatten())
+        });
         let near_limits =
             (settings.is_random()).then(|| -> Lists { Box::new(near_limits.iter().cloned()) });
         let (next_block, end_block) = match settings.block {
@@ -93,7 +95,7 @@ impl<'a> Source<'a> {
         };
         Source {
             stretches,
-            functions,
+            sums,
             near_limits,
             taken: 0,
             next_block,
@@ -115,12 +117,12 @@ impl<'a> Source<'a> {
             }
             self.stretches.pop();
         }
-        if let Some(functions) = &mut self.functions {
-            let sums: Vec<Vec<u8>> = functions.take(BLOCK).collect();
+        if let Some(left) = &mut self.sums {
+            let sums: Vec<Vec<u8>> = left.take(BLOCK).collect();
             if !sums.is_empty() {
                 return Some(Work::Sums { sums, seed });
             }
-            self.functions = None;
+            self.sums = None;
         }
         let is_their_turn = self.taken.is_multiple_of(2) || !wants_random;
         if let Some(lists) = self.near_limits.as_mut().filter(|_| is_their_turn) {
@@ -202,7 +204,7 @@ impl Shared<'_> {
                     self.lists(&mut checker, origin, &lists, seed),
                 ),
                 Work::Sums { sums, seed } => (
-                    "sums with functions".into(),
+                    "sums with functions and of powers".into(),
                     with_damaged(&mut checker, &sums, seed),
                 ),
                 Work::Block(block) => (format!("block {block}"), self.block(&mut checker, block)),

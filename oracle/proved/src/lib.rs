@@ -85,6 +85,13 @@ mod c {
             value: *mut f64,
             answer: *mut u64,
         ) -> u64;
+        pub fn uplink_value(
+            sum: *const u8,
+            sum_len: usize,
+            x: f64,
+            value: *mut f64,
+            answer: *mut u64,
+        ) -> u64;
         pub fn uplink_cost(list: *const u8, list_len: usize, answer: *mut u64) -> u64;
     }
 }
@@ -106,13 +113,20 @@ pub struct Ran {
     pub told: Told<3>,
 }
 
-/// The twelve functions. That they can be replaced one by one lets a test of
+/// What a sum comes to at a number: the value's bits; then place and count.
+#[derive(Debug, Clone, Copy, PartialEq, Eq)]
+pub struct Valued {
+    pub value: u64,
+    pub told: Told<2>,
+}
+
+/// The thirteen functions. That they can be replaced one by one lets a test of
 /// the comparison put a wrong one in.
 #[derive(Clone, Copy)]
 pub struct Library {
     /// Place, count and complex flag.
     pub read: fn(&[u8], &mut [u8]) -> Told<3>,
-    /// Place and count; so for all that follow, but the last two.
+    /// Place and count; so for all that follow, but the last three.
     pub derive: fn(&[u8], &mut [u8]) -> Told<2>,
     pub integrate: fn(&[u8], &mut [u8]) -> Told<2>,
     pub write: fn(&[u8], u8, &mut [u8]) -> Told<2>,
@@ -123,6 +137,7 @@ pub struct Library {
     pub derivative_faithful: fn(&[u8], &mut [u8]) -> Told<2>,
     pub integral_faithful: fn(&[u8], &mut [u8]) -> Told<2>,
     pub run: fn(&[u8], f64) -> Ran,
+    pub value: fn(&[u8], f64) -> Valued,
     /// Place and steps.
     pub cost: fn(&[u8]) -> Told<2>,
 }
@@ -140,6 +155,7 @@ pub const LIBRARY: Library = Library {
     derivative_faithful,
     integral_faithful,
     run,
+    value,
     cost,
 };
 
@@ -200,6 +216,19 @@ pub fn run(list: &[u8], x: f64) -> Ran {
     };
     let told = Told { number, answer };
     Ran {
+        value: value.to_bits(),
+        told,
+    }
+}
+
+pub fn value(sum: &[u8], x: f64) -> Valued {
+    let mut answer = [UNWRITTEN; 2];
+    let mut value = f64::NAN;
+    // SAFETY: pointer and length are those of a live slice; value and answer are live.
+    let number =
+        unsafe { c::uplink_value(sum.as_ptr(), sum.len(), x, &mut value, answer.as_mut_ptr()) };
+    let told = Told { number, answer };
+    Valued {
         value: value.to_bits(),
         told,
     }

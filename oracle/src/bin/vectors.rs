@@ -6,12 +6,12 @@ use std::{collections::BTreeSet, fs, io, path::Path};
 use oracle::{
     algebra::{arms, random_sums::random_sum},
     features::Features,
-    functions, generate, judge,
+    functions, generate, judge, power_sums,
     random::Random,
     records::RECORD,
     stored::{Decider, Input},
     sums::ENTRY,
-    text,
+    text, value,
 };
 
 /// The lists of the paper.
@@ -64,6 +64,15 @@ fn faithful_arms_of(input: &Input) -> BTreeSet<String> {
     match input {
         Input::List(list) => arms::note_faithful_list(list, &mut features),
         Input::Sum(sum) => arms::note_faithful_sum(sum, &mut features),
+    }
+    features.into_names()
+}
+
+/// What the values of a sum meet.
+fn value_arms_of(input: &Input) -> BTreeSet<String> {
+    let mut features = Features::on();
+    if let Input::Sum(sum) = input {
+        value::note(sum, &mut features);
     }
     features.into_names()
 }
@@ -177,6 +186,21 @@ fn select_faithful(lists: &Selection, sums: &Selection) -> Selection {
     selection
 }
 
+/// Of sums at limits, of the sums that are stored, and of random powers of x.
+fn select_values(sums: &Selection) -> Selection {
+    let mut selection = Selection::new(value_arms_of);
+    for sum in power_sums::at_limits() {
+        selection.keep_once(Input::Sum(sum));
+    }
+    for input in &sums.inputs {
+        selection.consider(input.clone());
+    }
+    let mut random = Random::new(23);
+    let random_sums = (0..5_000).map(|_| power_sums::random_power_sum(&mut random));
+    selection.consider_shortest_first(random_sums.collect(), Input::Sum);
+    selection
+}
+
 /// The text of all items of one decider, and how many there are.
 fn items<'a>(inputs: impl IntoIterator<Item = &'a Input>, decider: Decider) -> (String, usize) {
     let items: Vec<String> = inputs
@@ -191,26 +215,37 @@ fn faithful_items(inputs: &[Input]) -> (String, usize) {
     (items.concat(), items.len())
 }
 
+fn value_items(inputs: &[Input]) -> (String, usize) {
+    let items: Vec<String> = inputs.iter().filter_map(Input::value_item).collect();
+    (items.concat(), items.len())
+}
+
 fn main() -> io::Result<()> {
     let folder = Path::new(env!("CARGO_MANIFEST_DIR")).join("../vectors");
     let (lists, sums) = (select_lists(), select_sums());
     let faithful = select_faithful(&lists, &sums);
+    let values = select_values(&sums);
     let both = || lists.inputs.iter().chain(&sums.inputs);
     for (name, (text, count)) in [
         ("lists.txt", items(&lists.inputs, Decider::Rust)),
         ("sums.txt", items(&sums.inputs, Decider::Rust)),
         ("limits.txt", items(both(), Decider::Paper)),
         ("faithful.txt", faithful_items(&faithful.inputs)),
+        ("values.txt", value_items(&values.inputs)),
     ] {
         println!("{name}: {count} items, {} bytes", text.len());
         fs::write(folder.join(name), text)?;
     }
     let rust: BTreeSet<&String> = lists.reached.union(&sums.reached).collect();
-    let second = faithful.reached.iter();
     println!("{} arms reached", rust.len());
-    println!("{} arms reached by the second writer", second.len());
+    println!(
+        "{} arms reached by the second writer",
+        faithful.reached.len()
+    );
+    println!("{} names met by values", values.reached.len());
     if std::env::args().any(|argument| argument == "--arms") {
-        let all = rust.into_iter().chain(second);
+        let others = faithful.reached.iter().chain(&values.reached);
+        let all = rust.into_iter().chain(others);
         all.for_each(|name| println!("{name}"));
     }
     Ok(())
