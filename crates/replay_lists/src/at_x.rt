@@ -1,4 +1,5 @@
 // The value of one sum at the number that a line gives, and of the sum less a byte.
+use crate::calls::BAD_RECORD;
 use crate::count::COUNTS;
 use crate::text::Number;
 
@@ -16,8 +17,6 @@ enum Stored {
 
 // The length of the keyword.
 const WORD: usize = 5;
-
-const BAD_RECORD: u64 = 11;
 
 // The value stands here and ends the line.
 fn with_value(line: &[u8], at: usize, x: u64, number: u64) -> Stored {

@@ -12,7 +12,7 @@ const UNTOUCHED: u8 = 0xA5;
 // The most bytes that are lent to a call, no whole number of records or entries.
 const AMPLE: usize = 16389;
 
-const BAD_RECORD: u64 = 11;
+pub const BAD_RECORD: u64 = 11;
 
 const OUTPUT_ROOM: u64 = 17;
 

@@ -65,6 +65,11 @@ pub fn keyword_of(line: &[u8]) -> Keyword {
     if crate::text::is_keyword(line, b"inverse") {
         return Keyword::Inverse;
     }
+    other_keyword_of(line)
+}
+
+// The same of what writes no bytes, and of `read` after `write`.
+fn other_keyword_of(line: &[u8]) -> Keyword {
     if crate::text::is_keyword(line, b"run") {
         return Keyword::Run;
     }

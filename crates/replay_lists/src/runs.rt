@@ -1,4 +1,5 @@
 // Runs of one list: at the number that a line gives, and on the list less a byte.
+use crate::calls::BAD_RECORD;
 use crate::count::COUNTS;
 use crate::text::Number;
 use crate::text::Numbers;
@@ -20,8 +21,6 @@ enum Stored {
 
 // The length of the keyword.
 const WORD: usize = 3;
-
-const BAD_RECORD: u64 = 11;
 
 // Value, steps and peak stand here and end the line.
 fn with_value(line: &[u8], at: usize, x: u64, number: u64, place: u64) -> Stored {

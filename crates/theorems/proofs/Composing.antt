@@ -48,7 +48,8 @@ use Rattle.theorems.proofs.Reading.{sum-good, unflagged, sum-flagged, r
 
 -- ---- what `read` tells
 
-sum-read : (x : Read) {n : ℕ} {c : Bool} {bytes out′ : List ℕ} (out : List ℕ) → madeOf x ≡ making.made n bytes → flagOf x ≡ c → n ≤ entriesIn out → out′ ≡ sets out 0 bytes → ReadTold x n c out′
+sum-read : (x : Read) {n : ℕ} {c : Bool} {bytes out′ : List ℕ} (out : List ℕ) → madeOf x ≡ making.made n bytes → flagOf x ≡ c → n ≤ entriesIn out
+    → out′ ≡ sets out 0 bytes → ReadTold x n c out′
 sum-read (done s d h) {n} out e f fits w =
     let z = sum-same s e in
     record {
@@ -71,13 +72,15 @@ refusal-read : (x : Read) {q : Refusal} {at : ℕ} → madeOf x ≡ making.refus
 refusal-read (refusedAt p i h) e = let z = refused-same e in (h, rw (z .0, z .1) refl)
 refusal-read (done s c h) e = absurd (not-made (sym e))
 
-pub read-refusal : (x : Read) {out out′ : List ℕ} {q : Refusal} {at : ℕ} → ReadGives x out out′ (answer.Refused q at) → (q ≡ OutputRoom → ⊥) → (h : Bool) × (x ≡ refusedAt q at h)
+pub read-refusal : (x : Read) {out out′ : List ℕ} {q : Refusal} {at : ℕ} → ReadGives x out out′ (answer.Refused q at) → (q ≡ OutputRoom → ⊥)
+    → (h : Bool) × (x ≡ refusedAt q at h)
 read-refusal x {out} {out′} p n =
     let u = unflagged x p in
     refusal-read x (refusal entriesIn (madeOf x) (subst (λ (a : Answer). Gives entriesIn (madeOf x) out out′ a) (refusal-flagged (flagOf x) (u .answer) (u .is)) (u .gives)) n)
 
 -- reading refused, and not for want of room
-after-refusal : (l : List ℕ) {out₁ out₁′ : List ℕ} {q : Refusal} {at : ℕ} (f : Bool → Sum → Made) (out : List ℕ) → ReadGives (readList l) out₁ out₁′ (answer.Refused q at) → (q ≡ OutputRoom → ⊥)
+after-refusal : (l : List ℕ) {out₁ out₁′ : List ℕ} {q : Refusal} {at : ℕ} (f : Bool → Sum → Made) (out : List ℕ)
+    → ReadGives (readList l) out₁ out₁′ (answer.Refused q at) → (q ≡ OutputRoom → ⊥)
     → Gives recordsIn (afterRead (readList l) f) out out (given.Refused q at)
 after-refusal l {out₁} {out₁′} {q} {at} f out p n = let w = read-refusal (readList l) p n in rw (w .1) (gives-refusal recordsIn q at out)
 
@@ -96,7 +99,8 @@ module _ (writer : Bool → Sum → Made) (g : Sum → Outcome) (keeps : (s d : 
     of-told {r} q = of-good (told .s) (good .good) (good-some good) (good .room) (subst (λ z. OfBytes entriesIn (λ s. ofOutcome (g s) ofSum) z out₂ out₂′ r) (told .bytes) q)
 
     -- g refused, and not for want of room
-    composed-refusal : {q : Refusal} {at : ℕ} (out : List ℕ) → OfBytes entriesIn (λ s. ofOutcome (g s) ofSum) (take (32 * n) out₁′) out₂ out₂′ (given.Refused q at) → (q ≡ OutputRoom → ⊥)
+    composed-refusal : {q : Refusal} {at : ℕ} (out : List ℕ)
+        → OfBytes entriesIn (λ s. ofOutcome (g s) ofSum) (take (32 * n) out₁′) out₂ out₂′ (given.Refused q at) → (q ≡ OutputRoom → ⊥)
         → Gives recordsIn (afterRead (readList l) (λ f s. ofOutcome (g s) (writer f))) out out (given.Refused q at)
     composed-refusal {q} {at} out b m =
         let e = refusal entriesIn (ofOutcome (g (told .s)) ofSum) (of-told b) m in

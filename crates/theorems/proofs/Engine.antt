@@ -41,12 +41,12 @@ use Rattle.values.specs.declared.ValueAnswer.{ValueAnswer}
 use Rattle.values.specs.declared.ValueAnswer.the-variants.{Value, Refused}
 use Rattle.values.specs.Value.{Exponent, whole, Power, isOne, value}
 use Rattle.theorems.specs.Terms.{TermsOf, nothing, zero-term, term, Terms}
-use Rattle.values.specs.ValueOf.{isZero, isPower, allPowers, allReal, listed, powersOf, ifSo, valueOf, ValueOfBytes}
+use Rattle.values.specs.ValueOf.{isZero, isPower, allPowers, allReal, unlessZero, powersOf, ifSo, valueOf, ValueOfBytes}
 use Rattle.algebra.specs.declared.answer.Answer.{Answer}
 use Rattle.algebra.specs.declared.answer.Answer.the-variants as given
 use Rattle.algebra.specs.Answer.Making as making
 use Rattle.algebra.specs.Answer.Making.{refusedAt, ofList, Gives, OfBytes}
-use Rattle.algebra.proofs.answer.Told.{success, refusal, not-made, refused-same}
+use Rattle.algebra.proofs.answer.Told.{success, refusal, not-made, refused-same, list-refused}
 use Rattle.theorems.specs.Contract.PowerSum.{PowerSum}
 use Rattle.theorems.specs.Places.{inAll, firstNotFinite}
 use Rattle.theorems.specs.Engine.{unplaced, ran, EngineIsRun, ValueComposes}
@@ -92,7 +92,8 @@ abbrev termThen : Float → Complex → (Nodes → Written) → Form → Nodes �
 termThen p c f m ns = andThen (writePower m p false c ns) (λ ms. andThen (timesCoef (not (isOne c) && not (isConstant m)) false c ms) f)
 
 -- its coefficient can't be, or whatever follows is refused
-term-refused : (p : Float) (c : Complex) (f : Nodes → Written) (m : Form) (ns : Nodes) → (complex.isReal c ≡ true → (ms : Nodes) → f ms ≡ refused NotFinite) → termThen p c f m ns ≡ refused NotFinite
+term-refused : (p : Float) (c : Complex) (f : Nodes → Written) (m : Form) (ns : Nodes) → (complex.isReal c ≡ true → (ms : Nodes) → f ms ≡ refused NotFinite)
+    → termThen p c f m ns ≡ refused NotFinite
 term-refused p c f m ns h = go (complex.isReal c) refl
   where
     unreal : (m : Form) → complex.isReal c ≡ false → termThen p c f m ns ≡ refused NotFinite
@@ -124,7 +125,7 @@ terms-of Sum.none e = nothing
 terms-of (and k p i c r) e = go (isZero c) refl (smallWhole p) refl e (λ h. terms-of r h)
   where
     go : (z : Bool) → isZero c ≡ z → (w : SmallWhole) → smallWhole p ≡ w → (z || isPower k w) && allPowers r ≡ true → (allPowers r ≡ true → Terms r (powersOf r))
-        → Terms (and k p i c r) (listed z w c (powersOf r))
+        → Terms (and k p i c r) (unlessZero z w c (powersOf r))
     go true z w e h t = zero-term z (t h)
     go false z (Is n) e h t =
         let b = and-both (eqb k kinds.X) (allPowers r) h in
@@ -189,10 +190,6 @@ list-not-finite : (b : List ℕ) (x : Float) → verdict b ≡ verdicts.Good →
 unfolding runList
 list-not-finite b x v e = rw (v, e)
 
-list-refused : (w : Written) {q : Refusal} {at : ℕ} → ofList w ≡ refusedAt q at → w ≡ refused q
-list-refused (wrote ns) e = absurd (not-made (sym e))
-list-refused (refused p) e = ap refused (refused-same e .0)
-
 -- the one sum that was handed over, and what was answered to it
 record HandedOver (x : Float) (r : ValueAnswer) (out out′ : List ℕ) (a : Answer) : Type 0 where
   s : Sum
@@ -211,7 +208,8 @@ module _ {l : List ℕ} {x : Float} {r : ValueAnswer} {out out′ : List ℕ} {a
       let w = b .weighed .good n .0 e in
       record { s = w .0; good = w .3; few = w .2 .few; valued = v .takes n (same ∙ e) (w .0) (w .1) (w .3); gives = b .takes n e (w .0) (w .1) (w .3) }
 
-value-runs : (l out out′ : List ℕ) (x : Float) (m : ℕ) (r : ValueAnswer) → (r ≡ Refused NeedsMath → ⊥) → ValueOfBytes l x r → OfBytes recordsIn (making.write false) l out out′ (given.Done m)
+value-runs : (l out out′ : List ℕ) (x : Float) (m : ℕ) (r : ValueAnswer) → (r ≡ Refused NeedsMath → ⊥) → ValueOfBytes l x r
+    → OfBytes recordsIn (making.write false) l out out′ (given.Done m)
     → r ≡ unplaced (runList (take (24 * m) out′) x)
 value-runs l out out′ x m r n v b = by-weight (b .weight) refl
   where

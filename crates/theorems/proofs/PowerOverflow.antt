@@ -26,7 +26,6 @@ use Rattle.sums.proofs.bytes.Laws.{encode-unique}
 use Rattle.sums.proofs.bytes.Theorem.{weighed-good, only}
 use Rattle.formats.specs.Tree.{recordsIn}
 use Rattle.formats.specs.declared.record.Primitive.the-variants.{Dup, Mul, Pow}
-use Rattle.writing.specs.Draft.Writing as writing
 use Rattle.writing.specs.Draft.Writing.{push, does}
 use Rattle.writing.specs.ToNodes.{toNodes}
 use Rattle.writing.specs.Faithful.{faithful}
@@ -44,9 +43,9 @@ use Rattle.modifiers.specs.Reading as bodies
 use Rattle.algebra.specs.declared.answer.Answer.{Answer}
 use Rattle.algebra.specs.declared.answer.Answer.the-variants as given
 use Rattle.algebra.specs.Answer.Making as making
-use Rattle.algebra.specs.Answer.Making.{Made, made, refusedAt, ofOutcome, ofSum, ofList, answered, answerNumbers, Gives, OfBytes}
+use Rattle.algebra.specs.Answer.Making.{Made, made, refusedAt, ofOutcome, ofSum, answered, answerNumbers, Gives, OfBytes}
 use Rattle.algebra.proofs.answer.Giving.{gives-refusal}
-use Rattle.algebra.proofs.answer.Told.{refused-same, not-made}
+use Rattle.algebra.proofs.answer.Told.{refused-same, not-made, list-refused}
 use Rattle.algebra.specs.declared.ReadAnswer.the-variants as answer
 use Rattle.algebra.specs.Reading as readings
 use Rattle.algebra.specs.Reading.{readList, answerOf}
@@ -82,7 +81,8 @@ made-overflows (made k bytes) room n = absurd (go (leb k room) n)
     go false n = omega arith
 
 -- so too of a sum that is handed over, which is itself refused with 11 or 13 alone
-bytes-overflow : {room : List ℕ → ℕ} {f : Sum → Made} {l out out′ : List ℕ} {a : Answer} → OfBytes room f l out out′ a → ((s : Sum) (at : ℕ) → Good 4 s → f s ≡ refusedAt PowerNotFinite at → ⊥)
+bytes-overflow : {room : List ℕ → ℕ} {f : Sum → Made} {l out out′ : List ℕ} {a : Answer} → OfBytes room f l out out′ a
+    → ((s : Sum) (at : ℕ) → Good 4 s → f s ≡ refusedAt PowerNotFinite at → ⊥)
     → answerNumbers a .number ≡ 18 → ⊥
 bytes-overflow {room} {f} {l} {out} {out′} {a} p k n = go (p .weight) refl
   where
@@ -108,17 +108,13 @@ integrate-never s at g h = integrate-quiet s g (outcome (integrals.integrate s) 
     outcome (sum u) e = absurd (not-made (sym e))
     outcome (refused q) e = ap refused (refused-same e .0)
 
-list-refused : (at : ℕ) (w : writing.Written) → ofList w ≡ refusedAt PowerNotFinite at → w ≡ writing.refused PowerNotFinite
-list-refused at (writing.wrote ns) e = absurd (not-made (sym e))
-list-refused at (writing.refused q) e = ap writing.refused (refused-same e .0)
-
 write-never : (c : Bool) (s : Sum) (at : ℕ) → making.write c s ≡ refusedAt PowerNotFinite at → ⊥
 unfolding making.write
-write-never c s at h = let z : _≡_ {A = ℕ} 18 15 = ap refusalNo (only-15 c s PowerNotFinite (list-refused at (toNodes c s) h)) in omega arith
+write-never c s at h = let z : _≡_ {A = ℕ} 18 15 = ap refusalNo (only-15 c s PowerNotFinite (list-refused (toNodes c s) h)) in omega arith
 
 faithful-never : (c : Bool) (s : Sum) (at : ℕ) → making.writeFaithful c s ≡ refusedAt PowerNotFinite at → ⊥
 unfolding making.writeFaithful
-faithful-never c s at h = let z : _≡_ {A = ℕ} 18 15 = ap refusalNo (faithful-15 c s PowerNotFinite (list-refused at (faithful c s) h)) in omega arith
+faithful-never c s at h = let z : _≡_ {A = ℕ} 18 15 = ap refusalNo (faithful-15 c s PowerNotFinite (list-refused (faithful c s) h)) in omega arith
 
 -- a reply's number is its answer's
 bytes-never : {room : List ℕ → ℕ} {f : Sum → Made} {l out out′ : List ℕ} {a : Answer} {r : Reply} → r ≡ ofAnswer a → OfBytes room f l out out′ a

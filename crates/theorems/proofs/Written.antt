@@ -109,7 +109,8 @@ list-written {out} {out′} {n} w g =
       bytes = ap (take (24 * n)) (o .written ∙ ap (sets out 0) (d .these)) ∙ first-bytes (encode (d .ns)) out (24 * n) (omega (arith, d .many, length-encode (d .ns))) (omega (arith, o .fits));
     }
 
-list-good : {out out′ : List ℕ} {n : ℕ} (w : Written) → Gives recordsIn (ofList w) out out′ (given.Done n) → ((ns : Nodes) → w ≡ wrote ns → verdict (encode ns) ≡ verdicts.Good) → ListGood n out′
+list-good : {out out′ : List ℕ} {n : ℕ} (w : Written) → Gives recordsIn (ofList w) out out′ (given.Done n)
+    → ((ns : Nodes) → w ≡ wrote ns → verdict (encode ns) ≡ verdicts.Good) → ListGood n out′
 list-good w g h = let k = list-written w g in ap verdict (k .bytes) ∙ h (k .ns) (k .is)
 
 -- a writer writes good lists of good sums
@@ -127,7 +128,8 @@ faithful-list-good out out′ n c s k g = list-good (faithful c s) g (λ ns e. f
 write-good : (w : Bool → Sum → Made) → WritesLists w → (c : Bool) {l out out′ : List ℕ} {n : ℕ} → OfBytes recordsIn (w c) l out out′ (given.Done n) → ListGood n out′
 write-good w h c {l} {out} {out′} {n} p = let k = was-taken p in h out out′ n c (k .s) (k .good) (k .gives)
 
-after-good : (x : Read) (f : Bool → Sum → Made) {out out′ : List ℕ} {n : ℕ} → ((s : Sum) (c h : Bool) → x ≡ done s c h → Gives recordsIn (f c s) out out′ (given.Done n) → ListGood n out′)
+after-good : (x : Read) (f : Bool → Sum → Made) {out out′ : List ℕ} {n : ℕ}
+    → ((s : Sum) (c h : Bool) → x ≡ done s c h → Gives recordsIn (f c s) out out′ (given.Done n) → ListGood n out′)
     → Gives recordsIn (afterRead x f) out out′ (given.Done n) → ListGood n out′
 after-good (done s c h) f k g = k s c h refl g
 after-good (reading.refusedAt q at h) f k g = absurd (not-made (success recordsIn (refusedAt q at) g .is))
@@ -155,7 +157,8 @@ unfolding integralFaithful integrateAndWriteFaithful
 integral-faithful-good l g =
     after-good (readList l) integrateAndWriteFaithful (λ s c h e k. outcome-good writeFaithful faithful-list-good (integrals.integrate s) c (λ d i. integrate-good s (sum-good l e) i) k) g
 
-inverse-of-good : (x : Read) {out out′ : List ℕ} {n : ℕ} → ((s : Sum) (c h : Bool) → x ≡ done s c h → GoodSum s) → Gives recordsIn (inverseOf x) out out′ (given.Done n) → ListGood n out′
+inverse-of-good : (x : Read) {out out′ : List ℕ} {n : ℕ} → ((s : Sum) (c h : Bool) → x ≡ done s c h → GoodSum s)
+    → Gives recordsIn (inverseOf x) out out′ (given.Done n) → ListGood n out′
 unfolding invert
 inverse-of-good (done s c true) k g = list-good (inverses.inverse c s) g (λ ns e. inverse-laws.inverse-good c 4 s (k s c true refl .good) ns e)
 inverse-of-good (done s c false) k g = absurd (not-made (success recordsIn (refusedAt NotHandled 0) g .is))

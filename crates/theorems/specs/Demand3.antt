@@ -47,7 +47,8 @@ pub record Runs (b : List ℕ) (ts : List Power) : Type 0 where
 -- the powers rise strictly; `derivative`, lent an output with room for them, writes exactly document 01's number of records; and those very bytes run so
 pub record Speed (l : List ℕ) (ts : List Power) : Type 0 where
   pub rises : Rising 0 ts
-  pub writes : (out out′ : List ℕ) (r : Answer) → records ts ≤ recordsIn out → Gives recordsIn (derivative l) out out′ r → (r ≡ Done (records ts)) × Runs (take (recordBytes * records ts) out′) ts
+  pub writes : (out out′ : List ℕ) (r : Answer) → records ts ≤ recordsIn out → Gives recordsIn (derivative l) out out′ r
+      → (r ≡ Done (records ts)) × Runs (take (recordBytes * records ts) out′) ts
 
 -- ---- the demand
 

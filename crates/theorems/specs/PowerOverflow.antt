@@ -76,8 +76,10 @@ EachOfThese = (e : Entry) → T (formsPowers e) → (l : List ℕ) × (r : Reply
 
 -- of the C functions: uplink_integrate, uplink_write, uplink_write_faithful, uplink_run, uplink_value and uplink_cost never return it
 pub record OnlyTheseFunctions : Type 0 where
-  pub tells : (e : Entry) (shown : Reply → List ℕ) (l out out′ : List ℕ) (no : ℕ) (answer : List ℕ) → Told e shown l out out′ no answer → no ≡ refusalNo PowerNotFinite → T (formsPowers e)
-  pub values : (e : Entry) (shown : Reply → List ℕ) (l : List ℕ) (no : ℕ) (v : Float) (answer : List ℕ) → Valued e shown l no v answer → no ≡ refusalNo PowerNotFinite → T (formsPowers e)
+  pub tells : (e : Entry) (shown : Reply → List ℕ) (l out out′ : List ℕ) (no : ℕ) (answer : List ℕ) → Told e shown l out out′ no answer
+      → no ≡ refusalNo PowerNotFinite → T (formsPowers e)
+  pub values : (e : Entry) (shown : Reply → List ℕ) (l : List ℕ) (no : ℕ) (v : Float) (answer : List ℕ) → Valued e shown l no v answer
+      → no ≡ refusalNo PowerNotFinite → T (formsPowers e)
 
 -- ---- some lists
 

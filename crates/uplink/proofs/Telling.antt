@@ -49,5 +49,6 @@ pub told-value : {x : Float} {l : List ℕ} {n : ValueNumbers} (a : ValueAnswer)
     → Valued (entry.value x) withCount l (n .number) (n .value) (n .place ∷ n .count ∷ [])
 told-value a p i = record { reply = ofValue a; promised = p; returned = ap (λ z. z .number) i; valued = ap (λ z. z .value) i; told = ap (λ z. z .place ∷ z .count ∷ []) i }
 
-pub told-cost : {l : List ℕ} {n : CostNumbers} (a : CostAnswer) → Promised entry.cost l [] [] (ofCost a) → n ≡ costNumbers a → Told entry.cost withCost l [] [] (n .number) (n .place ∷ n .steps ∷ [])
+pub told-cost : {l : List ℕ} {n : CostNumbers} (a : CostAnswer) → Promised entry.cost l [] [] (ofCost a) → n ≡ costNumbers a
+    → Told entry.cost withCost l [] [] (n .number) (n .place ∷ n .steps ∷ [])
 told-cost a p i = record { reply = ofCost a; promised = p; returned = ap (λ z. z .number) i; told = ap (λ z. z .place ∷ z .steps ∷ []) i }

@@ -82,14 +82,16 @@ before-next : (k l : ℕ) (p q : Float) → k ≡ X → l ≡ X → lt p q ≡ t
 unfolding cmpEach len size
 before-next k l p q ek el h = rw (ek, el) (then-equal (cmpNum p q) ∙ cmp-less p q .1 h)
 
-before-flat : (f : ℕ → Entry) (i m : ℕ) → ((j : ℕ) → i ≤ j → j < i + suc m → IsPower (f j)) → ((j : ℕ) → i ≤ j → j + 1 < i + suc m → lt (f j .num) (f (j + 1) .num) ≡ true)
+before-flat : (f : ℕ → Entry) (i m : ℕ) → ((j : ℕ) → i ≤ j → j < i + suc m → IsPower (f j))
+    → ((j : ℕ) → i ≤ j → j + 1 < i + suc m → lt (f j .num) (f (j + 1) .num) ≡ true)
     → Before (f i .kind) (f i .num) none (flat f (i + 1) m)
 unfolding flat
 before-flat f i zero h up = tt
 before-flat f i (suc m) h up =
     before-next (f i .kind) (f (i + 1) .kind) (f i .num) (f (i + 1) .num) (h i (omega arith) (omega arith) .kind) (h (i + 1) (omega arith) (omega arith) .kind) (up i (omega arith) (omega arith))
 
-pub flat-good : (f : ℕ → Entry) (left i m : ℕ) → ((j : ℕ) → i ≤ j → j < i + m → IsPower (f j)) → ((j : ℕ) → i ≤ j → j + 1 < i + m → lt (f j .num) (f (j + 1) .num) ≡ true)
+pub flat-good : (f : ℕ → Entry) (left i m : ℕ) → ((j : ℕ) → i ≤ j → j < i + m → IsPower (f j))
+    → ((j : ℕ) → i ≤ j → j + 1 < i + m → lt (f j .num) (f (j + 1) .num) ≡ true)
     → Good (suc left) (flat f i m)
 unfolding flat Good
 flat-good f left i zero h up = tt
@@ -134,7 +136,8 @@ module _ (l : List ℕ) (bs : Bytes l) (i : ℕ) (room : 32 * i + 32 ≤ length 
       rw (en, er, em) (ap (λ (k : ℕ). entry k 0 (e .num) c) (sym (power-entry .kind)) ∙ ap (λ (j : ℕ). entry (e .kind) j (e .num) c) (sym (power-entry .inside)))
 
 -- what four words tell
-pub power-told : (l : List ℕ) (i : ℕ) {h n r m : ℕ} {a b c : Bool} → h ≡ number 8 l (32 * i) → n ≡ number 8 l (32 * i + 8) → r ≡ number 8 l (32 * i + 16) → m ≡ number 8 l (32 * i + 24)
+pub power-told : (l : List ℕ) (i : ℕ) {h n r m : ℕ} {a b c : Bool} → h ≡ number 8 l (32 * i) → n ≡ number 8 l (32 * i + 8)
+    → r ≡ number 8 l (32 * i + 16) → m ≡ number 8 l (32 * i + 24)
     → a ≡ finite (ofBits binary64 n) → b ≡ finite (ofBits binary64 r) → c ≡ finite (ofBits binary64 m) → (eqb h 1 && (a && b && c)) ≡ true → PowerAt l i
 power-told l i {h} {n} {r} {m} {a} {b} {c} eh en er em fn fr fm t =
     let plain = and-right (eqb h 1) (a && b && c) t in

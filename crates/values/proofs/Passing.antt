@@ -12,7 +12,7 @@ use Rattle.cells.specs.declared.Entry.{Entry}
 use Rattle.sums.specs.Tree.Sums.{Sum, none, and}
 use Rattle.values.specs.declared.Found.{Found}
 use Rattle.values.specs.Contract.Findings.{Reached, Starts, Takes}
-use Rattle.values.specs.Contract.Powers.{entryAt, PowerAt, Whole}
+use Rattle.values.specs.Contract.Powers.{entryAt, PowerAt, AllMet}
 use Rattle.values.proofs.Walk.{Goes, goes-start, goes-next, goes-end}
 use Rattle.values.proofs.Flat.{flat, flat-size, powers-good, powers-encode}
 
@@ -63,7 +63,7 @@ module _ {l : List ℕ} {n : ℕ} {x : Float} {f : Found} {last : Float} where
           goes = goes-next e none rest k (subst (Goes x f (flat (entryAt l) 0 n)) first (w .goes));
         }
 
-    pub passing-end : n ≤ i → Bytes l → 32 * n ≤ length l → Whole l n x f
+    pub passing-end : n ≤ i → Bytes l → 32 * n ≤ length l → AllMet l n x f
     unfolding flat
     passing-end h bs room =
         let at-end = w .within in

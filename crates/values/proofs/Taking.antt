@@ -26,7 +26,8 @@ use Rattle.values.specs.declared.ValueAnswer.the-variants.{Value, Refuse
 use Rattle.values.specs.Value.{value}
 use Rattle.values.specs.ValueOf.{allPowers, allReal, powersOf, ifSo, valueOf, ValueOfBytes, valueNumbers}
 
-not-both : {t : Taken} {q : Refusal} {n : ℕ} → t ≡ taken.Refused q → t ≡ taken.Sum n → ⊥
+-- what is taken isn't refused
+pub not-both : {t : Taken} {q : Refusal} {n : ℕ} → t ≡ taken.Refused q → t ≡ taken.Sum n → ⊥
 not-both e f = let z : _≡_ {A = ℕ} 0 1 = cc in omega arith
 
 same-refusal : {p q : Refusal} → taken.Refused p ≡ taken.Refused q → Refused p ≡ Refused q

@@ -51,26 +51,30 @@ allReal (and k p i c r) = (isZero c || complex.isReal c) && allReal r
 
 -- ---- the terms
 
--- unless it is zero, a term before others
-abbrev pub listed : Bool → SmallWhole → Complex → List Power → List Power
-listed true w c ts = ts
-listed false (Is n) c ts = power (whole n) c ∷ ts
-listed false Other c ts = ts
+-- a term before others, unless it is zero
+abbrev pub unlessZero : Bool → SmallWhole → Complex → List Power → List Power
+unlessZero true w c ts = ts
+unlessZero false (Is n) c ts = power (whole n) c ∷ ts
+unlessZero false Other c ts = ts
 
 -- of a sum that passes the first test: the powers that aren't zero, with their coefficients
 unfoldable pub powersOf : Sum → List Power
 powersOf none = []
-powersOf (and k p i c r) = listed (isZero c) (smallWhole p) c (powersOf r)
+powersOf (and k p i c r) = unlessZero (isZero c) (smallWhole p) c (powersOf r)
 
 -- ---- the answer
 
+-- a test that has to be passed, and the refusal where it isn't
 abbrev pub ifSo : Bool → Refusal → ValueAnswer → ValueAnswer
 ifSo true q a = a
 ifSo false q a = Refused q
 
+abbrev pub ifFinite : Float → ValueAnswer
+ifFinite v = ifSo (finite v) NotFinite (Value v)
+
 -- 15 for x; then 14 for the whole sum; then 15 for an imaginary part, and for a value that isn't finite
 unfoldable pub valueOf : Sum → Float → ValueAnswer
-valueOf s x = ifSo (finite x) NotFinite (ifSo (allPowers s) NeedsMath (ifSo (allReal s) NotFinite (ifSo (finite (value x (powersOf s))) NotFinite (Value (value x (powersOf s))))))
+valueOf s x = ifSo (finite x) NotFinite (ifSo (allPowers s) NeedsMath (ifSo (allReal s) NotFinite (ifFinite (value x (powersOf s)))))
 
 -- of a sum that is handed over: it is weighed first, and is refused or taken
 pub record ValueOfBytes (l : List ℕ) (x : Float) (r : ValueAnswer) : Type 0 where

@@ -32,7 +32,7 @@ pub struct ValueNumbers {
 
 // What was found in the terms so far, side by side: whether each is a whole power, and real; whether there was one, and the sum of them; and the last power of x
 // that was formed, with its exponent.
-pub struct Found {
+struct Found {
     pub whole: bool,
     pub real: bool,
     pub any: bool,
@@ -135,7 +135,7 @@ fn add_power(x: f64, f: Found, n: u64, c: Complex) -> Found
 }
 
 // The next outermost term. A term that is zero is asked nothing.
-pub fn take_term(x: f64, f: Found, e: Entry) -> Found
+fn take_term(x: f64, f: Found, e: Entry) -> Found
     requires { ⌜ Reached x f ⌝ }
     ensures { λ r. ⌜ Takes x f e r ⌝ }
 {
@@ -178,7 +178,7 @@ fn total(x: f64, f: Found) -> f64
 }
 
 // What was found, judged: 14 for the whole sum comes before 15. One test at the end is enough, since what isn't finite stays so.
-pub fn judge(x: f64, f: Found) -> ValueAnswer
+fn judge(x: f64, f: Found) -> ValueAnswer
     ensures { λ r. ⌜ r ≡ judged (f .whole) (f .real) (onward x (f .any) (f .sum) []) ⌝ }
 {
     if !f.whole {
@@ -195,7 +195,7 @@ pub fn judge(x: f64, f: Found) -> ValueAnswer
 }
 
 // Before the first term: the last power of x is x itself.
-pub fn nothing_found(x: f64) -> Found
+fn nothing_found(x: f64) -> Found
     ensures { λ r. ⌜ Starts x r ⌝ }
 {
     Found {

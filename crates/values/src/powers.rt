@@ -18,7 +18,7 @@ ghost use Rattle.values.specs.Contract.Powers.{entryAt, PowerAt, FindsPo
 const POWER: u64 = X as u64;
 
 // What was found in a sum of powers, or that the bytes are something else.
-pub enum Met {
+enum Met {
     Powers(Found),
     Other,
 }

@@ -55,7 +55,8 @@ module _ (x : Entry) (flag : Bool) (inside : Nodes → Written) (most : ℕ) whe
     pub term-stop : (o : Refusal) → s ≡ said.Refused o → Term b b′ d (said.Refused o)
     term-stop o h = term-as false (ne-eqb (x .kind) kinds.X e) (spoken-stop k o h (λ ms. wrote (append ms (functionOf (x .kind) (x .num) unit))) (2 * n) (most + 5))
 
-    pub term-function : {b″ : List ℕ} {q r : Draft} {u : Bool} → s ≡ said.Done q → u ≡ unit → Drawn b′ b″ q r 0 3 (λ ns. append ns (functionOf (x .kind) (x .num) u)) → Term b b″ d (said.Done r)
+    pub term-function : {b″ : List ℕ} {q r : Draft} {u : Bool} → s ≡ said.Done q → u ≡ unit
+        → Drawn b′ b″ q r 0 3 (λ ns. append ns (functionOf (x .kind) (x .num) u)) → Term b b″ d (said.Done r)
     term-function h m w =
         term-as false (ne-eqb (x .kind) kinds.X e)
         (spoken-more
@@ -76,7 +77,8 @@ module _ (x : Entry) (flag : Bool) (inside : Nodes → Written) (most : ℕ) whe
 
     module _ {b b₁ b₂ : List ℕ} {d q : Draft} {s : Said} {first : Bool} (e : complex.same (x .coef) complex.zero ≡ false) (f : first ≡ (not id && eqb (d .from) (d .end)))
         (u : Drawn b b₁ d q 2 1 (λ ns. before first ns)) (k : Term b₁ b₂ q s) where
-      as-turn : {b′ : List ℕ} {r : Said} → Spoken b b′ d r (2 * n + 2) (most + 9) (λ ns. andThen (termBy flag x inside (before first ns)) (λ ms. finished flag first x ms)) → Turn b b′ d r
+      as-turn : {b′ : List ℕ} {r : Said}
+          → Spoken b b′ d r (2 * n + 2) (most + 9) (λ ns. andThen (termBy flag x inside (before first ns)) (λ ms. finished flag first x ms)) → Turn b b′ d r
       as-turn w =
           spoken-where w (λ ns. entryBy flag id x inside ns)
           (λ ns l.

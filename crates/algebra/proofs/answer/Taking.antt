@@ -15,15 +15,13 @@ use Rattle.sums.specs.Entry.Taking.{Weighed}
 use Rattle.sums.specs.Contract.Laid.{Laid}
 use Rattle.cells.specs.Contract.Moves.{under}
 use Rattle.arithmetic.specs.Add.Contract.Operands.{Source}
+use Rattle.values.proofs.Taking.{not-both}
 use Rattle.sums.proofs.bytes.Theorem.{good-taken, settled}
 use Rattle.algebra.specs.declared.answer.Answer.{Answer}
 use Rattle.algebra.specs.declared.answer.Answer.the-variants as answer
 use Rattle.algebra.specs.Answer.Making.{Made, refusedAt, Gives, OfBytes}
 use Rattle.algebra.proofs.answer.Giving.{gives-refusal}
 use Rattle.algebra.proofs.answer.Determined.{determined}
-
-not-both : {t : Taken} {q : Refusal} {n : ℕ} → t ≡ taken.Refused q → t ≡ taken.Sum n → ⊥
-not-both e f = let z : _≡_ {A = ℕ} 0 1 = cc in omega arith
 
 module _ {room : List ℕ → ℕ} {f : Sum → Made} {l : List ℕ} {t : Taken} (w : Weighed l t) where
   pub bytes-refused : {q : Refusal} (out : List ℕ) → t ≡ taken.Refused q → OfBytes room f l out out (answer.Refused q 0)
@@ -38,7 +36,8 @@ module _ {room : List ℕ → ℕ} {f : Sum → Made} {l : List ℕ} {t : Taken}
       refusal-same : {p q : Refusal} → taken.Refused p ≡ taken.Refused q → p ≡ q
       refusal-same g = cc
 
-  pub bytes-made : {n : ℕ} {b : Book} {out out′ : List ℕ} {r : Answer} → t ≡ taken.Sum n → Laid l b n → ((s : Sum) → Lies b 0 (0 + n) 4 s → Gives room (f s) out out′ r) → OfBytes room f l out out′ r
+  pub bytes-made : {n : ℕ} {b : Book} {out out′ : List ℕ} {r : Answer} → t ≡ taken.Sum n → Laid l b n
+      → ((s : Sum) → Lies b 0 (0 + n) 4 s → Gives room (f s) out out′ r) → OfBytes room f l out out′ r
   bytes-made {n} {b} e d g =
       record {
         weight = t;
@@ -62,7 +61,8 @@ pub of-good : {room : List ℕ → ℕ} {f : Sum → Made} {out out′ : List �
 of-good s g some few p = p .takes (size s) (good-taken s (p .weight) g some few (p .weighed)) s refl g
 
 -- any two answers that it allows are the same, and so is every byte of the output
-pub bytes-determined : {room : List ℕ → ℕ} {f : Sum → Made} {l out out₁ out₂ : List ℕ} {r₁ r₂ : Answer} → OfBytes room f l out out₁ r₁ → OfBytes room f l out out₂ r₂ → (r₁ ≡ r₂) × (out₁ ≡ out₂)
+pub bytes-determined : {room : List ℕ → ℕ} {f : Sum → Made} {l out out₁ out₂ : List ℕ} {r₁ r₂ : Answer} → OfBytes room f l out out₁ r₁
+    → OfBytes room f l out out₂ r₂ → (r₁ ≡ r₂) × (out₁ ≡ out₂)
 bytes-determined {room} {f} {l} {out} {out₁} {out₂} {r₁} {r₂} p q = go (p .weight) refl
   where
     same : q .weight ≡ p .weight

@@ -89,6 +89,10 @@ pub list-made : (w : writing.Written) {n : ℕ} {bytes : List ℕ} → ofList w 
 list-made (writing.wrote ns) e = let z = made-same e in record { ns = ns; is = refl; many = sym (z .0); these = sym (z .1) }
 list-made (writing.refused q) e = absurd (not-made e)
 
+pub list-refused : (w : writing.Written) {q : Refusal} {at : ℕ} → ofList w ≡ refusedAt q at → w ≡ writing.refused q
+list-refused (writing.wrote ns) e = absurd (not-made (sym e))
+list-refused (writing.refused p) e = ap writing.refused (refused-same e .0)
+
 -- a refusal of what was formed
 pub refused-outcome : (o : Outcome) {f : Sum → Made} {q : Refusal} {at : ℕ} → (g : Sum → Made) → ((s : Sum) → o ≡ sum s → f s ≡ refusedAt q at → g s ≡ refusedAt q at)
     → ofOutcome o f ≡ refusedAt q at → ofOutcome o g ≡ refusedAt q at

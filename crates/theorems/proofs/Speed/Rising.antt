@@ -85,7 +85,8 @@ module _ (left : ℕ) where
   before-rest k l p q i j d none K g b = tt
   before-rest k l p q i j d (and l′ q′ j′ d′ r′) K g b =
       let f = first-good l q j d (and l′ q′ j′ d′ r′) g in
-      term-chain (entry k (size i) p complex.zero) i (entry l (size j) q complex.zero) j (entry l′ (size j′) q′ complex.zero) j′ K (first-key f) (first-key (first-good l′ q′ j′ d′ r′ (f .rest)))
+      let next = first-good l′ q′ j′ d′ r′ (f .rest) in
+      term-chain (entry k (size i) p complex.zero) i (entry l (size j) q complex.zero) j (entry l′ (size j′) q′ complex.zero) j′ K (first-key f) (first-key next)
       .less b (f .before)
 
   above : {r : Sum} {ts : List Power} (p : Float) (i : Sum) (k : Exponent) → TermKey kinds.X p i → isEmpty i ≡ true → T (finite p) → IsWholeOrHalf p k

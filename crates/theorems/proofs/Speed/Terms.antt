@@ -122,7 +122,9 @@ or-below true at o p = refl
 or-below false at o p = refl
 
 pub reyield : {N : Nodes} {x r : Float} {q : ℕ} (b d : ℕ → Option Stop) → ((at : ℕ) → b at ≡ d at) → Yields N x r q b → Yields N x r q d
-reyield {N} {x} {r} {q} b d e g = record { run = λ s at h n p room i. g .run s at h n p room i ∙ ap (λ (a : Option Stop). out a (state (r ∷ s) (n + size N) (max p (q + (length s + h))))) (e at) }
+reyield {N} {x} {r} {q} b d e g = record {
+  run = λ s at h n p room i. g .run s at h n p room i ∙ ap (λ (a : Option Stop). out a (state (r ∷ s) (n + size N) (max p (q + (length s + h))))) (e at);
+}
 
 cond-same : (b : Bool) (n : ℕ) → cond b n n ≡ n
 cond-same true n = refl

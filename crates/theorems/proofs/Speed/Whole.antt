@@ -159,7 +159,8 @@ stop-all x k c ts {a} ea eb =
 module _ (left : ℕ) where
   -- something is written for it
   first : {s : Sum} {ts : List Power} (p : Float) (c : Complex) (k : Exponent) (a : Record) (i m : Nodes) → T (isNumber p) → T (isNumber (c .re)) → IsWholeOrHalf p k
-      → isX k c ≡ false → piece p k c ≡ rec a i m → Good left s → Listed s ts → Rising (suc (twice k)) ts → length ts ≤ 64 → Whole s (isBare (formOf k)) (piece p k c) (power k c ∷ ts)
+      → isX k c ≡ false → piece p k c ≡ rec a i m → Good left s → Listed s ts → Rising (suc (twice k)) ts → length ts ≤ 64
+      → Whole s (isBare (formOf k)) (piece p k c) (power k c ∷ ts)
   unfolding value
   first {s} {ts} p c k a i m fp fc w n e g d up few =
       let q = first-peak k c ts n up in

@@ -41,7 +41,8 @@ use Rattle.theorems.proofs.readback.Terms.{Nice, TermsListed, nothing, 
 -- ---- one term more
 
 -- what came before in an On, the term's records, and Add
-makes-join : {N P : Nodes} {u v w : Sum} {k : ℕ} {p q : Bool} → 68 ≤ k → size u ≤ 64 → size w ≤ 64 → Makes N (x ∷ []) (u ∷ []) k p → Makes P (x ∷ []) (v ∷ []) 4 q → addSums u v ≡ sum w
+makes-join : {N P : Nodes} {u v w : Sum} {k : ℕ} {p q : Bool} → 68 ≤ k → size u ≤ 64 → size w ≤ 64 → Makes N (x ∷ []) (u ∷ []) k p
+    → Makes P (x ∷ []) (v ∷ []) 4 q → addSums u v ≡ sum w
     → Makes (append (append (wrapped N) P) (one (does prim.Add))) (x ∷ []) (w ∷ []) (suc k) (p || q)
 makes-join {u = u} {v} {w} {k} {p} {q} low few few′ n t e =
     rw (or-false (p || q)) at (makes-both (makes-both (makes-on (omega arith) n) (makes-more (suc k) (omega arith) (makes-over u t))) (makes-more (suc k) (omega arith) (makes-add v u w e)))
@@ -113,7 +114,8 @@ unfolding runAll runners total
 end-made {v} {k} {p} few g = let e = g .run [] 0 0 0 false (omega arith) .1 in (ap topOf e, sym (ap flagOf e))
 
 module _ (flag : Bool) where
-  more : {s : Sum} {rs : List Term} → TermsListed s rs → (ds : List Term) → Finite ds → AllOver ds rs → TermsRise rs → length ds + length rs ≤ 63 → (id : Bool) (a : Record) (i m : Nodes) (u : Sum)
+  more : {s : Sum} {rs : List Term} → TermsListed s rs → (ds : List Term) → Finite ds → AllOver ds rs → TermsRise rs → length ds + length rs ≤ 63
+      → (id : Bool) (a : Record) (i m : Nodes) (u : Sum)
       → Came (extraIn ds) ds u → Makes (rec a i m) (x ∷ []) (u ∷ []) (70 + length ds) (flag && wrotePair ds) → Whole flag s id (rec a i m) (ds ++ rs)
   unfolding write append AllOver TermsRise
   more nothing ds fs o up few id a i m u c r = rw (append-nil ds) (record { list = rec a i m; written = refl; to = u; came = c; reads = r })
@@ -141,7 +143,8 @@ module _ (flag : Bool) where
       })
 
   -- only x was met, and nothing written for it
-  only : {s : Sum} {rs : List Term} → TermsListed s rs → (t : Term) → T (finite (t .power)) → AllOver (t ∷ []) rs → TermsRise rs → 1 + length rs ≤ 63 → Came (extraIn (t ∷ [])) (t ∷ []) x
+  only : {s : Sum} {rs : List Term} → TermsListed s rs → (t : Term) → T (finite (t .power)) → AllOver (t ∷ []) rs → TermsRise rs → 1 + length rs ≤ 63
+      → Came (extraIn (t ∷ [])) (t ∷ []) x
       → (flag && wrotePair (t ∷ [])) ≡ false → Whole flag s true end (t ∷ rs)
   unfolding write append AllOver TermsRise Finite size
   only nothing t f o up few c w = record { list = one (does prim.Identity); written = refl; to = x; came = c; reads = rw w (makes-more (70 + length (t ∷ [])) (omega arith) (makes-identity x)) }
@@ -167,7 +170,8 @@ module _ (flag : Bool) where
       }
 
   -- the first term: x by itself, or something that is written
-  first : {s : Sum} {rs : List Term} (m : Form) (unit : Bool) (t : Term) (r : Record) (v : Sum) → TermsListed s rs → Nice t → TermMade t v → AllOver (t ∷ []) rs → TermsRise rs → 1 + length rs ≤ 63
+  first : {s : Sum} {rs : List Term} (m : Form) (unit : Bool) (t : Term) (r : Record) (v : Sum) → TermsListed s rs → Nice t → TermMade t v
+      → AllOver (t ∷ []) rs → TermsRise rs → 1 + length rs ≤ 63
       → Makes (piece m (t .power) r unit) (x ∷ []) (v ∷ []) 4 (flag && wrotePair (t ∷ [])) → Whole flag s (isBare m) (piece m (t .power) r unit) (t ∷ rs)
   unfolding append Finite
   first {s} {rs} m unit t r v l n c o up few g = go m unit g

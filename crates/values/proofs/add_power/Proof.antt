@@ -1,5 +1,5 @@
 -- The power's value goes to the sum. Assumes nothing.
-use Prim.Native.Nat.{suc, _-_}
+use Prim.Native.Nat.{_≤_}
 use borrow.Author.Needs.{needs}
 use native.Mathlib.Omega.{arith}
 use mathlib.Core.Path.{_≡_, refl, ap, _∙_}
@@ -32,9 +32,10 @@ add-power-spec =
     let test = power .before in
     let st = test .before in
     let f = st .args .f in
+    let some : 1 ≤ st .args .n = omega (arith, test .if1 .left) in
     record {
       tests = (refl, refl);
       any = refl;
-      sum = c .plus2 .ensures ∙ ap (plus (f .any) (f .sum)) (times .times-coef .ensures ∙ value-of-power (st .args .x) (st .args .n) (st .args .c) (omega (arith, test .if1 .left)) (power .power-of-x .ensures));
-      reached = record { low = omega (arith, test .if1 .left); formed = power .power-of-x .ensures };
+      sum = c .plus2 .ensures ∙ ap (plus (f .any) (f .sum)) (times .times-coef .ensures ∙ value-of-power (st .args .x) (st .args .n) (st .args .c) some (power .power-of-x .ensures));
+      reached = record { low = some; formed = power .power-of-x .ensures };
     }))

@@ -4,7 +4,6 @@ use mathlib.Core.Path.{_≡_}
 use mathlib.Core.Bool.{Bool, true, false, _&&_, _||_}
 use mathlib.Core.List.{List, []}
 use lib.Ieee.{Float}
-use lib.Ieee.Scale.{finite}
 use Rattle.limits.specs.declared.Refusal.the-variants.{NeedsMath, NotFinite}
 use Rattle.numbers.specs.Numbers.{smallWhole}
 use Rattle.numbers.specs.Ops.{_⊕_}
@@ -15,9 +14,8 @@ use Rattle.sums.specs.Tree.Sums.{Sum}
 use Rattle.running.specs.Primitives.{times}
 use Rattle.values.specs.declared.Found.{Found}
 use Rattle.values.specs.declared.ValueAnswer.{ValueAnswer}
-use Rattle.values.specs.declared.ValueAnswer.the-variants.{Value}
 use Rattle.values.specs.Value.{whole, Power, termValue, plusTerms, value}
-use Rattle.values.specs.ValueOf.{isZero, isPower, allPowers, allReal, listed, powersOf, ifSo}
+use Rattle.values.specs.ValueOf.{isZero, isPower, allPowers, allReal, unlessZero, powersOf, ifSo, ifFinite}
 
 -- a value added to the sum so far; where there is none it is the value itself
 abbrev pub plus : Bool → Float → Float → Float
@@ -45,7 +43,7 @@ pub record Adds (x : Float) (f : Found) (n : ℕ) (c : Complex) (r : Found) : Ty
 pub record Takes (x : Float) (f : Found) (e : Entry) (r : Found) : Type 0 where
   pub powers : r .whole ≡ f .whole && (isZero (e .coef) || isPower (e .kind) (smallWhole (e .num)))
   pub reals : r .real ≡ f .real && (isZero (e .coef) || complex.isReal (e .coef))
-  pub sums : (ts : List Power) → onward x (f .any) (f .sum) (listed (isZero (e .coef)) (smallWhole (e .num)) (e .coef) ts) ≡ onward x (r .any) (r .sum) ts
+  pub sums : (ts : List Power) → onward x (f .any) (f .sum) (unlessZero (isZero (e .coef)) (smallWhole (e .num)) (e .coef) ts) ≡ onward x (r .any) (r .sum) ts
   pub reached : Reached x r
 
 -- nothing was met yet: what is said of a sum is what is still to come
@@ -62,4 +60,4 @@ pub record Finds (x : Float) (s : Sum) (f : Found) : Type 0 where
 
 -- what was found is judged
 abbrev pub judged : Bool → Bool → Float → ValueAnswer
-judged w r v = ifSo w NeedsMath (ifSo r NotFinite (ifSo (finite v) NotFinite (Value v)))
+judged w r v = ifSo w NeedsMath (ifSo r NotFinite (ifFinite v))

@@ -34,8 +34,8 @@ pub record PowerAt (l : List ℕ) (i : ℕ) : Type 0 where
   pub re : finite (ofBits binary64 (number 8 l (entryBytes * i + 16))) ≡ true
   pub im : finite (ofBits binary64 (number 8 l (entryBytes * i + 24))) ≡ true
 
--- the bytes are a good sum of n entries, every term of which was met
-pub record Whole (l : List ℕ) (n : ℕ) (x : Float) (f : Found) : Type 0 where
+-- the first n entries are a good sum, every term of which was met; where there are no more, the bytes are that sum's
+pub record AllMet (l : List ℕ) (n : ℕ) (x : Float) (f : Found) : Type 0 where
   pub s : Sum
   pub encodes : length l ≡ entryBytes * n → encodeSum s ≡ l
   pub good : Good sumLevels s
@@ -44,7 +44,7 @@ pub record Whole (l : List ℕ) (n : ℕ) (x : Float) (f : Found) : Type 0 where
 
 -- where powers were met they are the sum
 abbrev pub FindsPowers : List ℕ → ℕ → Float → Met → Type 0
-FindsPowers l n x r = (f : Found) → r ≡ Powers f → Whole l n x f
+FindsPowers l n x r = (f : Found) → r ≡ Powers f → AllMet l n x f
 
 -- an answer is the value's
 abbrev pub QuickOf : List ℕ → Float → Quick → Type 0

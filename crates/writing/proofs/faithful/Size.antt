@@ -129,7 +129,7 @@ faithful-within flag (and k p i c r) identity ns =
     let w = turn (complex.same c complex.zero) (eqb k kinds.X) (form p) k p c flag (λ ms. behind (writeFaithful flag i false end) ms) (λ id ms. writeFaithful flag r id ms) identity ns in
     more-within w (size ns + (inner + 8) + rest) (size ns + (10 * sums.size (and k p i c r) + 2))
     (turn-within inner (omega arith) rest (complex.same c complex.zero) (eqb k kinds.X) (form p) k p c flag (λ ms. behind (writeFaithful flag i false end) ms) (λ id ms. writeFaithful flag r id ms)
-    identity ns (λ ms. behind-within (writeFaithful flag i false end) inner (more-within (writeFaithful flag i false end) (size end + inner) inner (faithful-within flag i false end) (omega arith)) ms)
+    identity ns (λ ms. let w = writeFaithful flag i false end in behind-within w inner (more-within w (size end + inner) inner (faithful-within flag i false end) (omega arith)) ms)
     (λ id ms. faithful-within flag r id ms))
     (omega arith)
 

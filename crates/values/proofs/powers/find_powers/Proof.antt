@@ -6,7 +6,7 @@ use borrow.Author.Tests.{not-false}
 use mathlib.Core.Path.{_≡_, sym, subst, _∙_}
 use Rattle.values.specs.declared.Found.{Found}
 use Rattle.values.specs.declared.powers.Met.the-variants.{Powers, Other}
-use Rattle.values.specs.Contract.Powers.{Whole}
+use Rattle.values.specs.Contract.Powers.{AllMet}
 use Rattle.values.proofs.Passing.{Passing, passing-start, passing-next, passing-end}
 use Rattle.values.proofs.powers.find_powers.Statement.{statement}
 use Rattle.values.proofs.powers.find_powers.Tie as tie
@@ -30,7 +30,8 @@ loop-again c =
     let test = got .before in
     let l = test .before .before .before in
     let i<n : l .loop .i < l .before .before .before .args .n = test .before .before .loop-test .taken in
-    passing-next (l .loop .inv) (got .power-at .result) i<n (test .before .is-power .ensures (not-false _ (test .if1 .left))) (got .power-at .ensures) (not-false _ (above .if2 .left)) (c .take-term .ensures)
+    let is-power = test .before .is-power .ensures (not-false _ (test .if1 .left)) in
+    passing-next (l .loop .inv) (got .power-at .result) i<n is-power (got .power-at .ensures) (not-false _ (above .if2 .left)) (c .take-term .ensures)
 
 pub find-powers-spec : {M : Type 1} → statement M
 find-powers-spec =
@@ -54,4 +55,4 @@ find-powers-spec =
     let l = c .before in
     let known = l .before .before in
     let st = known .before in
-    subst (Whole _ _ _) (same-found e) (passing-end (l .loop .inv) (omega (arith, c .loop-test .left)) (λ j. known .shared-slice-known .given j .fits) (st .pre))))
+    subst (AllMet _ _ _) (same-found e) (passing-end (l .loop .inv) (omega (arith, c .loop-test .left)) (λ j. known .shared-slice-known .given j .fits) (st .pre))))
