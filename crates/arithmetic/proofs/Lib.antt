@@ -3,4 +3,5 @@ pub mod Table
 pub mod Steps
 pub mod Goodness
 pub mod Agree
+pub mod Pairs
 pub mod Calculus

@@ -5,6 +5,7 @@ pub mod Adding
 pub mod Product
 pub mod Quotient
 pub mod Power
+pub mod Pairs
 pub mod Powers
 pub mod Add
 pub mod Multiply
