@@ -127,10 +127,14 @@ struct uplink_answer {
     uint64_t count; /* entries or records written; uplink_value writes none */
 };
 
+/* THIS STRUCT HAS GROWN BY 8 BYTES, AT ITS END: `pairs` IS NEW. uplink_read WRITES ALL 32 BYTES, SO AN OBJECT FILE
+ * THAT WAS COMPILED WITH AN OLDER HEADER LENDS TOO LITTLE AND IS WRITTEN PAST ITS END. COMPILE IT ANEW BEFORE IT IS
+ * LINKED; SO WITH EVERY PROGRAM IN ANOTHER LANGUAGE THAT DECLARES THE STRUCT, OR AN ARRAY OF THREE NUMBERS, ITSELF. */
 struct uplink_read_answer {
     uint64_t place;
     uint64_t count;   /* entries written */
     uint64_t complex; /* 1 where a complex step was met, else 0 */
+    uint64_t pairs;   /* pairs of terms multiplied, 0 on a refusal; see uplink_read */
 };
 
 struct uplink_run_answer {
@@ -150,7 +154,18 @@ struct uplink_cost_answer {
  * terms (README.md, Lists from strangers). Who has less time sets a limit of 10,000: a minute at worst. */
 #define UPLINK_STEPS_RECOMMENDED 1000000
 
-/* From a list to the sum that it stands for. */
+/* From a list to the sum that it stands for.
+ *
+ * `pairs` tells how much multiplying that took. A pair is an outermost term of one factor with an outermost term
+ * of the other: Mul of sums of a and b terms multiplies a * b pairs, Pow by a whole n the pairs of its n - 1
+ * products, each of the product so far with the base. A pair counts whatever its coefficients are, and where its
+ * term is there already. So x + 1 to the power 3 takes 2 * 2 + 3 * 2 = 10 pairs, and a sum of 64 terms times
+ * itself 4,096. One Mul multiplies 4,096 pairs at most, one Pow 258,048.
+ *
+ * Not counted: powers 0 and 1, powers that aren't whole and from 0 up, and E to the x, which multiply nothing;
+ * what lies inside of two Div terms; and what other records multiply (Complex, Div, Reciprocal, Exp, Exp2, Exp10,
+ * Sqrt). A record counts each time it is run, so twice in the body of a Both. 2^64 - 1 stands for itself and for
+ * everything above. */
 uint64_t uplink_read(const uint8_t *list, size_t list_bytes, uint8_t *sum, size_t sum_bytes,
                      struct uplink_read_answer *answer);
 

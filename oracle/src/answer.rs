@@ -71,9 +71,11 @@ impl<T> Answer<T> {
     }
 }
 
-/// A sum as read: its entries' bytes, and whether a complex number was met.
+/// A sum as read: its entries' bytes, whether a complex number was met, and how
+/// many pairs of outermost terms the records of Mul and Pow multiplied.
 #[derive(Debug, Clone, PartialEq, Eq)]
 pub struct ReadSum {
     pub complex: bool,
+    pub pairs: u64,
     pub entries: Vec<u8>,
 }

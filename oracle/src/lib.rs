@@ -16,6 +16,7 @@ pub mod features;
 pub mod functions;
 pub mod generate;
 pub mod meaning;
+pub mod multiplied;
 pub mod operations;
 pub mod power_sums;
 pub mod quiet;

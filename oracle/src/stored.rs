@@ -111,9 +111,10 @@ fn list_answers(list: &[u8], decider: Decider) -> String {
         text += &match read {
             Ok(read) => {
                 let flag = u8::from(read.complex);
-                format!("read 0 0 {flag}{}\n", hex(&read.entries, ENTRY))
+                let entries = hex(&read.entries, ENTRY);
+                format!("read 0 0 {flag} {}{entries}\n", read.pairs)
             }
-            Err(Refusal { number, place }) => format!("read {number} {place} 0\n"),
+            Err(Refusal { number, place }) => format!("read {number} {place} 0 0\n"),
         };
     }
     for (name, answer) in [
@@ -186,9 +187,10 @@ fn back_line(sum: &[u8], complex: bool) -> String {
         Some(read) => {
             let flags = [complex, read.complex].map(u8::from);
             format!(
-                "back {} 0 0 {}{}\n",
+                "back {} 0 0 {} {}{}\n",
                 flags[0],
                 flags[1],
+                read.pairs,
                 hex(&read.entries, ENTRY)
             )
         }

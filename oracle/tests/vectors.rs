@@ -4,7 +4,7 @@ use std::{fs, path::Path};
 
 use oracle::{
     features::Features,
-    functions, generate, power_sums,
+    functions, generate, multiplied, power_sums,
     runner::{self, Met},
     stored::{Decider, Input, RUN_AT, VALUE_AT},
 };
@@ -180,7 +180,10 @@ fn inputs_stand_once() {
 #[test]
 fn lists_at_limits_are_there() {
     let files = ["lists.txt", "limits.txt"].map(stored);
-    for list in generate::at_limits() {
+    for list in generate::at_limits()
+        .into_iter()
+        .chain(multiplied::stored())
+    {
         let answers = [Decider::Rust, Decider::Paper].map(|decider| {
             let item = Input::List(list.clone()).item(decider);
             item.unwrap_or_default()
@@ -194,8 +197,30 @@ fn lists_at_limits_are_there() {
     }
 }
 
+/// Sums with and without pairs, the most of one Mul and over 90,000 in one Pow;
+/// refusals without.
+#[test]
+fn lists_with_every_count_of_pairs_are_there() {
+    let files = ["lists.txt", "limits.txt"].map(stored).concat();
+    let reads = files.lines().filter_map(|line| line.strip_prefix("read "));
+    let numbers = reads.map(|read| {
+        let mut words = read.split(' ');
+        let mut number = || words.next().and_then(|word| word.parse::<u64>().ok());
+        [(); 4].map(|()| number().expect("four numbers"))
+    });
+    let (done, refused): (Vec<_>, Vec<_>) = numbers.partition(|[number, ..]| *number == 0);
+    for pairs in [0, 1, 2, 10, 63, 4030, 4030 + 64, 4096, 98_703] {
+        assert!(done.iter().any(|read| read[3] == pairs), "{pairs}");
+    }
+    assert!(
+        refused
+            .iter()
+            .all(|[_, _, flag, pairs]| [flag, pairs] == [&0; 2])
+    );
+}
+
 #[test]
 fn small_enough_to_read_in_a_diff() {
     let size: usize = FILES.map(|name| stored(name).len()).iter().sum();
-    assert!(size < 3_400_000, "{size} bytes");
+    assert!(size < 3_450_000, "{size} bytes");
 }

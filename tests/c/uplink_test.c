@@ -1,4 +1,4 @@
-/* Calls every function of uplink.h on answers that document 01 prints, on lists of functions, on sums beside their lists, on lists whose cost is known, and on wrong input. */
+/* Calls every function of uplink.h on answers that document 01 prints, on lists of functions, on products, on sums beside their lists, on lists whose cost is known, and on wrong input. */
 #include "uplink.h"
 #include <stdio.h>
 #include <string.h>
@@ -85,6 +85,87 @@ static void cubic(void)
     expect(answer.count == 11 && same(out, again, 11), "the same list, in three steps");
     expect(uplink_integrate((uint8_t *)derived, 2 * sizeof *derived, (uint8_t *)sum, sizeof sum, &answer) == UPLINK_DONE, "integrate is done");
     expect(answer.count == 2 && sum[0].number == 1 && sum[0].re == 1 && sum[1].number == 3 && sum[1].re == 1, "x + x^3 again");
+}
+
+/* What is read of a list: its pairs, or a refusal, which has none. The words behind the answer stay as they were. */
+static void multiplies(const struct uplink_record *list, size_t count, uint64_t number, uint64_t pairs, const char *what)
+{
+    static struct uplink_entry sum[UPLINK_MOST_ENTRIES];
+    struct { struct uplink_read_answer read; uint64_t behind[4]; } answer;
+    uint8_t untouched[sizeof answer.behind];
+
+    memset(&answer, 0xa5, sizeof answer);
+    memset(untouched, 0xa5, sizeof untouched);
+    expect(uplink_read((const uint8_t *)list, count * sizeof *list, (uint8_t *)sum, sizeof sum, &answer.read) == number, what);
+    expect(answer.read.pairs == pairs, what);
+    expect(number == UPLINK_DONE || (answer.read.count == 0 && answer.read.complex == 0), "a refusal with counts");
+    expect(memcmp(answer.behind, untouched, sizeof untouched) == 0, "nothing is written behind the answer");
+}
+
+#define MULTIPLIES(list, pairs, what) multiplies(list, sizeof list / sizeof *list, UPLINK_DONE, pairs, what)
+#define REFUSES(list, number, what) multiplies(list, sizeof list / sizeof *list, number, 0, what)
+
+/* Products count; other records don't, whatever they multiply. */
+static void pairs(void)
+{
+    struct uplink_record squared[] = {primitive(UPLINK_DUP), primitive(UPLINK_MUL)};
+    struct uplink_record cubed[] = {push(3), primitive(UPLINK_POW)};
+    struct uplink_record binomial[] = {push(1), primitive(UPLINK_ADD), push(3), primitive(UPLINK_POW)};
+    struct uplink_record longest[] = {push(1), primitive(UPLINK_ADD), push(63), primitive(UPLINK_POW)};
+    struct uplink_record power_of_two[] = {primitive(UPLINK_POP), push(5), primitive(UPLINK_EXP2)};
+    struct uplink_record both[] = {modifier(UPLINK_BOTH, 3), body(2), push(2), primitive(UPLINK_MUL)};
+    struct uplink_record complex[] = {push(1), primitive(UPLINK_ADD), push(0), primitive(UPLINK_COMPLEX_OF)};
+
+    MULTIPLIES(squared, 1, "x by x is 1 pair");
+    MULTIPLIES(cubed, 2, "x^3 takes 2 pairs");
+    MULTIPLIES(binomial, 10, "(x + 1)^3 takes 10 pairs");
+    MULTIPLIES(longest, 4030, "(x + 1)^63 takes 4,030 pairs");
+    MULTIPLIES(power_of_two, 0, "Exp2 counts none");
+    MULTIPLIES(both, 2, "a body that runs twice counts twice");
+    MULTIPLIES(complex, 0, "Complex counts none");
+}
+
+/* 64 powers of x that are next to each other in binary64, squared: the terms of the product fall together. */
+static void falling_together(void)
+{
+    struct uplink_record list[4 * UPLINK_MOST_ENTRIES + 3];
+    size_t count = 0, at;
+
+    list[count++] = primitive(UPLINK_DUP);
+    for (at = 0; at < UPLINK_MOST_ENTRIES; at++) {
+        if (at > 0) list[count++] = primitive(UPLINK_OVER);
+        list[count++] = push(-1152921504606846976.0 - 256.0 * (double)at);
+        list[count++] = primitive(UPLINK_POW);
+        if (at > 0) list[count++] = primitive(UPLINK_ADD);
+    }
+    list[count++] = primitive(UPLINK_FLIP);
+    list[count++] = primitive(UPLINK_POP);
+    multiplies(list, count, UPLINK_DONE, 0, "powers below zero multiply nothing");
+    list[count++] = primitive(UPLINK_DUP);
+    list[count++] = primitive(UPLINK_MUL);
+    multiplies(list, count, UPLINK_DONE, 4096, "64 terms by 64 are 4,096 pairs");
+}
+
+/* Before a product, in one and after it, at the end of the list, and for want of room. */
+static void refused_pairs(void)
+{
+    struct uplink_record before[] = {primitive(UPLINK_POP), primitive(UPLINK_POP), push(3), primitive(UPLINK_POW)};
+    struct uplink_record within[] = {push(1), primitive(UPLINK_ADD), push(64), primitive(UPLINK_POW)};
+    struct uplink_record after[] = {primitive(UPLINK_DUP), primitive(UPLINK_MUL), primitive(UPLINK_MAX)};
+    struct uplink_record none[] = {push(3), primitive(UPLINK_POW), primitive(UPLINK_POP)};
+    struct uplink_record two[] = {push(3), primitive(UPLINK_POW), primitive(UPLINK_DUP)};
+    struct uplink_read_answer answer = {7, 7, 7, 7};
+    uint8_t nothing[1];
+
+    REFUSES(before, UPLINK_TOO_MANY_VARIABLES, "refused before a product");
+    REFUSES(within, UPLINK_NO_ROOM, "refused in the last product of a power");
+    REFUSES(after, UPLINK_NOT_SUPPORTED, "refused after a product");
+    REFUSES(none, UPLINK_NO_OUTPUT, "nothing is left after products");
+    REFUSES(two, UPLINK_TOO_MANY_OUTPUTS, "two are left after products");
+    multiplies(two, 0, UPLINK_DONE, 0, "the empty list multiplies nothing");
+    expect(uplink_read((uint8_t *)two, 2 * sizeof *two, nothing, 0, &answer) == UPLINK_OUTPUT_ROOM, "too little room for x^3");
+    expect(answer.place == 0 && answer.count == 0 && answer.complex == 0 && answer.pairs == 0, "has no pairs");
+    expect(uplink_read((uint8_t *)two, 2 * sizeof *two - 1, nothing, 0, &answer) == UPLINK_BAD_RECORD && answer.pairs == 0, "nor has half a record");
 }
 
 /* What a call wrote: these records, in exact room and in ample room; a byte less and a record less are refused. */
@@ -483,7 +564,11 @@ int main(void)
 {
     expect(sizeof(struct uplink_record) == UPLINK_RECORD_BYTES, "a record's size");
     expect(sizeof(struct uplink_entry) == UPLINK_ENTRY_BYTES, "an entry's size");
+    expect(sizeof(struct uplink_read_answer) == 4 * sizeof(uint64_t), "an answer of read has four numbers");
     cubic();
+    pairs();
+    falling_together();
+    refused_pairs();
     faithful();
     both_writers();
     others();

@@ -308,30 +308,30 @@ static void fail(enum function function, struct bytes input, size_t room, const 
     exit(1);
 }
 
-/* What a call gives: the number, and three that go with it (flag, or steps and peak, last). */
+/* What a call gives: the number, and up to four that go with it (flag and pairs, or steps and peak, last). */
 struct given {
-    uint64_t number, place, second, third;
+    uint64_t number, place, second, third, fourth;
     struct bytes out;
     double value;
 };
 
 static int is_same(const struct given *a, const struct given *b) {
     return a->number == b->number && a->place == b->place && a->second == b->second && a->third == b->third &&
-           memcmp(&a->value, &b->value, sizeof a->value) == 0;
+           a->fourth == b->fourth && memcmp(&a->value, &b->value, sizeof a->value) == 0;
 }
 
 /* One call, with everything that is lent in memory of its own. */
 static struct given call(enum function function, struct bytes input, uint8_t complex, double x, size_t room) {
-    struct given given = {0, 0, 0, 0, {exact(room), room}, 0};
+    struct given given = {0, 0, 0, 0, 0, {exact(room), room}, 0};
     struct uplink_answer *two = (void *)exact(sizeof *two);
-    struct uplink_read_answer *three = (void *)exact(sizeof *three);
+    struct uplink_read_answer *read = (void *)exact(sizeof *read);
     struct uplink_run_answer *ran = (void *)exact(sizeof *ran);
     struct uplink_cost_answer *cost = (void *)exact(sizeof *cost);
     double *value = (void *)exact(sizeof *value);
     uint8_t *out = given.out.at;
     if (room > 0) memset(out, FILL, room);
     switch (function) {
-    case READ: given.number = uplink_read(input.at, input.length, out, room, three); break;
+    case READ: given.number = uplink_read(input.at, input.length, out, room, read); break;
     case DERIVATIVE: given.number = uplink_derivative(input.at, input.length, out, room, two); break;
     case INTEGRAL: given.number = uplink_integral(input.at, input.length, out, room, two); break;
     case INVERSE: given.number = uplink_inverse(input.at, input.length, out, room, two); break;
@@ -346,7 +346,7 @@ static struct given call(enum function function, struct bytes input, uint8_t com
     default: given.number = uplink_run(input.at, input.length, x, value, ran);
     }
     if (function == READ || strcmp(wrong, "forgotten") == 0)
-        given.place = three->place, given.second = three->count, given.third = three->complex;
+        given.place = read->place, given.second = read->count, given.third = read->complex, given.fourth = read->pairs;
     else if (function == RUN)
         given.place = ran->place, given.second = ran->steps, given.third = ran->peak, given.value = *value;
     else if (function == COST)
@@ -356,7 +356,7 @@ static struct given call(enum function function, struct bytes input, uint8_t com
     if (function == VALUE) given.value = *value;
     if (strcmp(wrong, "overrun") == 0) given.out.at[room] = FILL;
     if (strcmp(wrong, "changed") == 0 && given.number != 0 && room > 0) out[room - 1] = 0;
-    free(two), free(three), free(ran), free(cost), free(value);
+    free(two), free(read), free(ran), free(cost), free(value);
     return given;
 }
 
@@ -372,7 +372,7 @@ static void check(enum function function, struct bytes input, struct given given
     if (given.number >= NUMBERS) fail(function, input, room, "no such number");
     if (given.number != 0) {
         static const double zero = 0;
-        if (given.second != 0 || given.third != 0) fail(function, input, room, "a refusal with counts");
+        if (given.second != 0 || given.third != 0 || given.fourth != 0) fail(function, input, room, "a refusal with counts");
         if (memcmp(&given.value, &zero, sizeof zero) != 0) fail(function, input, room, "a refusal with a value");
         if (!all_filled(given.out, 0)) fail(function, input, room, "a refusal changed a byte");
         if (given.place != 0 && given.place >= input.length / UPLINK_RECORD_BYTES)

@@ -33,6 +33,13 @@ pub struct ReadSum<'a> {
     pub sum: &'a [u8],
     /// Whether a complex step was met on the way.
     pub is_complex: bool,
+    /// How many pairs of terms were multiplied. A pair is an outermost term of one factor with an outermost term of the other, whatever their
+    /// coefficients are and whether or not the term that comes of them is there already.
+    ///
+    /// Mul of sums of a and b terms multiplies a · b pairs; Pow by a whole n multiplies those of its n - 1 products, each of the product so far with
+    /// the base. A record counts each time it is run. Not counted are pairs of what lies inside two Div terms, and what records other than Mul and Pow
+    /// multiply. [`u64::MAX`] stands for itself and for everything above it.
+    pub pairs: u64,
 }
 
 /// The value of a list at x.
@@ -75,14 +82,17 @@ fn written(
 ///
 /// Both inside Both, many times over, doubles the steps at each level, and no limit is set on them; [`cost`] tells them beforehand.
 ///
+/// How much multiplying it took is told with the sum, as [`ReadSum::pairs`]: at most 4,096 pairs for one Mul and 258,048 for one Pow.
+///
 /// # Errors
-/// Any refusal but NotHandled.
+/// Any refusal but NotHandled. A refusal has no pairs, those before it neither.
 pub fn read<'a>(list: &[u8], sum: &'a mut [u8]) -> Result<ReadSum<'a>, Refused> {
-    let (number, [place, count, flag]) = ffi::read(list, sum);
+    let (number, [place, count, flag, pairs]) = ffi::read(list, sum);
     checked(number, place)?;
     Ok(ReadSum {
         sum: &sum[..size(count) * ENTRY_BYTES],
         is_complex: flag != 0,
+        pairs,
     })
 }
 

@@ -98,9 +98,9 @@ mod raw {
 /// Place and count.
 pub type Answer = [u64; 2];
 
-/// Place, count and complex flag.
-pub fn read(list: &[u8], sum: &mut [u8]) -> (u64, [u64; 3]) {
-    let mut answer = [0; 3];
+/// Place, count, complex flag and pairs.
+pub fn read(list: &[u8], sum: &mut [u8]) -> (u64, [u64; 4]) {
+    let mut answer = [0; 4];
     // SAFETY: pointers and lengths are those of slices that outlive the call, and what is written to is lent to it alone.
     let number = unsafe {
         raw::uplink_read(

@@ -11,6 +11,9 @@ pub struct Sum {
     pub entries: Vec<Entry>,
     /// Whether a complex step was met on the way.
     pub is_complex: bool,
+    /// How many pairs of outermost terms the records of Mul and Pow multiplied. What a pair is, and what isn't counted, is told at
+    /// [`ReadSum::pairs`](bytes::ReadSum::pairs).
+    pub pairs: u64,
 }
 
 fn records(written: &[u8]) -> Vec<Record> {
@@ -30,6 +33,18 @@ fn entries(written: &[u8]) -> Vec<Entry> {
 /// let sum = read(&list)?;
 /// assert_eq!(sum.entries, [Entry::power(1.0, 1.0), Entry::power(3.0, 1.0)]);
 /// assert!(!sum.is_complex);
+/// assert_eq!(sum.pairs, 2); // x by x, and that by x
+/// # Ok::<(), uplink::Refused>(())
+/// ```
+///
+/// The pairs tell which formula is dear to read: a sum of n terms times itself takes n · n of them.
+///
+/// ```
+/// use uplink::{read, Primitive::*, Record, Record::RealPush};
+/// let cube: Vec<Record> = vec![RealPush(1.0), Add.into(), RealPush(3.0), Pow.into()];
+/// assert_eq!(read(&cube)?.pairs, 2 * 2 + 3 * 2); // (x + 1)^3
+/// let square = [cube, vec![Dup.into(), Mul.into()]].concat();
+/// assert_eq!(read(&square)?.pairs, 10 + 4 * 4);
 /// # Ok::<(), uplink::Refused>(())
 /// ```
 ///
@@ -41,6 +56,7 @@ pub fn read(list: &[Record]) -> Result<Sum, Refused> {
     Ok(Sum {
         entries: entries(read.sum),
         is_complex: read.is_complex,
+        pairs: read.pairs,
     })
 }
 

@@ -1,4 +1,4 @@
-//! Every stored answer (vectors/) holds of this crate's functions: number, place, flag and every byte.
+//! Every stored answer (vectors/) holds of this crate's functions: number, place, flag, pairs and every byte.
 
 mod common;
 
@@ -51,18 +51,18 @@ fn back_answers(line: &Line<'_>, sum: &[u8]) -> [Result<Vec<u8>, Refused>; 2] {
     let wrote = bytes::write(sum, line.number(0) == 1, &mut list).expect("a list");
     let read = bytes::read(wrote, &mut room).expect("a sum");
     assert_eq!(u64::from(read.is_complex), line.number(3));
-    [Ok(read.sum.to_vec()), line.answer(1, 1, ENTRY_BYTES)]
+    assert_eq!(read.pairs, line.number(4));
+    [Ok(read.sum.to_vec()), line.answer(1, 2, ENTRY_BYTES)]
 }
 
 fn read_answers(line: &Line<'_>, given: &[u8]) -> [Result<Vec<u8>, Refused>; 2] {
     let mut room = [0; SUM_BYTES];
     let answer = bytes::read(given, &mut room);
-    if let Ok(read) = answer {
-        assert_eq!(u64::from(read.is_complex), line.number(2));
-    }
+    let [flag, pairs] = answer.map_or([0, 0], |read| [u64::from(read.is_complex), read.pairs]);
+    assert_eq!([flag, pairs], [line.number(2), line.number(3)]);
     [
         answer.map(|read| read.sum.to_vec()),
-        line.answer(0, 1, ENTRY_BYTES),
+        line.answer(0, 2, ENTRY_BYTES),
     ]
 }
 
@@ -86,7 +86,7 @@ fn replayed(name: &str) -> usize {
 
 #[test]
 fn stored_answers_of_lists_hold() {
-    assert_eq!(replayed("lists.txt"), 4311 + 4238 + 4309 + 4258);
+    assert_eq!(replayed("lists.txt"), 4389 + 4316 + 4387 + 4336);
 }
 
 #[test]
@@ -98,7 +98,7 @@ fn stored_answers_of_sums_hold() {
 fn stored_answers_at_the_limits_hold() {
     assert_eq!(
         replayed("limits.txt"),
-        442 + 515 + 444 + 495 + 193 + 93 + 870
+        450 + 523 + 452 + 503 + 193 + 93 + 870
     );
 }
 

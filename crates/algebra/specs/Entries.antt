@@ -15,7 +15,7 @@ use Rattle.algebra.specs.Reading.{readList}
 
 -- what was read goes on with its complex flag
 abbrev pub afterRead : Read → (Bool → Sum → Made) → Made
-afterRead (done s c h) f = f c s
+afterRead (done s c h k) f = f c s
 afterRead (reading.refusedAt q at h) f = refusedAt q at
 
 unfoldable pub derivative : List ℕ → Made
@@ -36,8 +36,8 @@ abbrev pub unhandled : Refusal → ℕ → Made
 unhandled q at = cond (leb (refusalNo q) lastReplaced) (refusedAt NotHandled 0) (refusedAt q at)
 
 abbrev pub inverseOf : Read → Made
-inverseOf (done s c true) = invert c s
-inverseOf (done s c false) = refusedAt NotHandled 0
+inverseOf (done s c true k) = invert c s
+inverseOf (done s c false k) = refusedAt NotHandled 0
 inverseOf (reading.refusedAt q at true) = refusedAt q at
 inverseOf (reading.refusedAt q at false) = unhandled q at
 

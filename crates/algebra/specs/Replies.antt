@@ -33,32 +33,33 @@ pub data Entry : Type 0 where
   write writeFaithful : Bool → Entry
   run value : Float → Entry
 
--- number, place and counts; the flag is read's, the value is run's and value's, the peak is run's, steps are run's and cost's
+-- number, place and counts; the flag and the pairs are read's, the value is run's and value's, the peak is run's, steps are run's and cost's
 pub record Reply : Type 0 where
   pub number : ℕ
   pub place : ℕ
   pub count : ℕ
   pub flag : Bool
+  pub pairs : ℕ
   pub value : Float
   pub steps : ℕ
   pub peak : ℕ
 
 -- a refusal has zero counts
 abbrev pub refusing : Refusal → ℕ → Reply
-refusing q at = record { number = refusalNo q; place = at; count = 0; flag = false; value = zero64; steps = 0; peak = 0 }
+refusing q at = record { number = refusalNo q; place = at; count = 0; flag = false; pairs = 0; value = zero64; steps = 0; peak = 0 }
 
 -- the numbers of what is written, those of a run, of a cost and of a value: each has zeros for the others'
 abbrev pub ofNumbers : Numbers → Reply
-ofNumbers n = record { number = n .number; place = n .place; count = n .count; flag = n .flag; value = zero64; steps = 0; peak = 0 }
+ofNumbers n = record { number = n .number; place = n .place; count = n .count; flag = n .flag; pairs = n .pairs; value = zero64; steps = 0; peak = 0 }
 
 abbrev pub ofRunNumbers : RunNumbers → Reply
-ofRunNumbers n = record { number = n .number; place = n .place; count = 0; flag = false; value = n .value; steps = n .steps; peak = n .peak }
+ofRunNumbers n = record { number = n .number; place = n .place; count = 0; flag = false; pairs = 0; value = n .value; steps = n .steps; peak = n .peak }
 
 abbrev pub ofCostNumbers : CostNumbers → Reply
-ofCostNumbers n = record { number = n .number; place = n .place; count = 0; flag = false; value = zero64; steps = n .steps; peak = 0 }
+ofCostNumbers n = record { number = n .number; place = n .place; count = 0; flag = false; pairs = 0; value = zero64; steps = n .steps; peak = 0 }
 
 abbrev pub ofValueNumbers : ValueNumbers → Reply
-ofValueNumbers n = record { number = n .number; place = n .place; count = n .count; flag = false; value = n .value; steps = 0; peak = 0 }
+ofValueNumbers n = record { number = n .number; place = n .place; count = n .count; flag = false; pairs = 0; value = n .value; steps = 0; peak = 0 }
 
 abbrev pub ofRead : ReadAnswer → Reply
 ofRead a = ofNumbers (readNumbers a)

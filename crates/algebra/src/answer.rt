@@ -27,12 +27,13 @@ pub enum Writer {
     Faithful,
 }
 
-// Document 01's number, place, count and complex flag.
+// Document 01's number, place, count and complex flag, and the pairs that reading multiplied.
 pub struct Numbers {
     pub number: u64,
     pub place: usize,
     pub count: usize,
     pub flag: bool,
+    pub pairs: u64,
 }
 
 // The numbers of an answer.
@@ -45,12 +46,14 @@ pub fn answer_numbers(r: Answer) -> Numbers
             place: 0,
             count: written,
             flag: false,
+            pairs: 0,
         },
         Answer::Refused(q, at) => Numbers {
             number: limits::refusal_no(q),
             place: at,
             count: 0,
             flag: false,
+            pairs: 0,
         },
     }
 }

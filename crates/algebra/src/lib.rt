@@ -24,9 +24,9 @@ ghost use mathlib.Core.List.{[]};
 ghost use mathlib.Core.Path.{_≡_};
 ghost use Rattle.algebra.specs.Replies as entry;
 
-// What `read` answers: a sum of so many entries, with the complex flag, or a refusal with its place.
+// What `read` answers: a sum of so many entries, with the complex flag and the pairs multiplied, or a refusal with its place.
 pub enum ReadAnswer {
-    Sum(usize, bool),
+    Sum(usize, bool, u64),
     Refused(Refusal, usize),
 }
 
@@ -35,17 +35,19 @@ pub fn read_numbers(r: ReadAnswer) -> Numbers
     ensures { λ n. ⌜ n ≡ readNumbers r ⌝ }
 {
     match r {
-        ReadAnswer::Sum(n, complex) => Numbers {
+        ReadAnswer::Sum(n, complex, pairs) => Numbers {
             number: 0,
             place: 0,
             count: n,
             flag: complex,
+            pairs,
         },
         ReadAnswer::Refused(q, at) => Numbers {
             number: limits::refusal_no(q),
             place: at,
             count: 0,
             flag: false,
+            pairs: 0,
         },
     }
 }

@@ -10,7 +10,7 @@ use reading::env::AlgebraData;
 use stack::slots::ARENA;
 use stack::slots::SMALL_ARENA;
 use stack::slots::WORKING;
-ghost use Prim.Native.Nat.{_+_, _-_, _≤_};
+ghost use Prim.Native.Nat.{ℕ, _+_, _-_, _≤_};
 ghost use Rattle.algebra.specs.Answer.Making.{answered, Gives};
 ghost use Rattle.algebra.specs.Contract.Lists.{listHeld, madeBy, roomBy, Makes, unflagged, isFullAnswer, Tries};
 ghost use Rattle.algebra.specs.Entries.{inverseOf};
@@ -89,7 +89,7 @@ fn invert_read(
     out: &mut [u8],
 ) -> Answer
     requires { ⌜ (n ≤ sumEntries) × Held (lent kinds insides numbers) working (working + n) sumLevels ⌝ }
-    ensures { λ r. ⌜ OfOne (entering kinds insides numbers) working (working + n) sumLevels (λ s. Gives recordsIn (inverseOf (done s complex handled)) (now (out .entry)) (now (out .exit)) r) ⌝ }
+    ensures { λ r. ⌜ OfOne (entering kinds insides numbers) working (working + n) sumLevels (λ s. (pairs : ℕ) → Gives recordsIn (inverseOf (done s complex handled pairs)) (now (out .entry)) (now (out .exit)) r) ⌝ }
 {
     if !handled {
         return Answer::Refused(Refusal::NotHandled, 0);
@@ -109,7 +109,7 @@ fn make(
     out: &mut [u8],
 ) -> Answer
     requires { ⌜ Source (lent kinds insides numbers) working n 0 × Room (lent kinds insides numbers) (0 + (sumEntries + sumEntries)) ⌝ }
-    ensures { λ r. ⌜ OfOne (entering kinds insides numbers) working (working + n) sumLevels (λ s. Gives (roomBy w) (madeBy w (done s complex handled)) (now (out .entry)) (now (out .exit)) r) ⌝ }
+    ensures { λ r. ⌜ OfOne (entering kinds insides numbers) working (working + n) sumLevels (λ s. (pairs : ℕ) → Gives (roomBy w) (madeBy w (done s complex handled pairs)) (now (out .entry)) (now (out .exit)) r) ⌝ }
 {
     match w {
         Wanted::Sum => crate::answer::put_out(kinds, insides, numbers, WORKING, n, out),
@@ -139,22 +139,22 @@ fn make(
     }
 }
 
-// An answer with the complex flag, which a refusal does not have.
-fn flagged(complex: bool, a: Answer) -> ReadAnswer
-    ensures { λ r. ⌜ r ≡ flagged complex a ⌝ }
+// An answer with the complex flag and the pairs, which a refusal does not have.
+fn flagged(complex: bool, pairs: u64, a: Answer) -> ReadAnswer
+    ensures { λ r. ⌜ r ≡ flagged complex pairs a ⌝ }
 {
     match a {
-        Answer::Done(n) => ReadAnswer::Sum(n, complex),
+        Answer::Done(n) => ReadAnswer::Sum(n, complex, pairs),
         Answer::Refused(q, at) => ReadAnswer::Refused(q, at),
     }
 }
 
-// The answer without it.
+// The answer without them.
 fn unflagged(a: ReadAnswer) -> Answer
     ensures { λ r. ⌜ r ≡ unflagged a ⌝ }
 {
     match a {
-        ReadAnswer::Sum(n, _) => Answer::Done(n),
+        ReadAnswer::Sum(n, _, _) => Answer::Done(n),
         ReadAnswer::Refused(q, at) => Answer::Refused(q, at),
     }
 }
@@ -172,10 +172,10 @@ fn make_of(
     ensures { λ r. ⌜ ((x : Read) → DataAs got (entering kinds insides numbers) x → Makes w x (now (out .entry)) (now (out .exit)) r) ⌝ }
 {
     match got {
-        AlgebraData::Refused(q, at, handled) => flagged(false, refuse(w, q, at, handled)),
-        AlgebraData::Sum(n, complex, handled) => {
+        AlgebraData::Refused(q, at, handled) => flagged(false, 0, refuse(w, q, at, handled)),
+        AlgebraData::Sum(n, complex, handled, pairs) => {
             let answer = make(w, kinds, insides, numbers, n, complex, handled, out);
-            flagged(complex, answer)
+            flagged(complex, pairs, answer)
         }
     }
 }
@@ -225,7 +225,7 @@ fn no_room(a: ReadAnswer) -> bool
     ensures { λ b. ⌜ b ≡ isFullAnswer a ⌝ }
 {
     match a {
-        ReadAnswer::Sum(_, _) => false,
+        ReadAnswer::Sum(_, _, _) => false,
         ReadAnswer::Refused(q, _) => limits::refusal_no(q) == limits::refusal_no(Refusal::NoRoom),
     }
 }
@@ -241,7 +241,7 @@ pub fn make_flagged(w: Wanted, list: &[u8], out: &mut [u8]) -> ReadAnswer
     tried
 }
 
-// The same without the flag.
+// The same without the flag and the pairs.
 pub fn make_list(w: Wanted, list: &[u8], out: &mut [u8]) -> Answer
     ensures { λ r. ⌜ Gives (roomBy w) (madeBy w (readList (now (list .entry)))) (now (out .entry)) (now (out .exit)) r ⌝ }
 {

@@ -110,5 +110,5 @@ good-keeping =
     }
 
 -- what is read is good
-pub read-good : (ns : tree.Nodes) {s : Sum} {c b : Bool} → readNodes ns ≡ done s c b → GoodSum s
+pub read-good : (ns : tree.Nodes) {s : Sum} {c b : Bool} {k : ℕ} → readNodes ns ≡ done s c b k → GoodSum s
 read-good ns e = read-keeps (λ c s. GoodSum s) good-keeping ns x-good e

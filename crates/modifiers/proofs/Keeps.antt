@@ -26,9 +26,9 @@ use Rattle.formats.specs.Names.{kindOf, modifierOf, primitiveOf}
 use Rattle.formats.specs.Table.{row}
 use Rattle.formats.specs.Tree as tree
 use Rattle.stack.specs.Stack.{total}
-use Rattle.primitives.specs.Forms.{ofOne, ofTwo}
+use Rattle.primitives.specs.Forms.{ofOne, ofTwo, pairsOf}
 use Rattle.stack.specs.State.{State, withStack, Walked, went, stopped, andThen, takingIf, taking, lend, push}
-use Rattle.stack.specs.Steps.{constantOf, leavesOfOne, leavesOfTwo, leaves, isComplexPrimitive, primitive, leafStep}
+use Rattle.stack.specs.Steps.{constantOf, paired, leavesOfOne, leavesOfTwo, leaves, isComplexPrimitive, primitive, leafStep}
 use Rattle.modifiers.specs.Holding.{deepest, backTo, holding, dropping, copying}
 use Rattle.modifiers.specs.declared.Inside.{Inside}
 use Rattle.modifiers.specs.declared.Inside.the-variants.{Nothing, Nodes, Bodies}
@@ -123,7 +123,7 @@ module _ (P : Bool → Sum → Type 0) where
 
   -- ---- sums taken off and put on
 
-  taking-any : (Q : Walked → Type 0) → ((q : Refusal) (i : ℕ) (b : Bool) → Q (stopped q i b)) → (d : Bool) (at n : ℕ) (st : State) (f : List Sum → State → Walked) → Each P d (st .stack)
+  pub taking-any : (Q : Walked → Type 0) → ((q : Refusal) (i : ℕ) (b : Bool) → Q (stopped q i b)) → (d : Bool) (at n : ℕ) (st : State) (f : List Sum → State → Walked) → Each P d (st .stack)
       → ((ss ts : List Sum) → Each P d ss → Each P d ts → Q (f ss (withStack ts st))) → Q (taking at n st f)
   unfolding taking
   taking-any Q z d at n st f e k = go (leb n (length (st .stack)))
@@ -149,7 +149,8 @@ module _ (P : Bool → Sum → Type 0) where
   left-after c (stopped q at b) a = tt
 
   -- the flag is set where b says so
-  flag-after : (c b : Bool) (n : State → ℕ) (w : Walked) → Left P c (c || b) w → After P c (andThen w (λ st. went (record { stack = st .stack; handled = n st; complex = st .complex || b })))
+  flag-after : (c b : Bool) (n : State → ℕ) (w : Walked) → Left P c (c || b) w
+      → After P c (andThen w (λ st. went (record { stack = st .stack; handled = n st; complex = st .complex || b; pairs = st .pairs })))
   flag-after c b n (went st) a = rw (a .0) (or-rises c b, a .1)
   flag-after c b n (stopped q at x) a = tt
 
@@ -193,7 +194,7 @@ module _ (P : Bool → Sum → Type 0) (keeps : Keeping P) where
 
     two-left : (n : ℕ) (a b : Sum) → P c a → P c b → Left P (st .complex) d (leavesOfTwo at h p n a b st)
     two-left zero a b x y = (refl, stack-up)
-    two-left (suc zero) a b x y = push-left P d at h (ofTwo p b a) st (λ s e. keeps .two c p a b s x y e) stack-up
+    two-left (suc zero) a b x y = push-left P d at h (ofTwo p b a) (paired (pairsOf p b a) st) (λ s e. keeps .two c p a b s x y e) stack-up
     two-left (suc (suc zero)) a b x y = lend-left P d at h (b ∷ a ∷ []) st (up b y, (up a x, tt)) stack-up
     two-left (suc (suc (suc n))) a b x y = lend-left P d at h (b ∷ a ∷ b ∷ []) st (up b y, (up a x, (up b y, tt))) stack-up
 
@@ -332,19 +333,19 @@ module _ (P : Bool → Sum → Type 0) (keeps : Keeping P) where
   pub run-keeps : (ns : tree.Nodes) (at h : ℕ) (st st′ : State) → Kept P st → runAll (runners at ns) h st ≡ went st′ → Kept P st′
   run-keeps ns at h st st′ k e = subst (After P (st .complex)) e (run-all P (runners at ns) (runners-keep at ns) h st k) .1
 
-  last-keeps : (st : State) (ss : List Sum) (s : Sum) (c b : Bool) → Each P (st .complex) ss → lastOf st ss ≡ done s c b → P c s
-  last-keeps st [] s c b k e = absurd (let z : _≡_ {A = ℕ} 0 1 = cc in omega arith)
-  last-keeps st (t ∷ []) s c b k e = let x : st .complex ≡ c = cc in let y : t ≡ s = cc in rw (← x, ← y) (k .0)
-  last-keeps st (t ∷ u ∷ ss) s c b k e = absurd (let z : _≡_ {A = ℕ} 0 1 = cc in omega arith)
+  last-keeps : (st : State) (ss : List Sum) (s : Sum) (c b : Bool) (n : ℕ) → Each P (st .complex) ss → lastOf st ss ≡ done s c b n → P c s
+  last-keeps st [] s c b n k e = absurd (let z : _≡_ {A = ℕ} 0 1 = cc in omega arith)
+  last-keeps st (t ∷ []) s c b n k e = let x : st .complex ≡ c = cc in let y : t ≡ s = cc in rw (← x, ← y) (k .0)
+  last-keeps st (t ∷ u ∷ ss) s c b n k e = absurd (let z : _≡_ {A = ℕ} 0 1 = cc in omega arith)
 
-  ended-keeps : (w : Walked) (s : Sum) (c b : Bool) → After P false w → ended w ≡ done s c b → P c s
-  ended-keeps (went st) s c b a e = last-keeps st (st .stack) s c b (a .1) e
-  ended-keeps (stopped q at x) s c b a e = absurd (let z : _≡_ {A = ℕ} 0 1 = cc in omega arith)
+  ended-keeps : (w : Walked) (s : Sum) (c b : Bool) (n : ℕ) → After P false w → ended w ≡ done s c b n → P c s
+  ended-keeps (went st) s c b n a e = last-keeps st (st .stack) s c b n (a .1) e
+  ended-keeps (stopped q at x) s c b n a e = absurd (let z : _≡_ {A = ℕ} 0 1 = cc in omega arith)
 
   -- and so does reading, where it holds of x
-  pub read-keeps : (ns : tree.Nodes) {s : Sum} {c b : Bool} → P false (single kinds.X one64 none complex.one) → readNodes ns ≡ done s c b → P c s
+  pub read-keeps : (ns : tree.Nodes) {s : Sum} {c b : Bool} {n : ℕ} → P false (single kinds.X one64 none complex.one) → readNodes ns ≡ done s c b n → P c s
   unfolding readNodes
-  read-keeps ns {s} {c} {b} x e = ended-keeps (runAll (runners 0 ns) 0 start) s c b (run-all P (runners 0 ns) (runners-keep 0 ns) 0 start (x, tt)) e
+  read-keeps ns {s} {c} {b} {n} x e = ended-keeps (runAll (runners 0 ns) 0 start) s c b n (run-all P (runners 0 ns) (runners-keep 0 ns) 0 start (x, tt)) e
 
 -- ---- the flag
 

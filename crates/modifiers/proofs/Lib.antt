@@ -4,4 +4,5 @@ pub mod Runs
 pub mod Plans
 pub mod Keeps
 pub mod Good
+pub mod Pairs
 pub mod Room

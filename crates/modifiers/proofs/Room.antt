@@ -21,10 +21,10 @@ use Rattle.formats.specs.declared.record.Kind.the-variants as kind
 use Rattle.formats.specs.Names.{kindOf, modifierOf, primitiveOf}
 use Rattle.formats.specs.Table.{row}
 use Rattle.formats.specs.Tree as tree
-use Rattle.primitives.specs.Forms.{ofOne, ofTwo}
+use Rattle.primitives.specs.Forms.{ofOne, ofTwo, pairsOf}
 use Rattle.stack.specs.Stack.{total}
 use Rattle.stack.specs.State.{State, Walked, went, stopped, andThen, withStack, takingIf, taking, lend, push}
-use Rattle.stack.specs.Steps.{constantOf, flagged, leavesOfOne, leavesOfTwo, leaves, primitive, leafStep}
+use Rattle.stack.specs.Steps.{constantOf, flagged, paired, leavesOfOne, leavesOfTwo, leaves, primitive, leafStep}
 use Rattle.modifiers.specs.Holding.{deepest, backTo, holding, dropping, copying}
 use Rattle.modifiers.specs.declared.Inside.{Inside}
 use Rattle.modifiers.specs.declared.Inside.the-variants.{Nothing, Nodes, Bodies}
@@ -108,7 +108,7 @@ module _ (at : ℕ) where
 
     two-leaves : (p : Primitive) (n : ℕ) (a b : Sum) (st : State) → Stays (leavesOfTwo at h p n a b st) (leavesOfTwo at h′ p n a b st)
     two-leaves p zero a b st = self _
-    two-leaves p (suc zero) a b st = push-stays (ofTwo p b a) st
+    two-leaves p (suc zero) a b st = push-stays (ofTwo p b a) (paired (pairsOf p b a) st)
     two-leaves p (suc (suc zero)) a b st = lend-stays (b ∷ a ∷ []) st
     two-leaves p (suc (suc (suc n))) a b st = lend-stays (b ∷ a ∷ b ∷ []) st
 

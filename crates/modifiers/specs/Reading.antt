@@ -54,17 +54,17 @@ runners at (tree.rec r ns ms) = record { args = r .args; run = stepOf at r (runn
 
 -- the stack starts with x
 abbrev pub start : State
-start = record { stack = single kinds.X one64 none complex.one ∷ []; handled = 0; complex = false }
+start = record { stack = single kinds.X one64 none complex.one ∷ []; handled = 0; complex = false; pairs = 0 }
 
--- a sum with the complex flag, or a refusal with its place; and whether what was read counts as handled
+-- a sum with the complex flag, whether what was read counts as handled and the pairs multiplied; or a refusal with its place, and whether it counts as handled
 pub data Read : Type 0 where
-  done : Sum → Bool → Bool → Read
+  done : Sum → Bool → Bool → ℕ → Read
   refusedAt : Refusal → ℕ → Bool → Read
 
 -- one sum must be left: else 3 or 4, at place 0
 abbrev pub lastOf : State → List Sum → Read
 lastOf st [] = refusedAt NoOutput 0 (isHandled st)
-lastOf st (s ∷ []) = done s (st .complex) (isHandled st)
+lastOf st (s ∷ []) = done s (st .complex) (isHandled st) (st .pairs)
 lastOf st (s ∷ t ∷ ss) = refusedAt TooManyOutputs 0 (isHandled st)
 
 abbrev pub ended : Walked → Read

@@ -64,6 +64,7 @@ pub fn hold(
             used: w,
             handled: env.handled,
             complex: env.complex,
+            pairs: env.pairs,
         },
         used - w,
     )
@@ -92,6 +93,7 @@ pub fn drop_top(
             used: w,
             handled: env.handled,
             complex: env.complex,
+            pairs: env.pairs,
         },
         0,
     )
@@ -123,6 +125,7 @@ fn copy_below(
             used: used + d,
             handled: env.handled,
             complex: env.complex,
+            pairs: env.pairs,
         },
         0,
     )

@@ -48,6 +48,7 @@ pub fn lend_deepest(
         used: used + n,
         handled: env.handled,
         complex: env.complex,
+        pairs: env.pairs,
     })
 }
 
@@ -97,5 +98,6 @@ pub fn put_back(
         used: used + m,
         handled: env.handled,
         complex: env.complex,
+        pairs: env.pairs,
     }
 }

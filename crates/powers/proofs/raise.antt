@@ -4,6 +4,7 @@ pub mod Roots
 pub mod Rooting
 pub mod Singles
 pub mod Turns
+pub mod Pairs
 pub mod Whole
 pub mod Reals
 pub mod Constants

@@ -13,7 +13,7 @@ ghost use mathlib.Core.Path.{_≡_};
 ghost use mathlib.Core.Bool.{true};
 ghost use Prim.Native.Nat.{_+_, _<_, _^_};
 ghost use lib.Ieee.Scale.{finite};
-ghost use Rattle.limits.specs.Limits.{sumEntries, sumLevels};
+ghost use Rattle.limits.specs.Limits.{sumEntries, sumLevels, highestPower};
 ghost use Rattle.numbers.specs.Numbers.{smallWhole};
 ghost use Rattle.numbers.specs.Complex.Arith.{real, one};
 ghost use Rattle.cells.specs.Contract.Book.{lent, entering, leaving, Room};
@@ -22,9 +22,11 @@ ghost use Rattle.sums.specs.Tree.Sums.{Sum, entry};
 ghost use Rattle.sums.specs.Tree.Kinds.{X};
 ghost use Rattle.arithmetic.specs.Singles.{single, constant, alone};
 ghost use Rattle.arithmetic.specs.Power.{rootable, unitCoefs, rootOfOne, rooted, raised, wholePower, power, pow, log};
+ghost use Rattle.arithmetic.specs.Pairs.{raisedPairs, wholePairs, powerPairs, powPairs};
 ghost use Rattle.sums.specs.Contract.Heads.{GoodHead};
 ghost use Rattle.sums.specs.Contract.Lies.{Held, OfOne, OfTwo, Agrees};
 ghost use Rattle.arithmetic.specs.Add.Contract.Operands.{Operand, Source};
+ghost use Rattle.powers.specs.Raise.Contract.Pairs.{Counted, countedAs};
 ghost use Rattle.powers.specs.Raise.Contract.Reals.{realOf, eulerIs};
 ghost use Rattle.powers.specs.Raise.Contract.Roots.{Rooting, rootEntry};
 ghost use Rattle.powers.specs.Raise.Contract.Turns.{turnPlace};
@@ -33,6 +35,18 @@ ghost use Rattle.powers.specs.Raise.Contract.Turns.{turnPlace};
 pub enum Real {
     Is(f64),
     Other,
+}
+
+// What was formed, and how many pairs of outermost terms were multiplied for it. Where it is refused the number says nothing.
+pub struct Raised {
+    pub formed: Formed,
+    pub pairs: u64,
+}
+
+fn counted(formed: Formed, pairs: u64) -> Raised
+    ensures { λ r. ⌜ r ≡ countedAs formed pairs ⌝ }
+{
+    Raised { formed, pairs }
 }
 
 // Whether the sum of n cells from i on is one term, an X or a Div of such a sum: then each cell's inside is all that follows.
@@ -174,24 +188,29 @@ fn multiply(
     i: usize,
     n: usize,
     w: usize,
-) -> Formed
-    requires { ⌜ (0 < times) × Source (lent kinds insides numbers) i n w × Room (lent kinds insides numbers) (w + (sumEntries + sumEntries)) ⌝ }
+) -> Raised
+    requires { ⌜ (0 < times) × (times < highestPower) × Source (lent kinds insides numbers) i n w × Room (lent kinds insides numbers) (w + (sumEntries + sumEntries)) ⌝ }
     ensures { λ r. ⌜ Kept (entering kinds insides numbers) (leaving kinds insides numbers) w (w + (sumEntries + sumEntries)) ⌝ }
-    ensures { λ r. ⌜ OfOne (entering kinds insides numbers) i (i + n) sumLevels (λ s. Agrees r (leaving kinds insides numbers) w (raised times s s)) ⌝ }
+    ensures { λ r. ⌜ OfOne (entering kinds insides numbers) i (i + n) sumLevels (λ s. Agrees (r .formed) (leaving kinds insides numbers) w (raised times s s)) ⌝ }
+    ensures { λ r. ⌜ OfOne (entering kinds insides numbers) i (i + n) sumLevels (λ s. Counted r (raisedPairs times s s)) ⌝ }
 {
+    let base = sums::order::count(insides, i, n) as u64;
     let mut from = i;
     let mut len = n;
     let mut left = times;
+    let mut pairs = 0u64;
     while 0 < left {
         let p = turn_place(w, left);
+        let more = sums::order::count(insides, from, len) as u64 * base;
         match arithmetic::multiply::mul(kinds, insides, numbers, from, len, i, n, p) {
             Formed::Done(m) => len = m,
-            Formed::Refused(r) => return Formed::Refused(r),
+            Formed::Refused(r) => return counted(Formed::Refused(r), 0),
         }
+        pairs = pairs + more;
         from = p;
         left = left - 1;
     }
-    Formed::Done(len)
+    counted(Formed::Done(len), pairs)
 }
 
 // So many products of one power of x by itself. Its number and its coefficient are reckoned, and only the last product is written.
@@ -234,14 +253,15 @@ fn raise_one(
     times: u64,
     i: usize,
     w: usize,
-) -> Formed
-    requires { ⌜ (0 < times) × Source (lent kinds insides numbers) i 1 w × Room (lent kinds insides numbers) (w + (sumEntries + sumEntries)) ⌝ }
+) -> Raised
+    requires { ⌜ (0 < times) × (times < highestPower) × Source (lent kinds insides numbers) i 1 w × Room (lent kinds insides numbers) (w + (sumEntries + sumEntries)) ⌝ }
     ensures { λ r. ⌜ Kept (entering kinds insides numbers) (leaving kinds insides numbers) w (w + (sumEntries + sumEntries)) ⌝ }
-    ensures { λ r. ⌜ OfOne (entering kinds insides numbers) i (i + 1) sumLevels (λ s. Agrees r (leaving kinds insides numbers) w (raised times s s)) ⌝ }
+    ensures { λ r. ⌜ OfOne (entering kinds insides numbers) i (i + 1) sumLevels (λ s. Agrees (r .formed) (leaving kinds insides numbers) w (raised times s s)) ⌝ }
+    ensures { λ r. ⌜ OfOne (entering kinds insides numbers) i (i + 1) sumLevels (λ s. Counted r (raisedPairs times s s)) ⌝ }
 {
     let x = cells::load(kinds, insides, numbers, i);
     if x.kind == sums::tree::X {
-        return raise_power(kinds, insides, numbers, times, x, w);
+        return counted(raise_power(kinds, insides, numbers, times, x, w), times);
     }
     multiply(kinds, insides, numbers, times, i, 1, w)
 }
@@ -255,14 +275,15 @@ fn raise(
     i: usize,
     n: usize,
     w: usize,
-) -> Formed
-    requires { ⌜ Source (lent kinds insides numbers) i n w × Room (lent kinds insides numbers) (w + (sumEntries + sumEntries)) ⌝ }
+) -> Raised
+    requires { ⌜ (times < highestPower) × Source (lent kinds insides numbers) i n w × Room (lent kinds insides numbers) (w + (sumEntries + sumEntries)) ⌝ }
     ensures { λ r. ⌜ Kept (entering kinds insides numbers) (leaving kinds insides numbers) w (w + (sumEntries + sumEntries)) ⌝ }
-    ensures { λ r. ⌜ OfOne (entering kinds insides numbers) i (i + n) sumLevels (λ s. Agrees r (leaving kinds insides numbers) w (raised times s s)) ⌝ }
+    ensures { λ r. ⌜ OfOne (entering kinds insides numbers) i (i + n) sumLevels (λ s. Agrees (r .formed) (leaving kinds insides numbers) w (raised times s s)) ⌝ }
+    ensures { λ r. ⌜ OfOne (entering kinds insides numbers) i (i + n) sumLevels (λ s. Counted r (raisedPairs times s s)) ⌝ }
 {
     if times == 0 {
         cells::copy_within(kinds, insides, numbers, i, n, w);
-        return Formed::Done(n);
+        return counted(Formed::Done(n), 0);
     }
     if n == 1 {
         return raise_one(kinds, insides, numbers, times, i, w);
@@ -279,23 +300,28 @@ pub fn whole_power(
     i: usize,
     n: usize,
     w: usize,
-) -> Formed
+) -> Raised
     requires { ⌜ Source (lent kinds insides numbers) i n w × Room (lent kinds insides numbers) (w + (sumEntries + sumEntries)) ⌝ }
     ensures { λ r. ⌜ Kept (entering kinds insides numbers) (leaving kinds insides numbers) w (w + (sumEntries + sumEntries)) ⌝ }
-    ensures { λ r. ⌜ OfOne (entering kinds insides numbers) i (i + n) sumLevels (λ s. Agrees r (leaving kinds insides numbers) w (wholePower s (smallWhole e))) ⌝ }
+    ensures { λ r. ⌜ OfOne (entering kinds insides numbers) i (i + n) sumLevels (λ s. Agrees (r .formed) (leaving kinds insides numbers) w (wholePower s (smallWhole e))) ⌝ }
+    ensures { λ r. ⌜ OfOne (entering kinds insides numbers) i (i + n) sumLevels (λ s. Counted r (wholePairs s (smallWhole e))) ⌝ }
 {
     match numbers::small_whole(e) {
         SmallWhole::Is(k) => {
             if k == 0 {
-                return arithmetic::add::constant_sum(kinds, insides, numbers, Complex::ZERO, w);
+                let zero = Complex::ZERO;
+                return counted(
+                    arithmetic::add::constant_sum(kinds, insides, numbers, zero, w),
+                    0,
+                );
             }
             raise(kinds, insides, numbers, k - 1, i, n, w)
         }
         SmallWhole::Other => {
             if !arithmetic::multiply::can_mul(i, n, i, n, kinds, insides, SUM_LEVELS) {
-                return Formed::Refused(Refusal::TooComplex);
+                return counted(Formed::Refused(Refusal::TooComplex), 0);
             }
-            Formed::Refused(Refusal::BigPower)
+            counted(Formed::Refused(Refusal::BigPower), 0)
         }
     }
 }
@@ -309,21 +335,22 @@ pub fn power_by(
     i: usize,
     n: usize,
     w: usize,
-) -> Formed
+) -> Raised
     requires { ⌜ (finite e ≡ true) × Source (lent kinds insides numbers) i n w × Room (lent kinds insides numbers) (w + (sumEntries + sumEntries)) ⌝ }
     ensures { λ r. ⌜ Kept (entering kinds insides numbers) (leaving kinds insides numbers) w (w + (sumEntries + sumEntries)) ⌝ }
-    ensures { λ r. ⌜ OfOne (entering kinds insides numbers) i (i + n) sumLevels (λ s. Agrees r (leaving kinds insides numbers) w (power s e)) ⌝ }
+    ensures { λ r. ⌜ OfOne (entering kinds insides numbers) i (i + n) sumLevels (λ s. Agrees (r .formed) (leaving kinds insides numbers) w (power s e)) ⌝ }
+    ensures { λ r. ⌜ OfOne (entering kinds insides numbers) i (i + n) sumLevels (λ s. Counted r (powerPairs s e)) ⌝ }
 {
     if numbers::is_whole(e) & (0.0 <= e) {
         return whole_power(kinds, insides, numbers, e, i, n, w);
     }
     if !can_root(kinds, insides, numbers, i, n) {
-        return Formed::Refused(Refusal::TooComplex);
+        return counted(Formed::Refused(Refusal::TooComplex), 0);
     }
     if !unit_coefs(kinds, insides, numbers, i, n) {
-        return Formed::Refused(Refusal::NeedsMath);
+        return counted(Formed::Refused(Refusal::NeedsMath), 0);
     }
-    root(kinds, insides, numbers, e, i, n, w)
+    counted(root(kinds, insides, numbers, e, i, n, w), 0)
 }
 
 // A constant's real number, where |im| < 2^-52.
@@ -388,19 +415,21 @@ pub fn pow(
     j: usize,
     m: usize,
     w: usize,
-) -> Formed
+) -> Raised
     requires { ⌜ Source (lent kinds insides numbers) i n w × Source (lent kinds insides numbers) j m w × Room (lent kinds insides numbers) (w + (sumEntries + sumEntries)) ⌝ }
     ensures { λ r. ⌜ Kept (entering kinds insides numbers) (leaving kinds insides numbers) w (w + (sumEntries + sumEntries)) ⌝ }
-    ensures { λ r. ⌜ OfTwo (entering kinds insides numbers) i (i + n) j (j + m) sumLevels (λ s t. Agrees r (leaving kinds insides numbers) w (pow s t)) ⌝ }
+    ensures { λ r. ⌜ OfTwo (entering kinds insides numbers) i (i + n) j (j + m) sumLevels (λ s t. Agrees (r .formed) (leaving kinds insides numbers) w (pow s t)) ⌝ }
+    ensures { λ r. ⌜ OfTwo (entering kinds insides numbers) i (i + n) j (j + m) sumLevels (λ s t. Counted r (powPairs s t)) ⌝ }
 {
     if is_euler(arithmetic::add::as_constant(kinds, insides, numbers, i, n))
         & arithmetic::add::is_x(kinds, insides, numbers, j, m)
     {
-        return over(kinds, insides, numbers, sums::tree::EXP, 0.0, j, m, w);
+        let exp = sums::tree::EXP;
+        return counted(over(kinds, insides, numbers, exp, 0.0, j, m, w), 0);
     }
     match real_of(arithmetic::add::as_constant(kinds, insides, numbers, j, m)) {
         Real::Is(e) => power_by(kinds, insides, numbers, e, i, n, w),
-        Real::Other => Formed::Refused(Refusal::TooComplex),
+        Real::Other => counted(Formed::Refused(Refusal::TooComplex), 0),
     }
 }
 
@@ -436,7 +465,7 @@ fn number_power(
         0,
         x,
     );
-    match power_by(
+    let raised = power_by(
         &mut other_kinds,
         &mut other_insides,
         &mut other_numbers,
@@ -444,7 +473,9 @@ fn number_power(
         0,
         1,
         SUM_ENTRIES,
-    ) {
+    );
+    let formed = raised.formed;
+    match formed {
         Formed::Done(m) => {
             cells::copy_in(
                 &other_kinds,

@@ -1,4 +1,5 @@
 -- What a primitive forms of the sums that it takes.
+use Prim.Native.Nat.{ℕ}
 use mathlib.Core.List.{List, [], _∷_}
 use lib.Dec.{eqb}
 use Rattle.numbers.specs.Signs.{zero64}
@@ -11,6 +12,7 @@ use Rattle.arithmetic.specs.Adding.{negSum, addSums, subSums}
 use Rattle.arithmetic.specs.Product.{product}
 use Rattle.arithmetic.specs.Quotient.{quotient}
 use Rattle.arithmetic.specs.Power.{pow, log, sqrt, exp, exp2, exp10, ln, log2, log10, reciprocal, notSum, complexSum}
+use Rattle.arithmetic.specs.Pairs.{pairs, powPairs}
 use Rattle.formats.specs.declared.record.Primitive.{Primitive}
 use Rattle.formats.specs.declared.record.Primitive.the-variants.{Neg, Not, Sqrt, Add, Sub, Mul, Div, Pow, Exp, Sin, Cos, Reciprocal, Complex, Exp2, Exp10, Log, Ln, Log2, Log10}
 use Rattle.formats.specs.Names.{choose, primitiveNo}
@@ -64,3 +66,11 @@ ofOne = listed sum ofOnes
 -- every primitive that takes two sums and leaves one is in the list
 abbrev pub ofTwo : Primitive → Sum → Sum → Outcome
 ofTwo = listed (λ b a. sum b) ofTwos
+
+-- the primitives whose pairs are counted; some others multiply too, and count nothing
+abbrev pub pairsOfTwos : List (Forming (Sum → Sum → ℕ))
+pairsOfTwos = by Mul pairs ∷ by Pow powPairs ∷ []
+
+-- how many pairs of outermost terms a primitive multiplies, of b, and of a, which was on top of it
+unfoldable pub pairsOf : Primitive → Sum → Sum → ℕ
+pairsOf p b a = listed (λ d c. 0) pairsOfTwos p b a

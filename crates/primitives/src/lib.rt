@@ -6,10 +6,12 @@ use cells::Entry;
 use formats::record::Primitive;
 use limits::SUM_ENTRIES;
 use numbers::complex::Complex;
+use powers::raise::Raised;
 use sums::order::Formed;
 ghost use Prim.Native.Nat.{_+_, _≤_};
 ghost use Rattle.arithmetic.specs.Add.Contract.Operands.{Operand, Source};
 ghost use Rattle.arithmetic.specs.Adding.{negSum, addSums};
+ghost use Rattle.arithmetic.specs.Pairs.{pairs};
 ghost use Rattle.arithmetic.specs.Power.{notSum, complexSum};
 ghost use Rattle.arithmetic.specs.Product.{product};
 ghost use Rattle.arithmetic.specs.Singles.{constant};
@@ -17,7 +19,9 @@ ghost use Rattle.cells.specs.Contract.Book.{lent, entering, leaving, Room};
 ghost use Rattle.cells.specs.Contract.Moves.{Kept};
 ghost use Rattle.limits.specs.Limits.{sumEntries, sumLevels};
 ghost use Rattle.numbers.specs.Complex.Arith.{imaginary};
-ghost use Rattle.primitives.specs.Forms.{ofOne, ofTwo};
+ghost use Rattle.powers.specs.Raise.Contract.Pairs.{Counted};
+ghost use Rattle.primitives.specs.Contract.Counting.{Uncounted};
+ghost use Rattle.primitives.specs.Forms.{ofOne, ofTwo, pairsOf};
 ghost use Rattle.sums.specs.Contract.Lies.{OfOne, OfTwo, Agrees};
 ghost use Rattle.sums.specs.Tree.Map.{sum, andThenSum};
 
@@ -155,7 +159,7 @@ pub fn form_one(
         Primitive::Neg => negated(kinds, insides, numbers, i, n, w),
         Primitive::Not => not(kinds, insides, numbers, i, n, w),
         Primitive::Reciprocal => powers::divide::recip(kinds, insides, numbers, i, n, w),
-        Primitive::Sqrt => powers::raise::power_by(kinds, insides, numbers, 0.5, i, n, w),
+        Primitive::Sqrt => powers::raise::power_by(kinds, insides, numbers, 0.5, i, n, w).formed,
         Primitive::Sin => powers::raise::over(
             kinds,
             insides,
@@ -186,8 +190,32 @@ pub fn form_one(
     }
 }
 
-// What the primitive forms of the sum of n cells from i on, and of that of m cells from j on, which was on top of it.
-pub fn form_two(
+// The product of the sum of n cells from i on with that of m cells from j on, and how many pairs of outermost terms it has.
+fn multiplied(
+    kinds: &mut [u8],
+    insides: &mut [u8],
+    numbers: &mut [[u64; 3]],
+    i: usize,
+    n: usize,
+    j: usize,
+    m: usize,
+    w: usize,
+) -> Raised
+    requires { ⌜ Source (lent kinds insides numbers) i n w × Source (lent kinds insides numbers) j m w × Room (lent kinds insides numbers) (w + (sumEntries + sumEntries)) ⌝ }
+    ensures { λ r. ⌜ Kept (entering kinds insides numbers) (leaving kinds insides numbers) w (w + (sumEntries + sumEntries)) ⌝ }
+    ensures { λ r. ⌜ OfTwo (entering kinds insides numbers) i (i + n) j (j + m) sumLevels (λ b a. Agrees (r .formed) (leaving kinds insides numbers) w (product b a)) ⌝ }
+    ensures { λ r. ⌜ OfTwo (entering kinds insides numbers) i (i + n) j (j + m) sumLevels (λ b a. Counted r (pairs b a)) ⌝ }
+{
+    let pairs = sums::order::count(insides, i, n) * sums::order::count(insides, j, m);
+    let formed = arithmetic::multiply::mul(kinds, insides, numbers, i, n, j, m, w);
+    Raised {
+        formed,
+        pairs: pairs as u64,
+    }
+}
+
+// What a primitive whose pairs aren't counted forms of two sums.
+fn form_uncounted(
     kinds: &mut [u8],
     insides: &mut [u8],
     numbers: &mut [[u64; 3]],
@@ -198,7 +226,7 @@ pub fn form_two(
     m: usize,
     w: usize,
 ) -> Formed
-    requires { ⌜ (1 ≤ n) × (1 ≤ m) × Source (lent kinds insides numbers) i n w × Source (lent kinds insides numbers) j m w × Room (lent kinds insides numbers) (w + (sumEntries + sumEntries)) ⌝ }
+    requires { ⌜ Uncounted p × (1 ≤ n) × (1 ≤ m) × Source (lent kinds insides numbers) i n w × Source (lent kinds insides numbers) j m w × Room (lent kinds insides numbers) (w + (sumEntries + sumEntries)) ⌝ }
     ensures { λ r. ⌜ Kept (entering kinds insides numbers) (leaving kinds insides numbers) w (w + (sumEntries + sumEntries)) ⌝ }
     ensures { λ r. ⌜ OfTwo (entering kinds insides numbers) i (i + n) j (j + m) sumLevels (λ b a. Agrees r (leaving kinds insides numbers) w (ofTwo p b a)) ⌝ }
 {
@@ -209,11 +237,36 @@ pub fn form_two(
         Primitive::Sub => {
             arithmetic::add::expr_add(kinds, insides, numbers, Change::Negate, i, n, j, m, w)
         }
-        Primitive::Mul => arithmetic::multiply::mul(kinds, insides, numbers, i, n, j, m, w),
         Primitive::Div => powers::divide::div(kinds, insides, numbers, i, n, j, m, w),
-        Primitive::Pow => powers::raise::pow(kinds, insides, numbers, i, n, j, m, w),
         Primitive::Log => powers::raise::log(kinds, insides, numbers, i, n, j, m, w),
         Primitive::Complex => complex(kinds, insides, numbers, i, n, j, m, w),
         _ => copied(kinds, insides, numbers, i, n, w),
+    }
+}
+
+// What the primitive forms of the sum of n cells from i on, and of that of m cells from j on, which was on top of it; and the pairs that count.
+pub fn form_two(
+    kinds: &mut [u8],
+    insides: &mut [u8],
+    numbers: &mut [[u64; 3]],
+    p: Primitive,
+    i: usize,
+    n: usize,
+    j: usize,
+    m: usize,
+    w: usize,
+) -> Raised
+    requires { ⌜ (1 ≤ n) × (1 ≤ m) × Source (lent kinds insides numbers) i n w × Source (lent kinds insides numbers) j m w × Room (lent kinds insides numbers) (w + (sumEntries + sumEntries)) ⌝ }
+    ensures { λ r. ⌜ Kept (entering kinds insides numbers) (leaving kinds insides numbers) w (w + (sumEntries + sumEntries)) ⌝ }
+    ensures { λ r. ⌜ OfTwo (entering kinds insides numbers) i (i + n) j (j + m) sumLevels (λ b a. Agrees (r .formed) (leaving kinds insides numbers) w (ofTwo p b a)) ⌝ }
+    ensures { λ r. ⌜ OfTwo (entering kinds insides numbers) i (i + n) j (j + m) sumLevels (λ b a. Counted r (pairsOf p b a)) ⌝ }
+{
+    match p {
+        Primitive::Mul => multiplied(kinds, insides, numbers, i, n, j, m, w),
+        Primitive::Pow => powers::raise::pow(kinds, insides, numbers, i, n, j, m, w),
+        _ => Raised {
+            formed: form_uncounted(kinds, insides, numbers, p, i, n, j, m, w),
+            pairs: 0,
+        },
     }
 }

@@ -2,3 +2,4 @@
 pub mod Runs
 pub mod Data
 pub mod Quick
+pub mod After

@@ -17,9 +17,6 @@ ghost use Rattle.formats.specs.Contract.Walk.{Stretch, Walkable};
 ghost use Rattle.modifiers.specs.Reading.{insideOf};
 ghost use Rattle.reading.specs.Cost.Cost.{mostSteps, whereAsked, timesOf, insideTimes, costOf, costList, costNumbers};
 
-// A number of steps from here on is told as this one.
-pub const MOST_STEPS: u64 = 18446744073709551615;
-
 // So many steps, or a refusal, which is at place 0.
 pub enum CostAnswer {
     Steps(u64),
@@ -47,17 +44,6 @@ pub fn cost_numbers(r: CostAnswer) -> CostNumbers
             place: 0,
             steps: 0,
         },
-    }
-}
-
-// Two numbers of steps together.
-fn add_steps(a: u64, b: u64) -> u64
-    ensures { λ r. ⌜ r ≡ min mostSteps (a + b) ⌝ }
-{
-    if MOST_STEPS - a < b {
-        MOST_STEPS
-    } else {
-        a + b
     }
 }
 
@@ -108,9 +94,9 @@ fn own_steps(times: u64, inner: u64) -> u64
         return 1;
     }
     if times == 1 {
-        return add_steps(1, inner);
+        return stack::state::capped_sum(1, inner);
     }
-    add_steps(1, add_steps(inner, inner))
+    stack::state::capped_sum(1, stack::state::capped_sum(inner, inner))
 }
 
 // The steps of the records from `from` up to `to`, of which at most `left` stand one inside the other.
@@ -125,7 +111,7 @@ fn stretch_steps(list: &[u8], from: usize, to: usize, left: usize) -> u64
         let next = at + 1 + r.inside as usize;
         let times = inside_times(list, at, r);
         let inner = stretch_steps(list, at + 1, next, left - 1);
-        steps = add_steps(steps, own_steps(times, inner));
+        steps = stack::state::capped_sum(steps, own_steps(times, inner));
         at = next;
     }
     steps

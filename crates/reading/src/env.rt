@@ -19,9 +19,10 @@ ghost use Rattle.stack.specs.Contract.Arena.{arena, arenaIn, arenaOut, Space, w
 ghost use Rattle.stack.specs.Contract.Agree.{Stands, Ready};
 ghost use Rattle.reading.specs.Contract.Data.{Reaches, DataAs};
 
-// What reading gives: a sum of so many entries, with the complex flag, or a refusal with its place; and whether what was read counts as handled.
+// What reading gives: a sum of so many entries, with the complex flag, whether what was read counts as handled and the pairs multiplied; or a refusal with its place, and
+// whether it counts as handled.
 pub enum AlgebraData {
-    Sum(usize, bool, bool),
+    Sum(usize, bool, bool, u64),
     Refused(Refusal, usize, bool),
 }
 
@@ -48,6 +49,7 @@ fn begin_with_x(
         used: WORKING + 1,
         handled: 0,
         complex: false,
+        pairs: 0,
     }
 }
 
@@ -71,7 +73,7 @@ fn last_of(
     if WORKING + n != env.used {
         return AlgebraData::Refused(Refusal::TooManyOutputs, 0, handled);
     }
-    AlgebraData::Sum(n, env.complex, handled)
+    AlgebraData::Sum(n, env.complex, handled, env.pairs)
 }
 
 // Reads a list that keeps the rules, in an arena of `top` places: the sum lies behind the working places. Where there are fewer than there may be, 12 may come sooner.

@@ -25,6 +25,7 @@ ghost use Rattle.stack.specs.Contract.Arena.{arena, arenaIn, arenaOut, working,
 ghost use Rattle.stack.specs.Contract.Stacked.{Stacked};
 ghost use Rattle.stack.specs.Contract.Agree.{Ready, Does};
 ghost use Rattle.stack.specs.Contract.Acting.{handledBy};
+ghost use Rattle.reading.specs.Contract.After.{after};
 ghost use Rattle.reading.specs.Contract.Quick.{isQuick, hasNodes};
 
 // Whether a record is a push of a number or a primitive: most are, and their step needs no state but the stack's end and what was handled.
@@ -92,8 +93,23 @@ pub fn refuse(
     ensures { λ r. ⌜ ((ss : List Sum) → Stacked (arenaIn kinds insides numbers sizes) working (env .used) ss → r ≡ Ran.Stopped q at (leb handledNeeded (env .handled) || anyComplex ss)) ⌝ }
 {
     match stack::state::halt(q, kinds, insides, numbers, sizes, env.used, env.handled) {
-        Stepped::Went(_) => Ran::Went(env),
+        Stepped::Went(_, _) => Ran::Went(env),
         Stepped::Stopped(r, b) => Ran::Stopped(r, at, b),
+    }
+}
+
+// What is counted of a record, once it was run: whether it is handled, whether it tells of a complex number, and the pairs that it multiplied.
+pub fn finish(r: Record, at: usize, stepped: Stepped, env: AlgebraEnv) -> Ran
+    ensures { λ e. ⌜ e ≡ after r (kindOf (r .kind)) at stepped env ⌝ }
+{
+    match stepped {
+        Stepped::Stopped(q, b) => Ran::Stopped(q, at, b),
+        Stepped::Went(used, more) => Ran::Went(AlgebraEnv {
+            used,
+            handled: counted(r, env.handled),
+            complex: env.complex | stack::leaf::flags(r),
+            pairs: stack::state::capped_sum(env.pairs, more),
+        }),
     }
 }
 
@@ -113,15 +129,6 @@ pub fn read_leaf(
 {
     let used = env.used;
     let handled = env.handled;
-    match stack::leaf::leaf(r, kinds, insides, numbers, sizes, v, used, handled) {
-        Stepped::Stopped(q, b) => Ran::Stopped(q, at, b),
-        Stepped::Went(then) => {
-            let more = counted(r, handled);
-            Ran::Went(AlgebraEnv {
-                used: then,
-                handled: more,
-                complex: env.complex | stack::leaf::flags(r),
-            })
-        }
-    }
+    let stepped = stack::leaf::leaf(r, kinds, insides, numbers, sizes, v, used, handled);
+    finish(r, at, stepped, env)
 }

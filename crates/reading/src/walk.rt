@@ -44,19 +44,19 @@ pub fn walk(
     ensures { λ r. ⌜ Does (arenaIn kinds insides numbers sizes) (arenaOut kinds insides numbers sizes) v env r (λ st. walkOf (now (list .entry)) from to (places - v) st) ⌝ }
 {
     let mut at = from;
-    let mut used = env.used;
-    let mut handled = env.handled;
-    let mut complex = env.complex;
+    let mut cur = env;
     while at < to {
         let r = formats::record::record_at(list, at);
         let next = at + 1 + r.inside as usize;
         if crate::turn::is_quick(r.kind) {
-            match stack::leaf::leaf(r, kinds, insides, numbers, sizes, v, used, handled) {
-                Stepped::Stopped(q, b) => return Ran::Stopped(q, at, b),
-                Stepped::Went(then) => used = then,
-            }
-            handled = crate::turn::counted(r, handled);
-            complex = complex | stack::leaf::flags(r);
+            let used = cur.used;
+            let handled = cur.handled;
+            let stepped = stack::leaf::leaf(r, kinds, insides, numbers, sizes, v, used, handled);
+            let done = crate::turn::finish(r, at, stepped, cur);
+            let Ran::Went(after) = done else {
+                return done;
+            };
+            cur = after;
             at = next;
             continue;
         }
@@ -64,25 +64,14 @@ pub fn walk(
             at = at + 1;
             continue;
         }
-        let cur = AlgebraEnv {
-            used,
-            handled,
-            complex,
-        };
         let ran = step(list, at, r, kinds, insides, numbers, sizes, v, cur);
         let Ran::Went(then) = ran else {
             return ran;
         };
-        used = then.used;
-        handled = then.handled;
-        complex = then.complex;
+        cur = then;
         at = next;
     }
-    Ran::Went(AlgebraEnv {
-        used,
-        handled,
-        complex,
-    })
+    Ran::Went(cur)
 }
 
 // Runs one record that has no nodes inside.

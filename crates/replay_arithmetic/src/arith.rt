@@ -71,7 +71,8 @@ fn two_stored(
     requires { ⌜ (c .r ≤ sumEntries) × (q + entryBytes * c .r ≤ length (now b)) ⌝ }
 {
     let p = formats::record::primitive_of(c.code);
-    let f = primitives::form_two(kinds, insides, numbers, p, FIRST, c.n, SECOND, c.m, 0);
+    let raised = primitives::form_two(kinds, insides, numbers, p, FIRST, c.n, SECOND, c.m, 0);
+    let f = raised.formed;
     cases::is_stored(kinds, insides, numbers, f, c.number, b, q, c.r)
 }
 

@@ -26,12 +26,13 @@ pub enum Keyword {
     Other,
 }
 
-// Number, place, how many records or entries were written, and the complex flag, 0 or 1.
+// Number, place, how many records or entries were written, the complex flag, 0 or 1, and the pairs that reading multiplied.
 pub struct Answer {
     pub number: u64,
     pub place: u64,
     pub count: u64,
     pub flag: u64,
+    pub pairs: u64,
 }
 
 pub fn keyword_of(line: &[u8]) -> Keyword {
@@ -167,7 +168,7 @@ pub fn takes_sum(k: Keyword) -> bool {
     }
 }
 
-// Whether an answer has the complex flag behind the place.
+// Whether an answer has the complex flag and the pairs behind the place.
 pub fn tells_flag(k: Keyword) -> bool {
     match k {
         Keyword::Read => true,
@@ -195,11 +196,13 @@ pub fn refusal(number: u64, place: u64) -> Answer {
         place: place,
         count: 0,
         flag: 0,
+        pairs: 0,
     }
 }
 
 pub fn is_same(a: Answer, b: Answer) -> bool {
-    (a.number == b.number) & (a.place == b.place) & (a.count == b.count) & (a.flag == b.flag)
+    let written = (a.count == b.count) & (a.flag == b.flag) & (a.pairs == b.pairs);
+    (a.number == b.number) & (a.place == b.place) & written
 }
 
 fn flag_of(complex: bool) -> u64 {
@@ -212,6 +215,7 @@ fn told(n: Numbers) -> Answer {
         place: n.place as u64,
         count: n.count as u64,
         flag: flag_of(n.flag),
+        pairs: n.pairs,
     }
 }
 

@@ -7,7 +7,6 @@ use crate::entries::Answer;
 use crate::entries::Keyword;
 use crate::runs;
 use crate::text::Decoded;
-use crate::text::Number;
 use crate::text::Numbers;
 ghost use Prim.Native.Nat.{_≤_};
 ghost use lib.ListN.{length};
@@ -75,44 +74,44 @@ fn unit_of(k: Keyword) -> usize
     }
 }
 
-// The answer whose number, place and flag are known; what is written is in the line from here on, and goes into want.
-fn stored_in(
-    line: &[u8],
-    at: usize,
-    k: Keyword,
-    number: u64,
-    place: u64,
-    flag: u64,
-    want: &mut [u8],
-) -> Stored {
+// The answer whose numbers are known, but for its count; what is written is in the line from here on, and goes into want.
+fn stored_in(line: &[u8], at: usize, k: Keyword, known: Answer, want: &mut [u8]) -> Stored {
     let unit = unit_of(k);
     let decoded = crate::text::decode(line, at, unit, want);
     let Decoded::Bytes(n) = decoded else {
         return Stored::Broken;
     };
     let answer = Answer {
-        number: number,
-        place: place,
+        number: known.number,
+        place: known.place,
         count: (n / unit) as u64,
-        flag: flag,
+        flag: known.flag,
+        pairs: known.pairs,
     };
     Stored::Answer(answer, n)
 }
 
-// The answer of a line; some have a flag behind the place.
+// The answer of a line; some have a flag and the pairs behind the place.
 fn stored_of(line: &[u8], k: Keyword, want: &mut [u8]) -> Stored {
     let both = crate::text::numbers_at(line, entries::word_len(k));
     let Numbers::Both(number, place, i) = both else {
         return Stored::Broken;
     };
     if !entries::tells_flag(k) {
-        return stored_in(line, i, k, number, place, 0, want);
+        return stored_in(line, i, k, entries::refusal(number, place), want);
     }
-    let third = crate::text::number_at(line, i);
-    let Number::Found(flag, j) = third else {
+    let more = crate::text::numbers_at(line, i);
+    let Numbers::Both(flag, pairs, j) = more else {
         return Stored::Broken;
     };
-    stored_in(line, j, k, number, place, flag, want)
+    let known = Answer {
+        number,
+        place,
+        count: 0,
+        flag,
+        pairs,
+    };
+    stored_in(line, j, k, known, want)
 }
 
 // The calls on the first n bytes of the input, of whose output the first m bytes of want are stored.

@@ -11,14 +11,19 @@ use Rattle.sums.specs.Tree.Sums.{Sum}
 use Rattle.sums.specs.Tree.Map.{Outcome, sum, refused}
 use Rattle.stack.specs.Stack.{total, anyComplex}
 
--- the stack, its top first; how many primitives were handled, counted to handledNeeded; whether a complex number was met
+-- a number of pairs from here on is told as this one
+abbrev pub mostPairs : ℕ
+mostPairs = 18446744073709551615
+
+-- the stack, its top first; how many primitives were handled, counted to handledNeeded; whether a complex number was met; how many pairs of outermost terms were multiplied
 pub record State : Type 0 where
   pub stack : List Sum
   pub handled : ℕ
   pub complex : Bool
+  pub pairs : ℕ
 
 abbrev pub withStack : List Sum → State → State
-withStack ss st = record { stack = ss; handled = st .handled; complex = st .complex }
+withStack ss st = record { stack = ss; handled = st .handled; complex = st .complex; pairs = st .pairs }
 
 -- the state after it, or a refusal with its place; the Bool says whether what was read so far counts as handled, which the inverse asks of the refusals 1 to 9
 pub data Walked : Type 0 where

@@ -1,5 +1,5 @@
 -- One record that has no inside, as a step: a push, a primitive, a marker or anything else.
-use Prim.Native.Nat.{ℕ, zero, suc, min}
+use Prim.Native.Nat.{ℕ, zero, suc, _+_, min}
 use mathlib.Core.Bool.{Bool, true, _||_, cond}
 use mathlib.Core.List.{List, [], _∷_}
 use lib.Dec.{eqb}
@@ -20,7 +20,7 @@ use Rattle.formats.specs.declared.record.KindFound.the-variants.{Known, Unknown
 use Rattle.formats.specs.declared.record.Kind.the-variants as kind
 use Rattle.formats.specs.Names.{primitiveNo, primitiveOf}
 use Rattle.formats.specs.Table.{row}
-use Rattle.primitives.specs.Forms.{ofOne, ofTwo}
+use Rattle.primitives.specs.Forms.{ofOne, ofTwo, pairsOf}
 use Rattle.stack.specs.State.{State, Walked, went, andThen, stop, taking, lend, push}
 
 -- a push of a number is a constant formed
@@ -28,11 +28,15 @@ abbrev pub constantOf : ℕ → ℕ → Outcome
 constantOf re im = alone kinds.X zero64 none (complex.complex (ofBits binary64 re) (ofBits binary64 im))
 
 abbrev pub flagged : Bool → State → State
-flagged b st = record { stack = st .stack; handled = st .handled; complex = st .complex || b }
+flagged b st = record { stack = st .stack; handled = st .handled; complex = st .complex || b; pairs = st .pairs }
 
 -- one more is handled
 abbrev pub counted : Bool → State → State
-counted b st = record { stack = st .stack; handled = cond b (min handledNeeded (suc (st .handled))) (st .handled); complex = st .complex }
+counted b st = record { stack = st .stack; handled = cond b (min handledNeeded (suc (st .handled))) (st .handled); complex = st .complex; pairs = st .pairs }
+
+-- n more pairs were multiplied
+abbrev pub paired : ℕ → State → State
+paired n st = record { stack = st .stack; handled = st .handled; complex = st .complex; pairs = n + st .pairs }
 
 -- what a primitive leaves of the one sum that it takes: nothing (Pop), what it forms, or the sum twice (Dup)
 abbrev pub leavesOfOne : ℕ → ℕ → Primitive → ℕ → Sum → State → Walked
@@ -43,7 +47,7 @@ leavesOfOne at h p (suc (suc n)) a st = lend at h (a ∷ a ∷ []) st
 -- of a, which was on top, and b below it: what it forms, the two turned (Flip), or b put on top of them (Over)
 abbrev pub leavesOfTwo : ℕ → ℕ → Primitive → ℕ → Sum → Sum → State → Walked
 leavesOfTwo at h p zero a b st = went st
-leavesOfTwo at h p (suc zero) a b st = push at h (ofTwo p b a) st
+leavesOfTwo at h p (suc zero) a b st = push at h (ofTwo p b a) (paired (pairsOf p b a) st)
 leavesOfTwo at h p (suc (suc zero)) a b st = lend at h (b ∷ a ∷ []) st
 leavesOfTwo at h p (suc (suc (suc n))) a b st = lend at h (b ∷ a ∷ b ∷ []) st
 

@@ -109,7 +109,7 @@ fn leaf_of(
             handled,
         ),
         Kind::Primitive => apply(kinds, insides, numbers, sizes, r.code, v, used, handled),
-        Kind::UnderMarker => Stepped::Went(used),
+        Kind::UnderMarker => Stepped::Went(used, 0),
         _ => crate::state::halt(why_not(k), kinds, insides, numbers, sizes, used, handled),
     }
 }

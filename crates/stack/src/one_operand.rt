@@ -75,7 +75,7 @@ pub fn one_operand(
     let n = crate::slots::top_size(sizes, WORKING, used);
     let left = formats::table::left(code);
     if left == 0 {
-        return Stepped::Went(used - n);
+        return Stepped::Went(used - n, 0);
     }
     if left == 1 {
         return form_top(kinds, insides, numbers, sizes, code, n, v, used, handled);

@@ -5,7 +5,7 @@ use sums::order::Formed;
 ghost use mathlib.Core.Path.{_≡_};
 ghost use mathlib.Core.Bool.{Bool, _||_};
 ghost use mathlib.Core.List.{List};
-ghost use Prim.Native.Nat.{_+_, _-_, _≤_, ℕ};
+ghost use Prim.Native.Nat.{_+_, _-_, _≤_, ℕ, min};
 ghost use lib.Dec.{leb};
 ghost use lib.ListN.{length};
 ghost use Rattle.limits.specs.Limits.{sumEntries, sumLevels, handledNeeded};
@@ -14,7 +14,7 @@ ghost use Rattle.sums.specs.Tree.Map.{Outcome, sum};
 ghost use Rattle.cells.specs.Contract.Book.{lent, entering};
 ghost use Rattle.sums.specs.Contract.Lies.{OfOne, Agrees};
 ghost use Rattle.stack.specs.Stack.{anyComplex};
-ghost use Rattle.stack.specs.State.{push};
+ghost use Rattle.stack.specs.State.{push, mostPairs};
 ghost use Rattle.stack.specs.Steps.{constantOf};
 ghost use Rattle.stack.specs.Contract.Arena.{arena, arenaIn, arenaOut, places};
 ghost use Rattle.stack.specs.Contract.Arena as arenas;
@@ -22,11 +22,16 @@ ghost use Rattle.stack.specs.Contract.Stacked.{Stacked};
 ghost use Rattle.stack.specs.Contract.Agree.{Prepared, Acts};
 ghost use Rattle.stack.specs.Contract.Parts.{Filled};
 
-// The state beside the arena: the cells that the stack takes up to, how many primitives were handled, counted to HANDLED_NEEDED, and whether a complex number was met.
+// A number of pairs, or of steps, from here on is told as this one.
+pub const MOST: u64 = 18446744073709551615;
+
+// The state beside the arena: the cells that the stack takes up to, how many primitives were handled, counted to HANDLED_NEEDED, whether a complex number was met, and how
+// many pairs of outermost terms were multiplied, counted to MOST.
 pub struct AlgebraEnv {
     pub used: usize,
     pub handled: usize,
     pub complex: bool,
+    pub pairs: u64,
 }
 
 // What came of running records: the state then, or a refusal, its place, and whether what was read so far counts as handled.
@@ -35,10 +40,17 @@ pub enum Ran {
     Stopped(Refusal, usize, bool),
 }
 
-// What a step answers: the cells that the stack takes then, or a refusal with whether what was read so far counts as handled.
+// What a step answers: the cells that the stack takes then and the pairs that it multiplied, or a refusal with whether what was read so far counts as handled.
 pub enum Stepped {
-    Went(usize),
+    Went(usize, u64),
     Stopped(Refusal, bool),
+}
+
+// Two numbers together, counted to MOST.
+pub fn capped_sum(a: u64, b: u64) -> u64
+    ensures { λ r. ⌜ r ≡ min mostPairs (a + b) ⌝ }
+{
+    if MOST - a < b { MOST } else { a + b }
 }
 
 // A refusal. What was read counts as handled where HANDLED_NEEDED primitives were, or where a sum on the stack is complex.
@@ -84,7 +96,7 @@ pub fn push_cells(
         return Stepped::Stopped(Refusal::NoRoom, false);
     }
     crate::slots::bring(kinds, insides, numbers, sizes, i, n, used);
-    Stepped::Went(used + n)
+    Stepped::Went(used + n, 0)
 }
 
 // What was formed from w on is put on the stack.
@@ -141,5 +153,5 @@ pub fn push_number(
     insides[used] = 0;
     numbers[used] = [0, re, im];
     sizes[used] = 1;
-    Stepped::Went(used + 1)
+    Stepped::Went(used + 1, 0)
 }

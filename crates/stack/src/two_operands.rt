@@ -9,8 +9,18 @@ ghost use Rattle.formats.specs.Names.{primitiveOf};
 ghost use Rattle.formats.specs.Table.{row};
 ghost use Rattle.stack.specs.Contract.Arena.{arena, arenaIn, arenaOut, working};
 ghost use Rattle.stack.specs.Contract.Agree.{Prepared};
-ghost use Rattle.stack.specs.Contract.Parts.{Tops};
+ghost use Rattle.stack.specs.Contract.Parts.{Tops, morePairs};
 ghost use Rattle.stack.specs.Contract.Acting.{Applies};
+
+// A step with the pairs that it multiplied, which a refusal does not have.
+fn more_pairs(s: Stepped, pairs: u64) -> Stepped
+    ensures { λ r. ⌜ r ≡ morePairs s pairs ⌝ }
+{
+    match s {
+        Stepped::Went(used, _) => Stepped::Went(used, pairs),
+        Stepped::Stopped(q, b) => Stepped::Stopped(q, b),
+    }
+}
 
 // What a primitive forms of the two sums on top, the upper one of n cells, is put in their place.
 fn form_pair(
@@ -32,7 +42,9 @@ fn form_pair(
     let low = crate::slots::top_size(sizes, WORKING, up);
     let down = up - low;
     let f = primitives::form_two(kinds, insides, numbers, p, down, low, up, n, 0);
-    crate::state::push_formed(kinds, insides, numbers, sizes, f, v, down, handled)
+    let formed = f.formed;
+    let put = crate::state::push_formed(kinds, insides, numbers, sizes, formed, v, down, handled);
+    more_pairs(put, f.pairs)
 }
 
 // A primitive that takes the two sums on top, the upper one of n cells: it leaves one that it forms, the two turned, or the lower one once more on top.
@@ -57,7 +69,7 @@ fn two_leave(
     let m = crate::slots::top_size(sizes, WORKING, used - n);
     if left == 2 {
         crate::one_operand::flip(kinds, insides, numbers, sizes, n, m, used);
-        return Stepped::Went(used);
+        return Stepped::Went(used, 0);
     }
     crate::state::push_cells(kinds, insides, numbers, sizes, used - n - m, m, v, used)
 }

@@ -40,7 +40,7 @@ use Rattle.algebra.specs.Answer.Making.{
 use Rattle.algebra.proofs.answer.Giving.{gives-refusal}
 use Rattle.algebra.proofs.answer.Taking.{of-good}
 use Rattle.algebra.proofs.answer.Told.{Success, success, refusal, not-made, refused-same, sum-same, SumMade, sum-made, refused-outcome, first-bytes}
-use Rattle.algebra.specs.Reading.{readList, madeOf, flagOf}
+use Rattle.algebra.specs.Reading.{readList, madeOf, flagOf, pairsOf}
 use Rattle.algebra.specs.Entries.{afterRead, derivative, integral, derivativeFaithful, integralFaithful}
 use Rattle.algebra.specs.declared.ReadAnswer.the-variants as answer
 use Rattle.theorems.specs.Composing.{ReadGives, ReadTold, Composes, DerivativeComposes, IntegralComposes, DerivativeFaithfulComposes, IntegralFaithfulComposes}
@@ -48,35 +48,37 @@ use Rattle.theorems.proofs.Reading.{sum-good, unflagged, sum-flagged, r
 
 -- ---- what `read` tells
 
-sum-read : (x : Read) {n : ℕ} {c : Bool} {bytes out′ : List ℕ} (out : List ℕ) → madeOf x ≡ making.made n bytes → flagOf x ≡ c → n ≤ entriesIn out
-    → out′ ≡ sets out 0 bytes → ReadTold x n c out′
-sum-read (done s d h) {n} out e f fits w =
+sum-read : (x : Read) {n k : ℕ} {c : Bool} {bytes out′ : List ℕ} (out : List ℕ) → madeOf x ≡ making.made n bytes → flagOf x ≡ c → k ≡ pairsOf x → n ≤ entriesIn out
+    → out′ ≡ sets out 0 bytes → ReadTold x n c k out′
+sum-read (done s d h m) {n} out e f p fits w =
     let z = sum-same s e in
     record {
       s = s;
       handled = h;
+      pairs = m;
       is = rw f refl;
+      told = p;
       many = z .0;
       bytes = ap (take (32 * n)) (w ∙ ap (sets out 0) (z .1)) ∙ first-bytes (encodeSum s) out (32 * n) (omega (arith, z .0, length-sum s)) (omega (arith, fits));
     }
-sum-read (refusedAt q at h) out e f fits w = absurd (not-made e)
+sum-read (refusedAt q at h) out e f p fits w = absurd (not-made e)
 
-pub read-told : (x : Read) {out out′ : List ℕ} {n : ℕ} {c : Bool} → ReadGives x out out′ (answer.Sum n c) → ReadTold x n c out′
+pub read-told : (x : Read) {out out′ : List ℕ} {n k : ℕ} {c : Bool} → ReadGives x out out′ (answer.Sum n c k) → ReadTold x n c k out′
 read-told x {out} {out′} p =
     let u = unflagged x p in
-    let f = sum-flagged (flagOf x) (u .answer) (u .is) in
+    let f = sum-flagged (flagOf x) (pairsOf x) (u .answer) (u .is) in
     let o = success entriesIn (madeOf x) (subst (λ (a : Answer). Gives entriesIn (madeOf x) out out′ a) (f .0) (u .gives)) in
-    sum-read x out (o .is) (f .1) (o .fits) (o .written)
+    sum-read x out (o .is) (f .1) (f .2) (o .fits) (o .written)
 
 refusal-read : (x : Read) {q : Refusal} {at : ℕ} → madeOf x ≡ making.refusedAt q at → (h : Bool) × (x ≡ refusedAt q at h)
 refusal-read (refusedAt p i h) e = let z = refused-same e in (h, rw (z .0, z .1) refl)
-refusal-read (done s c h) e = absurd (not-made (sym e))
+refusal-read (done s c h k) e = absurd (not-made (sym e))
 
 pub read-refusal : (x : Read) {out out′ : List ℕ} {q : Refusal} {at : ℕ} → ReadGives x out out′ (answer.Refused q at) → (q ≡ OutputRoom → ⊥)
     → (h : Bool) × (x ≡ refusedAt q at h)
 read-refusal x {out} {out′} p n =
     let u = unflagged x p in
-    refusal-read x (refusal entriesIn (madeOf x) (subst (λ (a : Answer). Gives entriesIn (madeOf x) out out′ a) (refusal-flagged (flagOf x) (u .answer) (u .is)) (u .gives)) n)
+    refusal-read x (refusal entriesIn (madeOf x) (subst (λ (a : Answer). Gives entriesIn (madeOf x) out out′ a) (refusal-flagged (flagOf x) (pairsOf x) (u .answer) (u .is)) (u .gives)) n)
 
 -- reading refused, and not for want of room
 after-refusal : (l : List ℕ) {out₁ out₁′ : List ℕ} {q : Refusal} {at : ℕ} (f : Bool → Sum → Made) (out : List ℕ)
@@ -88,8 +90,8 @@ after-refusal l {out₁} {out₁′} {q} {at} f out p n = let w = read-refusal (
 
 -- g derives or integrates: of a good sum it makes a good one, which the writer then writes
 module _ (writer : Bool → Sum → Made) (g : Sum → Outcome) (keeps : (s d : Sum) → GoodSum s → g s ≡ sum d → GoodSum d) (l : List ℕ) {out₁ out₁′ : List ℕ} where
-  module _ {n : ℕ} {c : Bool} (p : ReadGives (readList l) out₁ out₁′ (answer.Sum n c)) (out₂ out₂′ : List ℕ) where
-    told : ReadTold (readList l) n c out₁′
+  module _ {n k : ℕ} {c : Bool} (p : ReadGives (readList l) out₁ out₁′ (answer.Sum n c k)) (out₂ out₂′ : List ℕ) where
+    told : ReadTold (readList l) n c k out₁′
     told = read-told (readList l) p
 
     good : GoodSum (told .s)
@@ -135,8 +137,8 @@ module _ (writer : Bool → Sum → Made) (g : Sum → Outcome) (keeps : (s d : 
 composes : (writer : Bool → Sum → Made) (g : Sum → Outcome) → ((s d : Sum) → GoodSum s → g s ≡ sum d → GoodSum d)
     → Composes (λ s. ofOutcome (g s) ofSum) writer (λ l. afterRead (readList l) (λ f s. ofOutcome (g s) (writer f)))
 composes writer g keeps = record {
-  writes = λ l out₁ out₁′ out₂ out₂′ out out′ n m c r p b w. composed writer g keeps l p out₂ out₂′ b w;
-  refuses = λ l out₁ out₁′ out₂ out₂′ out n c q at k p b. composed-refusal writer g keeps l p out₂ out₂′ out b k;
+  writes = λ l out₁ out₁′ out₂ out₂′ out out′ n m k c r p b w. composed writer g keeps l p out₂ out₂′ b w;
+  refuses = λ l out₁ out₁′ out₂ out₂′ out n k c q at d p b. composed-refusal writer g keeps l p out₂ out₂′ out b d;
   unread = λ l out₁ out₁′ out q at k p. after-refusal l (λ f s. ofOutcome (g s) (writer f)) out p k;
 }
 

@@ -15,7 +15,9 @@ use Rattle.arithmetic.specs.Adding as adding
 use Rattle.arithmetic.specs.Product as product
 use Rattle.arithmetic.specs.Quotient as quotient
 use Rattle.arithmetic.specs.Power as power
+use Rattle.arithmetic.specs.Pairs as pairs
 use Rattle.arithmetic.specs.Singles as singles
+use Rattle.primitives.specs.Forms as forms
 use Rattle.stack.specs.State as state
 use Rattle.stack.specs.Steps as step
 use Rattle.stack.specs.Stack as stack
@@ -72,7 +74,7 @@ raised = tt
 
 -- reading a list
 unfoldable pub steps : Unit {0}
-unfolding state.taking state.lend step.primitive step.leafStep stack.total stack.anyComplex
+unfolding state.taking state.lend step.primitive step.leafStep stack.total stack.anyComplex pairs.rowPairs pairs.pairs pairs.raisedPairs pairs.powPairs forms.pairsOf
 steps = tt
 
 unfoldable pub reading : Unit {0}

@@ -6,7 +6,7 @@ use mathlib.Core.Bool.{Bool, true, false, cond}
 use mathlib.Core.List.{List, [], _∷_}
 use lib.Dec.{leb, eqb}
 use lib.ListN.{length}
-use borrow.Author.Tests.{eqb-true}
+use borrow.Author.Tests.{eqb-true, leb-true, leb-false}
 use lib.Ieee.{Float}
 use lib.Ieee.Scale.{finite}
 use Rattle.limits.specs.declared.Refusal.{Refusal}
@@ -41,6 +41,7 @@ use Rattle.reading.specs.Cost.Cost as cost
 use Rattle.reading.specs.Cost.Cost.{mostSteps, timesOf, insideTimes, ownCost, costOf, costList, costNumbers}
 use Rattle.reading.specs.Cost.Counting.{ran}
 use Rattle.reading.proofs.cost.Theorem.{tells}
+use Rattle.reading.proofs.cost.Pairs.{pairs-most}
 use Rattle.algebra.specs.declared.ReadAnswer.the-variants as answer
 use Rattle.algebra.specs.Reading.{byVerdict, readList}
 use Rattle.algebra.specs.Replies as entry
@@ -175,21 +176,31 @@ cost-refuses l q e = go (verdict l) e
     go verdicts.Good d = absurd (let z : _≡_ {A = ℕ} 0 1 = cc in omega arith)
     go (verdicts.Refused p) d = let z : p ≡ q = cc in rw z
 
-nodes-read : (l : List ℕ) (s : Sum) (c h : Bool) → readList l ≡ bodies.done s c h → readNodes (parse l) ≡ bodies.done s c h
+nodes-read : (l : List ℕ) (s : Sum) (c h : Bool) (k : ℕ) → readList l ≡ bodies.done s c h k → readNodes (parse l) ≡ bodies.done s c h k
 unfolding readList
-nodes-read l s c h e = go (verdict l) e
+nodes-read l s c h k e = go (verdict l) e
   where
-    go : (v : Verdict) → byVerdict v (readNodes (parse l)) ≡ bodies.done s c h → readNodes (parse l) ≡ bodies.done s c h
+    go : (v : Verdict) → byVerdict v (readNodes (parse l)) ≡ bodies.done s c h k → readNodes (parse l) ≡ bodies.done s c h k
     go verdicts.Good d = d
     go (verdicts.Refused q) d = absurd (let z : _≡_ {A = ℕ} 0 1 = cc in omega arith)
 
-read-cost : (l out out′ : List ℕ) (n m : ℕ) (c : Bool) → costList l ≡ costs.Steps n → n < mostSteps → ReadGives (readList l) out out′ (answer.Sum m c) → ran (parse l) ≡ n
-read-cost l out out′ n m c e k p =
+read-cost : (l out out′ : List ℕ) (n m k : ℕ) (c : Bool) → costList l ≡ costs.Steps n → n < mostSteps → ReadGives (readList l) out out′ (answer.Sum m c k) → ran (parse l) ≡ n
+read-cost l out out′ n m k c e d p =
     let t = read-told (readList l) p in
-    tells .read l n (t .s) c (t .handled) e k (nodes-read l (t .s) c (t .handled) (t .is))
+    tells .read l n (t .s) c (t .handled) (t .pairs) e d (nodes-read l (t .s) c (t .handled) (t .pairs) (t .is))
+
+read-pairs : (l out out′ : List ℕ) (n m k : ℕ) (c : Bool) → costList l ≡ costs.Steps n → ReadGives (readList l) out out′ (answer.Sum m c k) → k ≤ 258048 * n
+read-pairs l out out′ n m k c e p = go (leb mostSteps n) refl
+  where
+    go : (b : Bool) → leb mostSteps n ≡ b → k ≤ 258048 * n
+    go true d = let t = read-told (readList l) p in omega (arith, t .told, leb-true mostSteps n d)
+    go false d =
+        let t = read-told (readList l) p in
+        let most = pairs-most (parse l) (t .s) c (t .handled) (t .pairs) (nodes-read l (t .s) c (t .handled) (t .pairs) (t .is)) in
+        omega (arith, t .told, most, tells .most l n e (leb-false mostSteps n d))
 
 pub cost-of-entries : CostOfEntries
-cost-of-entries = record { refuses = cost-refuses; reads = read-cost; runs = run-cost }
+cost-of-entries = record { refuses = cost-refuses; reads = read-cost; pairs = read-pairs; runs = run-cost }
 
 -- ---- the C function
 

@@ -35,7 +35,7 @@ nothing-lacks x t = rw (widen t .1) (and-false (lt x zero64))
 
 module _ {l : List ℕ} {ts : List Power} (f : Formula l ts) where
   speed : RootSpeed l ts
-  speed = demand-3-roots l ts (record { s = f .s; handled = f .handled; read = f .read; d = f .d; derived = f .derived; terms = widen (f .terms) .0 })
+  speed = demand-3-roots l ts (record { s = f .s; handled = f .handled; pairs = f .pairs; read = f .read; d = f .d; derived = f .derived; terms = widen (f .terms) .0 })
 
   runs : {b : List ℕ} → RootRuns b ts → Runs b ts
   runs {b} r = record {

@@ -40,7 +40,7 @@ by-answer (given.Done n) e f = inl (ap (λ z. z .number) e)
 by-answer (given.Refused q at) e f = refuses q at e (f q at refl)
 
 by-read : (a : ReadAnswer) {out out′ : List ℕ} {r : Reply} → r ≡ ofRead a → ((q : Refusal) (at : ℕ) → a ≡ answer.Refused q at → out′ ≡ out) → Answers out out′ r
-by-read (answer.Sum n c) e f = inl (ap (λ z. z .number) e)
+by-read (answer.Sum n c k) e f = inl (ap (λ z. z .number) e)
 by-read (answer.Refused q at) e f = refuses q at e (f q at refl)
 
 by-run : (a : RunAnswer) {out out′ : List ℕ} {r : Reply} → r ≡ ofRun a → out′ ≡ out → Answers out out′ r

@@ -37,6 +37,7 @@ unfolding arithmetic comparing listBytes listRules sumBytes maps products raised
 formula = record {
   s = x-to one-and-a-half one64 Sum.none;
   handled = true;
+  pairs = 0;
   read = refl;
   d = x-to half64 one-and-a-half Sum.none;
   derived = refl;

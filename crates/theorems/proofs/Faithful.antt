@@ -29,21 +29,21 @@ unfolding writeFaithful write
 write-same c s h = ap ofList (alike c s h)
 
 -- of a list: g derives or integrates
-whole-same : (g : Sum → Outcome) (x : Read) (s d : Sum) (c h : Bool) → x ≡ done s c h → g s ≡ sum d → OfPowers d
+whole-same : (g : Sum → Outcome) (x : Read) (s d : Sum) (c h : Bool) (k : ℕ) → x ≡ done s c h k → g s ≡ sum d → OfPowers d
     → afterRead x (λ f t. ofOutcome (g t) (λ u. writeFaithful f u)) ≡ afterRead x (λ f t. ofOutcome (g t) (λ u. write f u))
-whole-same g x s d c h e i p =
+whole-same g x s d c h k e i p =
     ap (λ (r : Read). afterRead r (λ f t. ofOutcome (g t) (λ u. writeFaithful f u))) e
     ∙ ap (λ (o : Outcome). ofOutcome o (λ u. writeFaithful c u)) i
     ∙ write-same c d p
     ∙ sym (ap (λ (r : Read). afterRead r (λ f t. ofOutcome (g t) (λ u. write f u))) e ∙ ap (λ (o : Outcome). ofOutcome o (λ u. write c u)) i)
 
-derivative-same : (l : List ℕ) (s d : Sum) (c h : Bool) → readList l ≡ done s c h → derive s ≡ sum d → OfPowers d → derivativeFaithful l ≡ derivative l
+derivative-same : (l : List ℕ) (s d : Sum) (c h : Bool) (k : ℕ) → readList l ≡ done s c h k → derive s ≡ sum d → OfPowers d → derivativeFaithful l ≡ derivative l
 unfolding derivativeFaithful derivative deriveAndWriteFaithful deriveAndWrite
-derivative-same l s d c h e i p = whole-same derive (readList l) s d c h e i p
+derivative-same l s d c h k e i p = whole-same derive (readList l) s d c h k e i p
 
-integral-same : (l : List ℕ) (s d : Sum) (c h : Bool) → readList l ≡ done s c h → integrate s ≡ sum d → OfPowers d → integralFaithful l ≡ integral l
+integral-same : (l : List ℕ) (s d : Sum) (c h : Bool) (k : ℕ) → readList l ≡ done s c h k → integrate s ≡ sum d → OfPowers d → integralFaithful l ≡ integral l
 unfolding integralFaithful integral integrateAndWriteFaithful integrateAndWrite
-integral-same l s d c h e i p = whole-same integrate (readList l) s d c h e i p
+integral-same l s d c h k e i p = whole-same integrate (readList l) s d c h k e i p
 
 pub same-as-rust : SameAsRust
 same-as-rust = record { write = write-same; derivative = derivative-same; integral = integral-same }
@@ -58,7 +58,7 @@ of-terms (term z w t) = ((λ f. refl), of-terms t)
 
 pub faithful-speed : FaithfulSpeed
 faithful-speed l ts f out out′ r room g =
-    let same = derivative-same l (f .s) (f .d) false (f .handled) (f .read) (f .derived) (of-terms (f .terms)) in
+    let same = derivative-same l (f .s) (f .d) false (f .handled) (f .pairs) (f .read) (f .derived) (of-terms (f .terms)) in
     demand-3 l ts f .writes out out′ r room (subst (λ (m : Made). Gives recordsIn m out out′ r) same g)
 
 pub faithful-speed-told : FaithfulSpeedTold

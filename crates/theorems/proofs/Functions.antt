@@ -8,7 +8,7 @@ use Rattle.numbers.specs.Signs.{zero64}
 use Rattle.limits.specs.declared.Refusal.{Refusal}
 use Rattle.algebra.specs.Replies as entry
 use Rattle.algebra.specs.Replies.{Entry, Reply, refusing, ofAnswer, ofRun}
-use Rattle.uplink.specs.Told.{Valued, withCount, withFlag, withSteps, withCost}
+use Rattle.uplink.specs.Told.{Valued, withCount, withPairs, withSteps, withCost}
 use Rattle.values.specs.Value.{Power}
 use Rattle.theorems.specs.Demands.{Numbered, Refuses, Answers}
 use Rattle.theorems.specs.Demand3.{Runs}
@@ -42,7 +42,7 @@ module _ (shown : Reply → List ℕ) (zeros : List ℕ) (zero : (q : Refusal) (
 pub functions-answer : FunctionsAnswer
 functions-answer = record {
   counts = λ e l out out′ no answer t. told-answer withCount (0 ∷ []) (λ q at. refl) (t .returned) (t .told) (demand-1 e l out out′ (t .reply) (t .promised));
-  flags = λ e l out out′ no answer t. told-answer withFlag (0 ∷ 0 ∷ []) (λ q at. refl) (t .returned) (t .told) (demand-1 e l out out′ (t .reply) (t .promised));
+  flags = λ e l out out′ no answer t. told-answer withPairs (0 ∷ 0 ∷ 0 ∷ []) (λ q at. refl) (t .returned) (t .told) (demand-1 e l out out′ (t .reply) (t .promised));
   runs = λ x l no v answer t. told-value withSteps (0 ∷ 0 ∷ []) (λ q at. refl) (entry.run x) t;
   values = λ e l no v answer t. told-value withCount (0 ∷ []) (λ q at. refl) e t;
   costs = λ e l out out′ no answer t. told-answer withCost (0 ∷ []) (λ q at. refl) (t .returned) (t .told) (demand-1 e l out out′ (t .reply) (t .promised));

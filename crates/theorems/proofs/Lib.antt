@@ -2,6 +2,7 @@
 pub mod Computing
 pub mod Cases
 pub mod Nought
+pub mod Pairs
 pub mod PowerOverflow
 pub mod Composing
 pub mod Demands

@@ -46,11 +46,11 @@ use Rattle.theorems.proofs.Speed.Finite.{value-finite}
 use Rattle.theorems.proofs.Speed.Theorem.{power-sum}
 
 -- without a complex step there are no imaginary parts
-by-real : (v : Verdict) (ns : Nodes) {s : Sum} {h : Bool} → byVerdict v (readNodes ns) ≡ done s false h → RealSum s
+by-real : (v : Verdict) (ns : Nodes) {s : Sum} {h : Bool} {k : ℕ} → byVerdict v (readNodes ns) ≡ done s false h k → RealSum s
 by-real verdicts.Good ns e = read-real ns e
 by-real (verdicts.Refused q) ns e = let z : _≡_ {A = ℕ} 0 1 = cc in absurd (omega arith)
 
-list-real : (l : List ℕ) {s : Sum} {h : Bool} → readList l ≡ done s false h → RealSum s
+list-real : (l : List ℕ) {s : Sum} {h : Bool} {k : ℕ} → readList l ≡ done s false h k → RealSum s
 unfolding readList
 list-real l e = by-real (verdict l) (parse l) e
 

@@ -86,7 +86,7 @@ integrated-taken : {l out out′ : List ℕ} {n : ℕ} → OfBytes entriesIn int
 unfolding integrate
 integrated-taken p = made-taken integrals.integrate (λ s d g e. integrate-good s g e) p
 
-read-taken : (l : List ℕ) {out out′ : List ℕ} {n : ℕ} {c : Bool} → ReadGives (readList l) out out′ (answer.Sum n c) → SumTaken n out′
+read-taken : (l : List ℕ) {out out′ : List ℕ} {n k : ℕ} {c : Bool} → ReadGives (readList l) out out′ (answer.Sum n c k) → SumTaken n out′
 read-taken l p t w =
     let r = read-told (readList l) p in
     sum-taken l t (r .is) (subst (λ z. Weighed z t) (r .bytes) w) ∙ ap taken.Sum (sym (r .many))
@@ -129,9 +129,9 @@ write-good : (w : Bool → Sum → Made) → WritesLists w → (c : Bool) {l out
 write-good w h c {l} {out} {out′} {n} p = let k = was-taken p in h out out′ n c (k .s) (k .good) (k .gives)
 
 after-good : (x : Read) (f : Bool → Sum → Made) {out out′ : List ℕ} {n : ℕ}
-    → ((s : Sum) (c h : Bool) → x ≡ done s c h → Gives recordsIn (f c s) out out′ (given.Done n) → ListGood n out′)
+    → ((s : Sum) (c h : Bool) (m : ℕ) → x ≡ done s c h m → Gives recordsIn (f c s) out out′ (given.Done n) → ListGood n out′)
     → Gives recordsIn (afterRead x f) out out′ (given.Done n) → ListGood n out′
-after-good (done s c h) f k g = k s c h refl g
+after-good (done s c h m) f k g = k s c h m refl g
 after-good (reading.refusedAt q at h) f k g = absurd (not-made (success recordsIn (refusedAt q at) g .is))
 
 outcome-good : (w : Bool → Sum → Made) → WritesLists w → (o : Outcome) (c : Bool) {out out′ : List ℕ} {n : ℕ} → ((d : Sum) → o ≡ sum d → GoodSum d)
@@ -141,27 +141,27 @@ outcome-good w h (refused q) c k g = absurd (not-made (success recordsIn (refuse
 
 derivative-good : (l : List ℕ) {out out′ : List ℕ} {n : ℕ} → Gives recordsIn (derivative l) out out′ (given.Done n) → ListGood n out′
 unfolding derivative deriveAndWrite
-derivative-good l g = after-good (readList l) deriveAndWrite (λ s c h e k. outcome-good write sum-list-good (derivatives.derive s) c (λ d i. derive-good s (sum-good l e) i) k) g
+derivative-good l g = after-good (readList l) deriveAndWrite (λ s c h m e k. outcome-good write sum-list-good (derivatives.derive s) c (λ d i. derive-good s (sum-good l e) i) k) g
 
 integral-good : (l : List ℕ) {out out′ : List ℕ} {n : ℕ} → Gives recordsIn (integral l) out out′ (given.Done n) → ListGood n out′
 unfolding integral integrateAndWrite
-integral-good l g = after-good (readList l) integrateAndWrite (λ s c h e k. outcome-good write sum-list-good (integrals.integrate s) c (λ d i. integrate-good s (sum-good l e) i) k) g
+integral-good l g = after-good (readList l) integrateAndWrite (λ s c h m e k. outcome-good write sum-list-good (integrals.integrate s) c (λ d i. integrate-good s (sum-good l e) i) k) g
 
 derivative-faithful-good : (l : List ℕ) {out out′ : List ℕ} {n : ℕ} → Gives recordsIn (derivativeFaithful l) out out′ (given.Done n) → ListGood n out′
 unfolding derivativeFaithful deriveAndWriteFaithful
 derivative-faithful-good l g =
-    after-good (readList l) deriveAndWriteFaithful (λ s c h e k. outcome-good writeFaithful faithful-list-good (derivatives.derive s) c (λ d i. derive-good s (sum-good l e) i) k) g
+    after-good (readList l) deriveAndWriteFaithful (λ s c h m e k. outcome-good writeFaithful faithful-list-good (derivatives.derive s) c (λ d i. derive-good s (sum-good l e) i) k) g
 
 integral-faithful-good : (l : List ℕ) {out out′ : List ℕ} {n : ℕ} → Gives recordsIn (integralFaithful l) out out′ (given.Done n) → ListGood n out′
 unfolding integralFaithful integrateAndWriteFaithful
 integral-faithful-good l g =
-    after-good (readList l) integrateAndWriteFaithful (λ s c h e k. outcome-good writeFaithful faithful-list-good (integrals.integrate s) c (λ d i. integrate-good s (sum-good l e) i) k) g
+    after-good (readList l) integrateAndWriteFaithful (λ s c h m e k. outcome-good writeFaithful faithful-list-good (integrals.integrate s) c (λ d i. integrate-good s (sum-good l e) i) k) g
 
-inverse-of-good : (x : Read) {out out′ : List ℕ} {n : ℕ} → ((s : Sum) (c h : Bool) → x ≡ done s c h → GoodSum s)
+inverse-of-good : (x : Read) {out out′ : List ℕ} {n : ℕ} → ((s : Sum) (c h : Bool) (m : ℕ) → x ≡ done s c h m → GoodSum s)
     → Gives recordsIn (inverseOf x) out out′ (given.Done n) → ListGood n out′
 unfolding invert
-inverse-of-good (done s c true) k g = list-good (inverses.inverse c s) g (λ ns e. inverse-laws.inverse-good c 4 s (k s c true refl .good) ns e)
-inverse-of-good (done s c false) k g = absurd (not-made (success recordsIn (refusedAt NotHandled 0) g .is))
+inverse-of-good (done s c true m) k g = list-good (inverses.inverse c s) g (λ ns e. inverse-laws.inverse-good c 4 s (k s c true m refl .good) ns e)
+inverse-of-good (done s c false m) k g = absurd (not-made (success recordsIn (refusedAt NotHandled 0) g .is))
 inverse-of-good (reading.refusedAt q at true) k g = absurd (not-made (success recordsIn (refusedAt q at) g .is))
 inverse-of-good (reading.refusedAt q at false) {out} {out′} {n} k g = by-number (leb (refusalNo q) 9) g
   where
@@ -171,13 +171,13 @@ inverse-of-good (reading.refusedAt q at false) {out} {out′} {n} k g = by-numbe
 
 inverse-good : (l : List ℕ) {out out′ : List ℕ} {n : ℕ} → Gives recordsIn (inverse l) out out′ (given.Done n) → ListGood n out′
 unfolding inverse
-inverse-good l g = inverse-of-good (readList l) (λ s c h e. sum-good l e) g
+inverse-good l g = inverse-of-good (readList l) (λ s c h m e. sum-good l e) g
 
 -- ---- the theorem
 
 pub writes-good : WritesGood
 writes-good = record {
-  read = λ l out out′ n c p. read-taken l p;
+  read = λ l out out′ n k c p. read-taken l p;
   derive = λ l out out′ n p. derived-taken p;
   integrate = λ l out out′ n p. integrated-taken p;
   write = λ c l out out′ n p. write-good write sum-list-good c p;

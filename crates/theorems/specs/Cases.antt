@@ -1,5 +1,5 @@
 -- The lists to try that document 01 marks with a star: for each the entry, the bytes handed over, and the answer with the bytes written.
-use Prim.Native.Nat.{ℕ}
+use Prim.Native.Nat.{ℕ, min}
 use mathlib.Core.Path.{_≡_}
 use mathlib.Core.Bool.{Bool, false}
 use mathlib.Core.List.{List, [], _∷_, _++_}
@@ -16,6 +16,7 @@ use Rattle.formats.specs.declared.record.Record.{Record}
 use Rattle.formats.specs.declared.record.Primitive.the-variants as prim
 use Rattle.formats.specs.Tree.{encodeRec}
 use Rattle.sums.specs.Entry.Encoding.{encodeSum}
+use Rattle.stack.specs.State.{mostPairs}
 use Rattle.modifiers.specs.Reading as reading
 use Rattle.writing.specs.Draft.Writing.{push, does, on, body}
 use Rattle.running.specs.declared.RunAnswer.{RunAnswer}
@@ -31,18 +32,18 @@ pub data Handed : Type 0 where
   read derivative integral inverse : Handed
   run : Float → Handed
 
--- so many entries or records with their bytes, and the complex flag; a value with steps and peak; or a refusal with its place
+-- so many entries or records with their bytes, the complex flag and the pairs multiplied; a value with steps and peak; or a refusal with its place
 pub data Shown : Type 0 where
-  wrote : ℕ → Bool → List ℕ → Shown
+  wrote : ℕ → Bool → ℕ → List ℕ → Shown
   value : Float → ℕ → ℕ → Shown
   refused : Refusal → ℕ → Shown
 
 abbrev pub ofRead : reading.Read → Shown
-ofRead (reading.done s c h) = wrote (size s) c (encodeSum s)
+ofRead (reading.done s c h k) = wrote (size s) c (min mostPairs k) (encodeSum s)
 ofRead (reading.refusedAt q at h) = refused q at
 
 abbrev pub ofMade : Made → Shown
-ofMade (made n bytes) = wrote n false bytes
+ofMade (made n bytes) = wrote n false 0 bytes
 ofMade (refusedAt q at) = refused q at
 
 abbrev pub ofRun : RunAnswer → Shown
@@ -79,10 +80,10 @@ thirteen = ofBits binary64 0x402a000000000000
 
 -- what an entry makes of a list of records: a list of records, or a sum
 abbrev lists : List Record → ℕ → Shown
-lists rs n = wrote n false (bytesOf rs)
+lists rs n = wrote n false 0 (bytesOf rs)
 
 abbrev sums : Sum → Shown
-sums s = wrote (size s) false (encodeSum s)
+sums s = wrote (size s) false 0 (encodeSum s)
 
 pub record Case : Type 0 where
   pub entry : Handed

@@ -1,5 +1,5 @@
 -- The entries compose through bytes: `derivative` is read, derive and write, and `integral` is read, integrate and write; so too with the second writer.
-use Prim.Native.Nat.{ℕ, _*_}
+use Prim.Native.Nat.{ℕ, _*_, min}
 use mathlib.Core.Path.{_≡_}
 use mathlib.Core.Bool.{Bool}
 use mathlib.Core.List.{List}
@@ -10,6 +10,7 @@ use Rattle.limits.specs.declared.Refusal.the-variants.{OutputRoom}
 use Rattle.sums.specs.Tree.Sums.{Sum, size}
 use Rattle.formats.specs.Tree.{recordsIn}
 use Rattle.sums.specs.Entry.Encoding.{entriesIn, encodeSum}
+use Rattle.stack.specs.State.{mostPairs}
 use Rattle.modifiers.specs.Reading.{Read, done}
 use Rattle.algebra.specs.declared.answer.Answer.{Answer}
 use Rattle.algebra.specs.declared.answer.Answer.the-variants as given
@@ -25,11 +26,13 @@ use Rattle.algebra.specs.Entries as lists
 abbrev pub ReadGives : Read → List ℕ → List ℕ → ReadAnswer → Type 0
 ReadGives x out out′ a = Promise (answerOf x) (bytesOf x) out out′ a
 
--- it tells n entries and the flag c: x is a sum of n entries with that flag, and the sum's bytes are the output's first
-pub record ReadTold (x : Read) (n : ℕ) (c : Bool) (out′ : List ℕ) : Type 0 where
+-- it tells n entries, the flag c and k pairs: x is a sum of n entries with that flag and those pairs, as they are told, and the sum's bytes are the output's first
+pub record ReadTold (x : Read) (n : ℕ) (c : Bool) (k : ℕ) (out′ : List ℕ) : Type 0 where
   pub s : Sum
   pub handled : Bool
-  pub is : x ≡ done s c handled
+  pub pairs : ℕ
+  pub is : x ≡ done s c handled pairs
+  pub told : k ≡ min mostPairs pairs
   pub many : n ≡ size s
   pub bytes : take (entryBytes * n) out′ ≡ encodeSum s
 
@@ -37,10 +40,10 @@ pub record ReadTold (x : Read) (n : ℕ) (c : Bool) (out′ : List ℕ) : Type 0
 -- Read wrote n entries, of whose bytes the part wrote m, to whose bytes the writer answers r: so does the whole to the list.
 -- What the part or read refuses, but for want of room, the whole refuses.
 pub record Composes (part : Sum → Made) (writer : Bool → Sum → Made) (whole : List ℕ → Made) : Type 0 where
-  pub writes : (l out₁ out₁′ out₂ out₂′ out out′ : List ℕ) (n m : ℕ) (c : Bool) (r : Answer) → ReadGives (readList l) out₁ out₁′ (answer.Sum n c)
+  pub writes : (l out₁ out₁′ out₂ out₂′ out out′ : List ℕ) (n m k : ℕ) (c : Bool) (r : Answer) → ReadGives (readList l) out₁ out₁′ (answer.Sum n c k)
       → OfBytes entriesIn part (take (entryBytes * n) out₁′) out₂ out₂′ (given.Done m) → OfBytes recordsIn (writer c) (take (entryBytes * m) out₂′) out out′ r
       → Gives recordsIn (whole l) out out′ r
-  pub refuses : (l out₁ out₁′ out₂ out₂′ out : List ℕ) (n : ℕ) (c : Bool) (q : Refusal) (at : ℕ) → (q ≡ OutputRoom → ⊥) → ReadGives (readList l) out₁ out₁′ (answer.Sum n c)
+  pub refuses : (l out₁ out₁′ out₂ out₂′ out : List ℕ) (n k : ℕ) (c : Bool) (q : Refusal) (at : ℕ) → (q ≡ OutputRoom → ⊥) → ReadGives (readList l) out₁ out₁′ (answer.Sum n c k)
       → OfBytes entriesIn part (take (entryBytes * n) out₁′) out₂ out₂′ (given.Refused q at) → Gives recordsIn (whole l) out out (given.Refused q at)
   pub unread : (l out₁ out₁′ out : List ℕ) (q : Refusal) (at : ℕ) → (q ≡ OutputRoom → ⊥) → ReadGives (readList l) out₁ out₁′ (answer.Refused q at)
       → Gives recordsIn (whole l) out out (given.Refused q at)

@@ -1,5 +1,5 @@
 -- What the cost of a list says of the entries that read it and run it, and what uplink_cost tells a collector.
-use Prim.Native.Nat.{ℕ, _≤_, _<_}
+use Prim.Native.Nat.{ℕ, _*_, _≤_, _<_}
 use mathlib.Core.Path.{_≡_}
 use mathlib.Core.Bool.{Bool, false}
 use mathlib.Core.List.{List, [], _∷_}
@@ -21,10 +21,11 @@ use Rattle.theorems.specs.Composing.{ReadGives}
 -- ---- the entries
 
 -- What `cost` refuses, `read` refuses so, at place 0. Where `read` answers with a sum, it ran as many records as `cost` tells, unless that is the
--- largest number. Where `run` gives a value, its steps are the cost.
+-- largest number; and for each of them it multiplied at most 258,048 pairs. Where `run` gives a value, its steps are the cost.
 pub record CostOfEntries : Type 0 where
   pub refuses : (l : List ℕ) (q : Refusal) → costList l ≡ Refused q → readList l ≡ refusedAt q 0 false
-  pub reads : (l out out′ : List ℕ) (n m : ℕ) (c : Bool) → costList l ≡ Steps n → n < mostSteps → ReadGives (readList l) out out′ (Sum m c) → ran (parse l) ≡ n
+  pub reads : (l out out′ : List ℕ) (n m k : ℕ) (c : Bool) → costList l ≡ Steps n → n < mostSteps → ReadGives (readList l) out out′ (Sum m c k) → ran (parse l) ≡ n
+  pub pairs : (l out out′ : List ℕ) (n m k : ℕ) (c : Bool) → costList l ≡ Steps n → ReadGives (readList l) out out′ (Sum m c k) → k ≤ 258048 * n
   pub runs : (l : List ℕ) (x v : Float) (n p : ℕ) → runList l x ≡ Value v n p → costList l ≡ Steps n
 
 -- ---- the C function

@@ -31,7 +31,8 @@ use Rattle.theorems.specs.Records.{records, peakOf}
 pub record Formula (l : List ℕ) (ts : List Power) : Type 0 where
   pub s : Sum
   pub handled : Bool
-  pub read : readList l ≡ done s false handled
+  pub pairs : ℕ
+  pub read : readList l ≡ done s false handled pairs
   pub d : Sum
   pub derived : derive s ≡ sum d
   pub terms : Terms d ts

@@ -29,8 +29,8 @@ use Rattle.theorems.specs.Functions.{RunsTold}
 -- of a sum, and of a list whose derivative or integral is one, whose outermost terms that aren't zero are powers of x; refusals too
 pub record SameAsRust : Type 0 where
   pub write : (c : Bool) (s : Sum) → OfPowers s → writeFaithful c s ≡ write c s
-  pub derivative : (l : List ℕ) (s d : Sum) (c h : Bool) → readList l ≡ done s c h → derive s ≡ sum d → OfPowers d → derivativeFaithful l ≡ derivative l
-  pub integral : (l : List ℕ) (s d : Sum) (c h : Bool) → readList l ≡ done s c h → integrate s ≡ sum d → OfPowers d → integralFaithful l ≡ integral l
+  pub derivative : (l : List ℕ) (s d : Sum) (c h : Bool) (k : ℕ) → readList l ≡ done s c h k → derive s ≡ sum d → OfPowers d → derivativeFaithful l ≡ derivative l
+  pub integral : (l : List ℕ) (s d : Sum) (c h : Bool) (k : ℕ) → readList l ≡ done s c h k → integrate s ≡ sum d → OfPowers d → integralFaithful l ≡ integral l
 
 -- ---- demand 3
 

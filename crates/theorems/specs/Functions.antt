@@ -16,7 +16,7 @@ use Rattle.limits.specs.Refusals.{refusalNo}
 use Rattle.formats.specs.Tree.{recordsIn}
 use Rattle.algebra.specs.Replies as entry
 use Rattle.algebra.specs.Replies.{Entry, Reply}
-use Rattle.uplink.specs.Told.{Told, Valued, Ran, withCount, withFlag, withCost}
+use Rattle.uplink.specs.Told.{Told, Valued, Ran, withCount, withPairs, withCost}
 use Rattle.values.specs.Value.{Power, value}
 use Rattle.theorems.specs.Records.{records, peakOf}
 use Rattle.theorems.specs.Demands.{Numbered}
@@ -36,7 +36,7 @@ pub record ToldRefusal (zeros out out′ : List ℕ) (number : ℕ) (answer : Li
 -- each function returns 0, or refuses: those that tell a count, uplink_read, which tells a flag too, uplink_run and uplink_value, whose value is then +0, and uplink_cost
 pub record FunctionsAnswer : Type 0 where
   pub counts : (e : Entry) (l out out′ : List ℕ) (no : ℕ) (answer : List ℕ) → Told e withCount l out out′ no answer → (no ≡ 0) ⊎ ToldRefusal (0 ∷ []) out out′ no answer
-  pub flags : (e : Entry) (l out out′ : List ℕ) (no : ℕ) (answer : List ℕ) → Told e withFlag l out out′ no answer → (no ≡ 0) ⊎ ToldRefusal (0 ∷ 0 ∷ []) out out′ no answer
+  pub flags : (e : Entry) (l out out′ : List ℕ) (no : ℕ) (answer : List ℕ) → Told e withPairs l out out′ no answer → (no ≡ 0) ⊎ ToldRefusal (0 ∷ 0 ∷ 0 ∷ []) out out′ no answer
   pub runs : (x : Float) (l : List ℕ) (no : ℕ) (v : Float) (answer : List ℕ) → Ran x l no v answer → (no ≡ 0) ⊎ (ToldRefusal (0 ∷ 0 ∷ []) [] [] no answer × (v ≡ zero64))
   pub values : (e : Entry) (l : List ℕ) (no : ℕ) (v : Float) (answer : List ℕ) → Valued e withCount l no v answer → (no ≡ 0) ⊎ (ToldRefusal (0 ∷ []) [] [] no answer × (v ≡ zero64))
   pub costs : (e : Entry) (l out out′ : List ℕ) (no : ℕ) (answer : List ℕ) → Told e withCost l out out′ no answer → (no ≡ 0) ⊎ ToldRefusal (0 ∷ []) out out′ no answer

@@ -14,6 +14,7 @@ pub mod Engine
 pub mod Written
 pub mod Cases
 pub mod Nought
+pub mod Pairs
 pub mod PowerOverflow
 pub mod Faithful
 pub mod Readback

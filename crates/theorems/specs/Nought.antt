@@ -24,7 +24,7 @@ toPower a = bytesOf (push a ∷ does Pow ∷ [])
 -- at every finite x the run gives +1, in two steps, holding two values; read as a formula the list is the constant 0
 pub record ToNought (l : List ℕ) : Type 0 where
   pub runs : (x : Float) → T (finite x) → runList l x ≡ Value one64 2 2
-  pub reads : readList l ≡ done (constant complex.zero) false false
+  pub reads : readList l ≡ done (constant complex.zero) false false 0
 
 -- for both zeros
 abbrev pub Nought : Type 0

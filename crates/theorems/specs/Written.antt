@@ -30,7 +30,7 @@ ListGood n out′ = verdict (take (recordBytes * n) out′) ≡ verdicts.Good
 
 -- the ten entries that write, where they tell n entries or n records
 pub record WritesGood : Type 0 where
-  pub read : (l out out′ : List ℕ) (n : ℕ) (c : Bool) → ReadGives (readList l) out out′ (answer.Sum n c) → SumTaken n out′
+  pub read : (l out out′ : List ℕ) (n k : ℕ) (c : Bool) → ReadGives (readList l) out out′ (answer.Sum n c k) → SumTaken n out′
   pub derive : (l out out′ : List ℕ) (n : ℕ) → OfBytes entriesIn making.derive l out out′ (given.Done n) → SumTaken n out′
   pub integrate : (l out out′ : List ℕ) (n : ℕ) → OfBytes entriesIn making.integrate l out out′ (given.Done n) → SumTaken n out′
   pub write : (c : Bool) (l out out′ : List ℕ) (n : ℕ) → OfBytes recordsIn (making.write c) l out out′ (given.Done n) → ListGood n out′

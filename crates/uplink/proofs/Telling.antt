@@ -21,7 +21,7 @@ use Rattle.algebra.specs.declared.ReadAnswer.{ReadAnswer}
 use Rattle.algebra.specs.Reading.{readNumbers}
 use Rattle.algebra.specs.Replies as entry
 use Rattle.algebra.specs.Replies.{Entry, Promised, ofRead, ofAnswer, ofRun, ofCost, ofValue}
-use Rattle.uplink.specs.Told.{Told, Valued, Ran, withCount, withFlag, withCost}
+use Rattle.uplink.specs.Told.{Told, Valued, Ran, withCount, withPairs, withCost}
 
 as-number : (t : Bool) → boolByte t ≡ cond t 1 0
 as-number true = refl
@@ -31,14 +31,14 @@ pub told-count : (e : Entry) {l out out′ : List ℕ} (a : Answer) {n : Numbers
     → Told e withCount l out out′ (n .number) (n .place ∷ n .count ∷ [])
 told-count e a i p = record { reply = ofAnswer a; promised = p; returned = ap (λ z. z .number) i; told = ap (λ z. z .place ∷ z .count ∷ []) i }
 
-pub told-flag : (e : Entry) {l out out′ : List ℕ} (a : ReadAnswer) {n : Numbers} → n ≡ readNumbers a → Promised e l out out′ (ofRead a)
-    → Told e withFlag l out out′ (n .number) (n .place ∷ n .count ∷ boolByte (n .flag) ∷ [])
-told-flag e a {n} i p = record {
+pub told-pairs : (e : Entry) {l out out′ : List ℕ} (a : ReadAnswer) {n : Numbers} → n ≡ readNumbers a → Promised e l out out′ (ofRead a)
+    → Told e withPairs l out out′ (n .number) (n .place ∷ n .count ∷ boolByte (n .flag) ∷ n .pairs ∷ [])
+told-pairs e a {n} i p = record {
   reply = ofRead a;
   promised = p;
   returned = ap (λ z. z .number) i;
-  told = ap (λ z. n .place ∷ n .count ∷ z ∷ []) (as-number (n .flag)) ∙ ap
-      (λ z. z .place ∷ z .count ∷ cond (z .flag) 1 0 ∷ []) i;
+  told = ap (λ z. n .place ∷ n .count ∷ z ∷ n .pairs ∷ []) (as-number (n .flag)) ∙ ap
+      (λ z. z .place ∷ z .count ∷ cond (z .flag) 1 0 ∷ z .pairs ∷ []) i;
 }
 
 pub told-run : {x : Float} {l : List ℕ} {n : RunNumbers} (a : RunAnswer) → Promised (entry.run x) l [] [] (ofRun a) → n ≡ numbersOf a

@@ -11,8 +11,8 @@ use Rattle.algebra.specs.Replies as entry
 abbrev pub withCount : Reply → List ℕ
 withCount r = r .place ∷ r .count ∷ []
 
-abbrev pub withFlag : Reply → List ℕ
-withFlag r = r .place ∷ r .count ∷ cond (r .flag) 1 0 ∷ []
+abbrev pub withPairs : Reply → List ℕ
+withPairs r = r .place ∷ r .count ∷ cond (r .flag) 1 0 ∷ r .pairs ∷ []
 
 abbrev pub withSteps : Reply → List ℕ
 withSteps r = r .place ∷ r .steps ∷ r .peak ∷ []

@@ -1,17 +1,17 @@
 // The thirteen entries as C functions: each returns the number, and writes place and counts into `answer`. A slice is passed as a pointer and a length.
-ghost use Rattle.uplink.specs.Told.{Told, Valued, Ran, withFlag, withCount, withCost};
+ghost use Rattle.uplink.specs.Told.{Told, Valued, Ran, withPairs, withCount, withCost};
 ghost use lib.Dec.{eqb};
 ghost use mathlib.Core.Bool.{not};
 ghost use mathlib.Core.List.{[]};
 ghost use Rattle.algebra.specs.Replies as entry;
 
-// From a list to the sum that it stands for; `answer` is place, count and complex flag.
+// From a list to the sum that it stands for; `answer` is place, count, complex flag and pairs.
 #[no_mangle]
-pub extern "C" fn uplink_read(list: &[u8], sum: &mut [u8], answer: &mut [u64; 3]) -> u64
-    ensures { λ r. ⌜ Told entry.read withFlag (now (list .entry)) (now (sum .entry)) (now (sum .exit)) r (now (answer .exit)) ⌝ }
+pub extern "C" fn uplink_read(list: &[u8], sum: &mut [u8], answer: &mut [u64; 4]) -> u64
+    ensures { λ r. ⌜ Told entry.read withPairs (now (list .entry)) (now (sum .entry)) (now (sum .exit)) r (now (answer .exit)) ⌝ }
 {
     let n = algebra::read_numbers(algebra::read(list, sum));
-    *answer = [n.place as u64, n.count as u64, n.flag as u64];
+    *answer = [n.place as u64, n.count as u64, n.flag as u64, n.pairs];
     n.number
 }
 

@@ -25,7 +25,8 @@ compare: the proved library against the judge, in one process
 
 It ends with 0 where there is no difference, with 1 where there is one or where random lists never met a refusal of a power and of
 another number that isn't finite (18 and 15), a cost of each number (0, 11 and 13) and one told as 2^64 - 1, or a value of each number
-(0, 11, 13, 14 and 15, both where the writing gives 15 and where the run does), and with 2 where it can't start.";
+(0, 11, 13, 14 and 15, both where the writing gives 15 and where the run does), or pairs that were multiplied, more than 90,000 in one
+list, and with 2 where it can't start.";
 
 #[derive(Debug, Clone, PartialEq, Eq)]
 pub struct Settings {

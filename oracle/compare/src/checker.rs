@@ -23,40 +23,47 @@ pub type Outcome = Result<(), Box<Difference>>;
 /// Fewer whole output records lent than needed.
 const OUTPUT_ROOM: u64 = 17;
 
-/// Number, place and count; for `read` the complex flag as well.
+/// Number, place and count; for `read` the complex flag and the pairs as well.
 #[derive(Debug, Clone, Copy, PartialEq, Eq)]
 struct Numbers {
     number: u64,
     place: u64,
     count: u64,
-    flag: Option<u64>,
+    read: Option<OfRead>,
+}
+
+/// What `read` alone tells.
+#[derive(Debug, Clone, Copy, PartialEq, Eq)]
+struct OfRead {
+    flag: u64,
+    pairs: u64,
 }
 
 impl Numbers {
-    fn without_flag(told: Told<2>) -> Self {
+    fn plain(told: Told<2>) -> Self {
         let [place, count] = told.answer;
         Numbers {
             number: told.number,
             place,
             count,
-            flag: None,
+            read: None,
         }
     }
-    fn with_flag(told: Told<3>) -> Self {
-        let [place, count, flag] = told.answer;
+    fn of_read(told: Told<4>) -> Self {
+        let [place, count, flag, pairs] = told.answer;
         Numbers {
             number: told.number,
             place,
             count,
-            flag: Some(flag),
+            read: Some(OfRead { flag, pairs }),
         }
     }
     fn text(self) -> String {
-        let flag = self
-            .flag
-            .map_or(String::new(), |flag| format!(", flag {flag}"));
+        let read = self.read.map_or(String::new(), |read| {
+            format!(", flag {}, pairs {}", read.flag, read.pairs)
+        });
         format!(
-            "number {}, place {}, count {}{flag}",
+            "number {}, place {}, count {}{read}",
             self.number, self.place, self.count
         )
     }
@@ -96,10 +103,10 @@ impl<'a> Call<'a> {
     }
     fn ask(self, library: &Library, out: &mut [u8]) -> Numbers {
         let plain = |function: fn(&[u8], &mut [u8]) -> Told<2>, out: &mut [u8]| {
-            Numbers::without_flag(function(self.input, out))
+            Numbers::plain(function(self.input, out))
         };
         match self.entry {
-            Entry::Read => Numbers::with_flag((library.read)(self.input, out)),
+            Entry::Read => Numbers::of_read((library.read)(self.input, out)),
             Entry::Derivative => plain(library.derivative, out),
             Entry::Integral => plain(library.integral, out),
             Entry::Inverse => plain(library.inverse, out),
@@ -115,43 +122,55 @@ impl<'a> Call<'a> {
         }
     }
     fn ask_writer(self, writer: fn(&[u8], u8, &mut [u8]) -> Told<2>, out: &mut [u8]) -> Numbers {
-        Numbers::without_flag(writer(self.input, self.complex, out))
+        Numbers::plain(writer(self.input, self.complex, out))
     }
     fn refused(self, number: u64, place: u64) -> Numbers {
         Numbers {
             number,
             place,
             count: 0,
-            flag: self.flag(false),
+            read: self.of_read(Beside::default()),
         }
     }
-    fn done(self, bytes: &[u8], complex: bool) -> Numbers {
+    fn done(self, bytes: &[u8], beside: Beside) -> Numbers {
         Numbers {
             number: 0,
             place: 0,
             count: (bytes.len() / self.size()) as u64,
-            flag: self.flag(complex),
+            read: self.of_read(beside),
         }
     }
-    fn flag(self, complex: bool) -> Option<u64> {
-        (self.entry == Entry::Read).then_some(u64::from(complex))
+    fn of_read(self, beside: Beside) -> Option<OfRead> {
+        let told = OfRead {
+            flag: u64::from(beside.complex),
+            pairs: beside.pairs,
+        };
+        (self.entry == Entry::Read).then_some(told)
     }
+}
+
+/// What the judge says of a sum that is read, its bytes aside; nothing for all
+/// other entries.
+#[derive(Debug, Clone, Copy, Default)]
+struct Beside {
+    complex: bool,
+    pairs: u64,
 }
 
 /// What the judge says that an entry owes.
 enum Owed<'a> {
-    Done(&'a [u8], bool),
+    Done(&'a [u8], Beside),
     Refused(Refusal),
     Panic,
     TooLong,
 }
 
 impl<'a> Owed<'a> {
-    fn new<T>(answer: &'a Answer<T>, done: impl FnOnce(&'a T) -> (&'a [u8], bool)) -> Self {
+    fn new<T>(answer: &'a Answer<T>, done: impl FnOnce(&'a T) -> (&'a [u8], Beside)) -> Self {
         match answer {
             Answer::Rust(Ok(result)) => {
-                let (bytes, complex) = done(result);
-                Owed::Done(bytes, complex)
+                let (bytes, beside) = done(result);
+                Owed::Done(bytes, beside)
             }
             Answer::Rust(Err(refusal)) | Answer::Form(refusal) | Answer::Limit(refusal) => {
                 Owed::Refused(*refusal)
@@ -164,13 +183,16 @@ impl<'a> Owed<'a> {
 
 impl<'a> From<&'a Answer<Vec<u8>>> for Owed<'a> {
     fn from(answer: &'a Answer<Vec<u8>>) -> Self {
-        Owed::new(answer, |bytes| (bytes, false))
+        Owed::new(answer, |bytes| (bytes, Beside::default()))
     }
 }
 
 impl<'a> From<&'a Answer<ReadSum>> for Owed<'a> {
     fn from(answer: &'a Answer<ReadSum>) -> Self {
-        Owed::new(answer, |read| (&read.entries, read.complex))
+        Owed::new(answer, |read| {
+            let (complex, pairs) = (read.complex, read.pairs);
+            (&read.entries, Beside { complex, pairs })
+        })
     }
 }
 
@@ -366,7 +388,7 @@ impl<'a> Checker<'a> {
 
     fn compare(&mut self, call: Call, owed: Owed) -> Outcome {
         match owed {
-            Owed::Done(bytes, complex) => {
+            Owed::Done(bytes, beside) => {
                 let more = if self.random.once_in(2) {
                     self.tally.exact += 1;
                     0
@@ -374,7 +396,8 @@ impl<'a> Checker<'a> {
                     self.tally.ample += 1;
                     1 + self.random.below(5 * call.size())
                 };
-                self.ask(call, bytes.len() + more, call.done(bytes, complex), bytes)?;
+                self.ask(call, bytes.len() + more, call.done(bytes, beside), bytes)?;
+                self.tally.pairs.count(beside.pairs);
                 if !bytes.is_empty() && self.random.once_in(8) {
                     let short = bytes.len() - self.too_little(call.size());
                     self.ask(call, short, call.refused(OUTPUT_ROOM, 0), &[])?;

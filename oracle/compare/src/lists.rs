@@ -2,7 +2,7 @@
 //! many threads there are.
 
 use oracle::{
-    algebra::random_sums::random_sum, generate, judge, power_sums::random_power_sum,
+    algebra::random_sums::random_sum, generate, judge, multiplied, power_sums::random_power_sum,
     random::Random, records::RECORD, sums::ENTRY,
 };
 
@@ -38,8 +38,8 @@ impl<'a> Block<'a> {
     }
 
     /// Random ones, of which many are refused; ones that mostly read to a sum;
-    /// ones for the runner; damaged copies; what was written, with more after
-    /// it; damaged ones near the limits.
+    /// ones for the runner; products; damaged copies; what was written, with more
+    /// after it; damaged ones near the limits.
     pub fn list(&mut self) -> Vec<u8> {
         let size = 2 + self.random.below(40);
         let list = match self.random.below(400) {
@@ -48,7 +48,8 @@ impl<'a> Block<'a> {
             2..=29 => self.after_what_was_written(),
             30..=59 => generate::list_to_run(&mut self.random, size),
             60..=129 => self.damaged(size),
-            130..=249 => generate::good_list(&mut self.random, size),
+            130..=239 => generate::good_list(&mut self.random, size),
+            240..=249 => multiplied::random_list(&mut self.random, 1 + size % 8),
             _ => generate::random_list(&mut self.random, size),
         };
         self.last.clone_from(&list);

@@ -58,6 +58,7 @@ fn how_much(compared: &Compared, roots: u64) -> Vec<Named> {
             "values held against the run of the list that write gives",
             against_lists(tally),
         ),
+        ("sums read with pairs that were multiplied", pairs(tally)),
         ("met again, and not compared again", again(tally)),
         (
             "unexplained differences",
@@ -118,6 +119,11 @@ fn against_lists(tally: &Tally) -> String {
     )
 }
 
+fn pairs(tally: &Tally) -> String {
+    let [told, most] = [tally.pairs.told, tally.pairs.most].map(thousands);
+    format!("{told}; the most of one is {most}")
+}
+
 /// One row an entry, one column a number that comes back.
 fn table(tally: &Tally) -> String {
     let numbers = (1..NUMBERS).map(|number| number.to_string());
@@ -163,7 +169,7 @@ pub fn recorded(command: &str, report: &str, differences: &[String]) -> String {
     let mut text = format!(
         "# The proved library and the judge, compared\n\n\
          Written by the program `compare` itself (`--record`). Every answer that the judge owes was compared: number, place, count, \
-         complex flag and each byte; for the run value bits, steps and peak, with the plain runner of oracle/src/runner.rs; \
+         complex flag, pairs and each byte; for the run value bits, steps and peak, with the plain runner of oracle/src/runner.rs; \
          the cost with the reckoning of oracle/src/cost.rs; \
          the value with the plain engine of oracle/src/value.rs, and where it isn't 14 with the library's own run of the list that it writes with the flag false; \
          lists that mean what the sum says with the second writer of oracle/src/algebra/faithful.rs. \

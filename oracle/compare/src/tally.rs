@@ -149,6 +149,35 @@ impl AgainstLists {
     }
 }
 
+/// Sums that were read with the pairs that it takes to multiply them.
+#[derive(Debug, Clone, Copy, Default, PartialEq, Eq)]
+pub struct Pairs {
+    /// Sums with any pairs.
+    pub told: u64,
+    /// The most pairs of one of them.
+    pub most: u64,
+}
+
+/// More than any product has that isn't a power of terms which fall together.
+const MANY_PAIRS: u64 = 90_000;
+
+impl Pairs {
+    pub fn count(&mut self, pairs: u64) {
+        self.told += u64::from(pairs > 0);
+        self.most = self.most.max(pairs);
+    }
+    fn add(&mut self, other: &Pairs) {
+        self.told += other.told;
+        self.most = self.most.max(other.most);
+    }
+    fn missing(&self) -> impl Iterator<Item = String> {
+        let none = (self.told == 0).then(|| "read never tells pairs".into());
+        let few = (self.most <= MANY_PAIRS)
+            .then(|| format!("read never tells more than {MANY_PAIRS} pairs"));
+        none.into_iter().chain(few)
+    }
+}
+
 /// Everything that is counted.
 #[derive(Debug, Clone, Copy, Default, PartialEq, Eq)]
 pub struct Tally {
@@ -167,6 +196,7 @@ pub struct Tally {
     /// Sums, each with either flag, that the two writers write as different lists.
     pub apart: u64,
     pub against_lists: AgainstLists,
+    pub pairs: Pairs,
     /// Calls with room for exactly what is written, and with more.
     pub exact: u64,
     pub ample: u64,
@@ -200,6 +230,7 @@ impl Tally {
             .chain(capped)
             .chain(alike)
             .chain(self.against_lists.missing())
+            .chain(self.pairs.missing())
             .collect()
     }
     pub fn add(&mut self, other: &Tally) {
@@ -216,6 +247,7 @@ impl Tally {
         self.capped += other.capped;
         self.apart += other.apart;
         self.against_lists.add(&other.against_lists);
+        self.pairs.add(&other.pairs);
         self.exact += other.exact;
         self.ample += other.ample;
     }

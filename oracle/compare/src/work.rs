@@ -9,7 +9,9 @@ use std::{
     time::{Duration, Instant},
 };
 
-use oracle::{costly, crowded, functions, generate, power_sums, random::Random, sums::ENTRY};
+use oracle::{
+    costly, crowded, functions, generate, multiplied, power_sums, random::Random, sums::ENTRY,
+};
 use proved::Library;
 
 use crate::{
@@ -266,9 +268,10 @@ impl Shared<'_> {
 /// Compare what the settings ask for.
 pub fn compare(settings: &Settings, library: Library) -> Compared {
     let near_limits = [
+        multiplied::near_limits(),
+        costly::near_limits(),
         generate::near_limits(),
         generate::near_limits_of_the_run(),
-        costly::near_limits(),
     ]
     .concat();
     let shared = Shared {

@@ -39,19 +39,19 @@ fn the_proved_library_has_no_difference() {
     assert!(compared.tally.noughts > 10);
 }
 
-fn flag_never_set(list: &[u8], sum: &mut [u8]) -> Told<3> {
+fn flag_never_set(list: &[u8], sum: &mut [u8]) -> Told<4> {
     let mut told = proved::read(list, sum);
     told.answer[2] = 0;
     told
 }
 
-fn places_all_0(list: &[u8], sum: &mut [u8]) -> Told<3> {
+fn places_all_0(list: &[u8], sum: &mut [u8]) -> Told<4> {
     let mut told = proved::read(list, sum);
     told.answer[0] = 0;
     told
 }
 
-fn power_told_as_15(list: &[u8], sum: &mut [u8]) -> Told<3> {
+fn power_told_as_15(list: &[u8], sum: &mut [u8]) -> Told<4> {
     let mut told = proved::read(list, sum);
     if told.number == 18 {
         told.number = 15;
@@ -401,14 +401,14 @@ fn wrong_costs_are_found() {
 }
 
 /// 12 told of the record before the one that is refused.
-fn refused_too_early(list: &[u8], sum: &mut [u8]) -> Told<3> {
+fn refused_too_early(list: &[u8], sum: &mut [u8]) -> Told<4> {
     let mut told = proved::read(list, sum);
     told.answer[0] -= u64::from(told.number == 12);
     told
 }
 
 /// The lowest coefficient wrong by a bit where another sum was formed before.
-fn old_cells_left(list: &[u8], sum: &mut [u8]) -> Told<3> {
+fn old_cells_left(list: &[u8], sum: &mut [u8]) -> Told<4> {
     let told = proved::read(list, sum);
     if told.number == 0 && told.answer[1] > 20 {
         sum[16] ^= 1;
@@ -416,7 +416,7 @@ fn old_cells_left(list: &[u8], sum: &mut [u8]) -> Told<3> {
     told
 }
 
-fn last_product_told_as_12(list: &[u8], sum: &mut [u8]) -> Told<3> {
+fn last_product_told_as_12(list: &[u8], sum: &mut [u8]) -> Told<4> {
     let mut told = proved::read(list, sum);
     if told.number == 15 {
         told.number = 12;

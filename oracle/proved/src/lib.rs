@@ -124,8 +124,8 @@ pub struct Valued {
 /// the comparison put a wrong one in.
 #[derive(Clone, Copy)]
 pub struct Library {
-    /// Place, count and complex flag.
-    pub read: fn(&[u8], &mut [u8]) -> Told<3>,
+    /// Place, count, complex flag and pairs.
+    pub read: fn(&[u8], &mut [u8]) -> Told<4>,
     /// Place and count; so for all that follow, but the last three.
     pub derive: fn(&[u8], &mut [u8]) -> Told<2>,
     pub integrate: fn(&[u8], &mut [u8]) -> Told<2>,
@@ -173,7 +173,7 @@ macro_rules! from_bytes_to_bytes {
 }
 
 from_bytes_to_bytes! {
-    read, uplink_read, 3;
+    read, uplink_read, 4;
     derive, uplink_derive, 2;
     integrate, uplink_integrate, 2;
     derivative, uplink_derivative, 2;

@@ -109,6 +109,11 @@ pub(super) fn mul(a: &Expr, b: &Expr) -> Formed {
     product(a, b)
 }
 
+/// How many pairs of outermost terms a product tries, by its factors' lengths.
+pub(super) fn pairs_of(a: &Expr, b: &Expr) -> u64 {
+    a.0.len() as u64 * b.0.len() as u64
+}
+
 /// The product of two sums of which the Rust has shown that it gives one.
 fn product(a: &Expr, b: &Expr) -> Formed {
     let mut product = Expr::default();
@@ -155,6 +160,11 @@ fn quotient_term(a: &Term, b: &Term) -> Formed {
 }
 
 pub(super) fn pow(base: &Expr, power: &Expr) -> Formed {
+    pow_and_pairs(base, power, &mut 0)
+}
+
+/// A power; the pairs that its products try are added to this number.
+pub(super) fn pow_and_pairs(base: &Expr, power: &Expr, pairs: &mut u64) -> Formed {
     let is_e = base
         .as_constant()
         .is_some_and(|c| c == Complex::new(E, 0.0));
@@ -166,7 +176,7 @@ pub(super) fn pow(base: &Expr, power: &Expr) -> Formed {
         .and_then(Complex::into_real)
         .ok_or(TOO_COMPLEX)?;
     if power.fract() == 0.0 && power >= 0.0 {
-        whole_power(base, power)
+        whole_power(base, power, pairs)
     } else {
         base.clone().pow(power.into()).ok_or(TOO_COMPLEX)?;
         if !has_unit_coefs(base) {
@@ -178,7 +188,7 @@ pub(super) fn pow(base: &Expr, power: &Expr) -> Formed {
 
 /// If any product on the way gives 7, the first one does: the terms of a
 /// product are of the kinds of its factors.
-fn whole_power(base: &Expr, power: f64) -> Formed {
+fn whole_power(base: &Expr, power: f64, pairs: &mut u64) -> Formed {
     if power >= 2.0 {
         (base.clone() * base.clone()).ok_or(TOO_COMPLEX)?;
     }
@@ -190,6 +200,7 @@ fn whole_power(base: &Expr, power: f64) -> Formed {
     }
     let mut acc = base.clone();
     for _ in 1..power as usize {
+        *pairs += pairs_of(&acc, base);
         acc = product(&acc, base)?;
     }
     Ok(acc)

@@ -20,6 +20,7 @@ pub const MOST_STEPS: usize = 100_000;
 pub(super) struct Read {
     pub sum: Expr,
     pub complex: bool,
+    pub pairs: u64,
     pub handled: bool,
 }
 
@@ -39,6 +40,7 @@ pub(super) fn walk(nodes: &[Node], features: &mut Features) -> Result<Read, Stop
             handled: handled || sum.is_complex(),
             sum,
             complex: env.any_complex,
+            pairs: env.pairs,
         }),
         Err(Halt::Refused(refusal)) => Err(Stop::Refused { refusal, handled }),
         Err(Halt::TooLong) => Err(Stop::TooLong),
@@ -65,6 +67,8 @@ struct Env<'a> {
     held: usize,
     handled: usize,
     any_complex: bool,
+    /// Pairs of outermost terms in records of Mul and Pow.
+    pairs: u64,
     steps: usize,
     features: &'a mut Features,
 }
@@ -76,6 +80,7 @@ impl<'a> Env<'a> {
             held: 0,
             handled: 0,
             any_complex: false,
+            pairs: 0,
             steps: 0,
             features,
         }
@@ -182,6 +187,18 @@ impl<'a> Env<'a> {
         Ok(())
     }
 
+    /// [`Self::binary`] of a step whose pairs are counted.
+    fn counting(
+        &mut self,
+        name: &str,
+        form: impl FnOnce(Expr, Expr, &mut u64) -> Formed,
+    ) -> Result<(), u8> {
+        let mut pairs = 0;
+        self.binary(name, |b, a| form(b, a, &mut pairs))?;
+        self.pairs += pairs;
+        Ok(())
+    }
+
     fn primitive(&mut self, prim: Primitive) -> Result<(), u8> {
         match prim {
             Primitive::Identity => {
@@ -204,9 +221,14 @@ impl<'a> Env<'a> {
             Primitive::Sqrt => self.unary("Sqrt", |a| forming::pow(&a, &0.5.into())),
             Primitive::Add => self.binary("Add", forming::add),
             Primitive::Sub => self.binary("Sub", forming::sub),
-            Primitive::Mul => self.binary("Mul", |b, a| forming::mul(&b, &a)),
+            Primitive::Mul => self.counting("Mul", |b, a, pairs| {
+                *pairs = forming::pairs_of(&b, &a);
+                forming::mul(&b, &a)
+            }),
             Primitive::Div => self.binary("Div", |b, a| forming::div(&b, &a)),
-            Primitive::Pow => self.binary("Pow", |b, a| forming::pow(&b, &a)),
+            Primitive::Pow => {
+                self.counting("Pow", |b, a, pairs| forming::pow_and_pairs(&b, &a, pairs))
+            }
             Primitive::Exp => self.unary("Exp", |a| forming::pow(&E.into(), &a)),
             Primitive::Sin => self.unary("Sin", |a| forming::single(Term::Sin(a))),
             Primitive::Cos => self.unary("Cos", |a| forming::single(Term::Cos(a))),

@@ -14,7 +14,7 @@ use crate::{
     quiet::quietly,
     records,
     records::bytes_of,
-    stand_ins::steps::counted,
+    stand_ins::{pairs, steps::counted},
 };
 
 fn number_of(error: &AlgebraError) -> u8 {
@@ -63,15 +63,24 @@ pub mod rust {
     pub(in super::super) fn read_nodes(nodes: &[Node]) -> Outcome<ReadSum> {
         let asm = Assembly::default();
         catch(|| {
-            let data = nodes_expr(nodes, &asm);
+            let (data, pairs) = pairs::counted(0, || nodes_expr(nodes, &asm));
             match data.expr {
                 Ok(sum) => Ok(ReadSum {
                     complex: data.any_complex,
+                    pairs,
                     entries: sums::written(&sum),
                 }),
                 Err(error) => Err(refusal_in(nodes, &asm, &error)),
             }
         })
+    }
+
+    /// The pairs of a list that the Rust reads, counted from this number up.
+    pub fn pairs_from(from: u64, list: &[u8]) -> Option<u64> {
+        let nodes = parse(list).ok()?;
+        let asm = Assembly::default();
+        let (data, pairs) = pairs::counted(from, || nodes_expr(&nodes, &asm));
+        data.expr.is_ok().then_some(pairs)
     }
 
     /// How far the Rust comes in reading a list.
@@ -380,6 +389,7 @@ pub fn guard_read(list: &[u8]) -> Option<Result<ReadSum, Refusal>> {
     match guard::walk(&nodes, &mut Features::off()) {
         Ok(read) => Some(Ok(ReadSum {
             complex: read.complex,
+            pairs: read.pairs,
             entries: sums::written(&read.sum),
         })),
         Err(Stop::Refused { refusal, .. }) => Some(Err(refusal)),

@@ -6,7 +6,7 @@ use std::{collections::BTreeSet, fs, io, path::Path};
 use oracle::{
     algebra::{arms, random_sums::random_sum},
     features::Features,
-    functions, generate, judge, power_sums,
+    functions, generate, judge, multiplied, power_sums,
     random::Random,
     records::RECORD,
     stored::{Decider, Input},
@@ -222,8 +222,11 @@ fn value_items(inputs: &[Input]) -> (String, usize) {
 
 fn main() -> io::Result<()> {
     let folder = Path::new(env!("CARGO_MANIFEST_DIR")).join("../vectors");
-    let (lists, sums) = (select_lists(), select_sums());
+    let (mut lists, sums) = (select_lists(), select_sums());
     let faithful = select_faithful(&lists, &sums);
+    for list in multiplied::stored() {
+        lists.keep_once(Input::List(list));
+    }
     let values = select_values(&sums);
     let both = || lists.inputs.iter().chain(&sums.inputs);
     for (name, (text, count)) in [

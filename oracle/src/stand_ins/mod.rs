@@ -3,6 +3,7 @@
 
 pub mod check;
 pub mod node;
+pub mod pairs;
 pub mod primitive;
 pub mod steps;
 pub mod value;

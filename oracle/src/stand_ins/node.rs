@@ -12,7 +12,8 @@ use std::{
 use ecow::{EcoVec, eco_vec};
 
 use super::{
-    ImplPrimitive, Primitive, Signature, Value, check::SigCheckError, check::nodes_sig, steps,
+    ImplPrimitive, Primitive, Signature, Value, check::SigCheckError, check::nodes_sig, pairs,
+    steps,
 };
 
 #[derive(Debug, Clone, PartialEq)]
@@ -130,6 +131,7 @@ impl Node {
     /// The algebra asks for it as it begins a step, which is counted.
     pub fn span(&self) -> Option<usize> {
         steps::come_to(self);
+        pairs::come_to(self);
         self.first_span()
     }
     fn first_span(&self) -> Option<usize> {

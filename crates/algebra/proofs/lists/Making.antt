@@ -1,6 +1,6 @@
 -- Laws of what is made of what was read. Assumes nothing.
 use Prim.Native.Nat.{ℕ, _+_, _≤_, _<_}
-use mathlib.Core.Path.{_≡_, refl, ap, _∙_}
+use mathlib.Core.Path.{_≡_, refl, sym, ap, subst, _∙_}
 use mathlib.Core.Bool.{Bool, true, false, cond}
 use mathlib.Core.List.{List}
 use lib.Dec.{leb}
@@ -24,22 +24,22 @@ use Rattle.algebra.specs.declared.lists.Wanted.{Wanted}
 use Rattle.algebra.specs.declared.lists.Wanted.the-variants as wanted
 use Rattle.algebra.specs.Answer.Making.{refusedAt, answered, invert, Gives}
 use Rattle.algebra.specs.Entries.{inverseOf}
-use Rattle.algebra.specs.Reading.{flagOf, flagged}
+use Rattle.algebra.specs.Reading.{flagOf, pairsOf, flagged}
 use Rattle.algebra.specs.Contract.Lists.{madeBy, roomBy, Makes, unflagged}
 use Rattle.algebra.proofs.answer.Giving.{gives-refusal}
 use Rattle.algebra.proofs.lists.Reading.{gave-refused, gave-sum}
 
--- ---- the flag
+-- ---- the flag and the pairs
 
-pub flag-given : (w : Wanted) (x : Read) {out out′ : List ℕ} {a : Answer} → Gives (roomBy w) (madeBy w x) out out′ a → Makes w x out out′ (flagged (flagOf x) a)
-flag-given w x g = record { answered = ap (flagged (flagOf x)) (g .answered); written = g .written }
+pub flag-given : (w : Wanted) (x : Read) {out out′ : List ℕ} {a : Answer} → Gives (roomBy w) (madeBy w x) out out′ a → Makes w x out out′ (flagged (flagOf x) (pairsOf x) a)
+flag-given w x g = record { answered = ap (flagged (flagOf x) (pairsOf x)) (g .answered); written = g .written }
 
 pub flag-dropped : (w : Wanted) (x : Read) {out out′ : List ℕ} {r : ReadAnswer} → Makes w x out out′ r → Gives (roomBy w) (madeBy w x) out out′ (unflagged r)
-flag-dropped w x {out} m = record { answered = ap unflagged (m .answered) ∙ same (flagOf x) (answered (madeBy w x) (roomBy w out)); written = m .written }
+flag-dropped w x {out} m = record { answered = ap unflagged (m .answered) ∙ same (flagOf x) (pairsOf x) (answered (madeBy w x) (roomBy w out)); written = m .written }
   where
-    same : (c : Bool) (a : Answer) → unflagged (flagged c a) ≡ a
-    same c (answer.Done n) = refl
-    same c (answer.Refused q at) = refl
+    same : (c : Bool) (k : ℕ) (a : Answer) → unflagged (flagged c k a) ≡ a
+    same c k (answer.Done n) = refl
+    same c k (answer.Refused q at) = refl
 
 -- ---- a refusal of reading
 
@@ -56,7 +56,7 @@ refused-made wanted.Inverse q at false = by-number (leb (refusalNo q) 9)
     by-number false = (q, at, refl)
 
 pub refused-gives : (w : Wanted) {q : Refusal} {at : ℕ} {h : Bool} {a : Answer} (x : Read) (d : AlgebraData) (b : Book) (out : List ℕ) → d ≡ gave.Refused q at h → DataAs d b x
-    → a ≡ answered (madeBy w (reading.refusedAt q at h)) 0 → Makes w x out out (flagged false a)
+    → a ≡ answered (madeBy w (reading.refusedAt q at h)) 0 → Makes w x out out (flagged false 0 a)
 refused-gives w {q} {at} {h} x d b out e g k =
     let p = refused-made w q at h in
     let quiet : Gives (roomBy w) (madeBy w (reading.refusedAt q at h)) out out (answered (madeBy w (reading.refusedAt q at h)) 0) = rw (p .2) (gives-refusal (roomBy w) (p .0) (p .1) out) in
@@ -75,16 +75,20 @@ module _ (q : Refusal) (at : ℕ) {h : Bool} where
 -- ---- a sum
 
 -- what was read doesn't count as handled
-pub sum-unhandled : {h : Bool} (s : Sum) (c : Bool) (out : List ℕ) → h ≡ false → Gives recordsIn (inverseOf (done s c h)) out out (answer.Refused NotHandled 0)
-sum-unhandled s c out e = rw e (gives-refusal recordsIn NotHandled 0 out)
+pub sum-unhandled : {h : Bool} (s : Sum) (c : Bool) (k : ℕ) (out : List ℕ) → h ≡ false → Gives recordsIn (inverseOf (done s c h k)) out out (answer.Refused NotHandled 0)
+sum-unhandled s c k out e = rw e (gives-refusal recordsIn NotHandled 0 out)
 
-pub sum-handled : {h : Bool} {out out′ : List ℕ} {r : Answer} (s : Sum) (c : Bool) → h ≡ true → Gives recordsIn (invert c s) out out′ r → Gives recordsIn (inverseOf (done s c h)) out out′ r
-sum-handled s c e g = rw e g
+pub sum-handled : {h : Bool} {out out′ : List ℕ} {r : Answer} (s : Sum) (c : Bool) (k : ℕ) → h ≡ true → Gives recordsIn (invert c s) out out′ r
+    → Gives recordsIn (inverseOf (done s c h k)) out out′ r
+sum-handled s c k e g = rw e g
 
 -- by what is wanted
 pub sum-wanted : (w w′ : Wanted) (x : Read) {out out′ : List ℕ} {a : Answer} → w ≡ w′ → Gives (roomBy w′) (madeBy w′ x) out out′ a → Gives (roomBy w) (madeBy w x) out out′ a
 sum-wanted w w′ x e g = rw e g
 
-pub sum-gives : (w : Wanted) {n : ℕ} {c h : Bool} {out out′ : List ℕ} {a : Answer} (x : Read) (d : AlgebraData) (b : Book) → d ≡ gave.Sum n c h → DataAs d b x
-    → ((s : Sum) → Lies b 128 (128 + n) 4 s → Gives (roomBy w) (madeBy w (done s c h)) out out′ a) → Makes w x out out′ (flagged c a)
-sum-gives w {c = c} {h} x d b e g k = let y = gave-sum x d b e g in rw (y .is) (flag-given w (done (y .s) c h) (k (y .s) (y .lies)))
+pub sum-gives : (w : Wanted) {n : ℕ} {c h : Bool} {k : ℕ} {out out′ : List ℕ} {a : Answer} (x : Read) (d : AlgebraData) (b : Book) → d ≡ gave.Sum n c h k → DataAs d b x
+    → ((s : Sum) → Lies b 128 (128 + n) 4 s → (m : ℕ) → Gives (roomBy w) (madeBy w (done s c h m)) out out′ a) → Makes w x out out′ (flagged c k a)
+sum-gives w {c = c} {h} {out = out} {out′} {a} x d b e g f =
+    let y = gave-sum x d b e g in
+    let r = done (y .s) c h (y .pairs) in
+    rw (y .is) (subst (λ (m : ℕ). Makes w r out out′ (flagged c m a)) (sym (y .told)) (flag-given w r (f (y .s) (y .lies) (y .pairs))))

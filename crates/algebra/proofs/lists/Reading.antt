@@ -1,5 +1,5 @@
 -- Laws of what reading gave. Assumes nothing.
-use Prim.Native.Nat.{ℕ, _+_, _≤_}
+use Prim.Native.Nat.{ℕ, _+_, _≤_, min}
 use native.Mathlib.Omega.{arith}
 use mathlib.Core.Path.{_≡_, refl, subst}
 use mathlib.Core.Bool.{Bool, false}
@@ -14,6 +14,7 @@ use Rattle.arithmetic.specs.Add.Contract.Operands.{Source}
 use Rattle.formats.specs.declared.record.Verdict.the-variants as verdict
 use Rattle.formats.specs.Rules as rules
 use Rattle.formats.specs.Tree.{parse}
+use Rattle.stack.specs.State.{mostPairs}
 use Rattle.modifiers.specs.Reading.{Read, done, refusedAt}
 use Rattle.modifiers.specs.Contract.Room.{readHeld}
 use Rattle.reading.specs.declared.env.AlgebraData.{AlgebraData}
@@ -36,26 +37,28 @@ pub gave-refused : {q : Refusal} {at : ℕ} {h : Bool} (x : Read) (d : AlgebraDa
 gave-refused {q} {at} {h} x d b e g = go x (subst (λ y. DataAs y b x) e g)
   where
     go : (x : Read) → DataAs (gave.Refused q at h) b x → x ≡ refusedAt q at h
-    go (done s c k) g = absurd g
+    go (done s c k m) g = absurd g
     go (refusedAt p i k) g = rw (g .refusal, g .place, g .handled) refl
 
--- a sum, which lies in n cells behind the working places
-pub record SumRead (x : Read) (b : Book) (n : ℕ) (c h : Bool) : Type 0 where
+-- a sum, which lies in n cells behind the working places, and the pairs, which are told as k
+pub record SumRead (x : Read) (b : Book) (n : ℕ) (c h : Bool) (k : ℕ) : Type 0 where
   pub s : Sum
-  pub is : x ≡ done s c h
+  pub pairs : ℕ
+  pub is : x ≡ done s c h pairs
+  pub told : k ≡ min mostPairs pairs
   pub lies : Lies b 128 (128 + n) 4 s
   pub few : n ≤ 64
 
-pub gave-sum : {n : ℕ} {c h : Bool} (x : Read) (d : AlgebraData) (b : Book) → d ≡ gave.Sum n c h → DataAs d b x → SumRead x b n c h
-gave-sum {n} {c} {h} x d b e g = go x (subst (λ y. DataAs y b x) e g)
+pub gave-sum : {n : ℕ} {c h : Bool} {k : ℕ} (x : Read) (d : AlgebraData) (b : Book) → d ≡ gave.Sum n c h k → DataAs d b x → SumRead x b n c h k
+gave-sum {n} {c} {h} {k} x d b e g = go x (subst (λ y. DataAs y b x) e g)
   where
-    go : (x : Read) → DataAs (gave.Sum n c h) b x → SumRead x b n c h
-    go (done s i k) g =
-        record { s = s; is = rw (g .1, g .2) refl; lies = g .0 .lies; few = omega (arith, g .0 .lies .ends, g .0 .good .room) }
-    go (refusedAt q at k) g = absurd g
+    go : (x : Read) → DataAs (gave.Sum n c h k) b x → SumRead x b n c h k
+    go (done s i j m) g =
+        record { s = s; pairs = m; is = rw (g .1, g .2) refl; told = g .3; lies = g .0 .lies; few = omega (arith, g .0 .lies .ends, g .0 .good .room) }
+    go (refusedAt q at j) g = absurd g
 
 -- it is apart from the working places
-pub gave-source : {n : ℕ} {c h : Bool} (x : Read) (d : AlgebraData) (b : Book) → d ≡ gave.Sum n c h → DataAs d b x → Source b 128 n 0 × Room b (0 + (64 + 64))
+pub gave-source : {n : ℕ} {c h : Bool} {k : ℕ} (x : Read) (d : AlgebraData) (b : Book) → d ≡ gave.Sum n c h k → DataAs d b x → Source b 128 n 0 × Room b (0 + (64 + 64))
 gave-source x d b e g =
     let w = gave-sum x d b e g in
     (record { few = w .few; held = (w .s, w .lies); apart = over (omega arith) }, room-less (omega arith) (w .lies .room))

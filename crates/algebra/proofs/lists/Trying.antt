@@ -25,27 +25,27 @@ use Rattle.algebra.specs.declared.lists.Wanted.the-variants.{Sum, Deriva
 use Rattle.algebra.specs.Answer.Making as making
 use Rattle.algebra.specs.Answer.Making.{Made, made, answered, written}
 use Rattle.algebra.specs.Entries.{unhandled}
-use Rattle.algebra.specs.Reading.{byVerdict, readList, flagOf, flagged}
+use Rattle.algebra.specs.Reading.{byVerdict, readList, flagOf, pairsOf, flagged}
 use Rattle.algebra.specs.Contract.Lists.{listHeld, madeBy, roomBy, Makes, isFullAnswer, Tries}
 
 -- ---- 12
 
 -- 12 is never replaced
-kept-number : (q : Refusal) (at room : ℕ) (c : Bool) → isNoRoom q ≡ true → isFullAnswer (flagged c (answered (unhandled q at) room)) ≡ true
-kept-number q at room c e =
+kept-number : (q : Refusal) (at room : ℕ) (c : Bool) (k : ℕ) → isNoRoom q ≡ true → isFullAnswer (flagged c k (answered (unhandled q at) room)) ≡ true
+kept-number q at room c k e =
     let n = eqb-true (refusalNo q) 12 e in
     rw (lt-leb (refusalNo q) 9 (omega (arith, n))) e
 
 -- where reading is refused with it, so is what is made
-full-made : (w : Wanted) (x : Read) (room : ℕ) → isFullRead x ≡ true → isFullAnswer (flagged (flagOf x) (answered (madeBy w x) room)) ≡ true
-full-made w (done s c h) room e = differ (sym e)
+full-made : (w : Wanted) (x : Read) (room : ℕ) → isFullRead x ≡ true → isFullAnswer (flagged (flagOf x) (pairsOf x) (answered (madeBy w x) room)) ≡ true
+full-made w (done s c h k) room e = differ (sym e)
 full-made Sum (refusedAt q at h) room e = e
 full-made (Derivative w) (refusedAt q at h) room e = e
 full-made (Integral w) (refusedAt q at h) room e = e
 full-made Inverse (refusedAt q at true) room e = e
-full-made Inverse (refusedAt q at false) room e = kept-number q at room false e
+full-made Inverse (refusedAt q at false) room e = kept-number q at room false 0 e
 
-not-full : (w : Wanted) (x : Read) (room : ℕ) → isFullAnswer (flagged (flagOf x) (answered (madeBy w x) room)) ≡ false → isFullRead x ≡ false
+not-full : (w : Wanted) (x : Read) (room : ℕ) → isFullAnswer (flagged (flagOf x) (pairsOf x) (answered (madeBy w x) room)) ≡ false → isFullRead x ≡ false
 not-full w x room e = go (isFullRead x) refl
   where
     go : (b : Bool) → isFullRead x ≡ b → b ≡ false
@@ -53,13 +53,13 @@ not-full w x room e = go (isFullRead x) refl
     go false k = refl
 
 -- a 12 changes no byte
-full-kept : (c : Bool) (m : Made) (room : ℕ) (out : List ℕ) → isFullAnswer (flagged c (answered m room)) ≡ true → written m room out ≡ out
-full-kept c (making.refusedAt q at) room out e = refl
-full-kept c (made n bytes) room out e = go (leb n room) e
+full-kept : (c : Bool) (k : ℕ) (m : Made) (room : ℕ) (out : List ℕ) → isFullAnswer (flagged c k (answered m room)) ≡ true → written m room out ≡ out
+full-kept c k (making.refusedAt q at) room out e = refl
+full-kept c k (made n bytes) room out e = go (leb n room) e
   where
-    go : (b : Bool) → isFullAnswer (flagged c (cond b (answer.Done n) (answer.Refused OutputRoom 0))) ≡ true → cond b (sets out 0 bytes) out ≡ out
-    go true k = differ (sym k)
-    go false k = refl
+    go : (b : Bool) → isFullAnswer (flagged c k (cond b (answer.Done n) (answer.Refused OutputRoom 0))) ≡ true → cond b (sets out 0 bytes) out ≡ out
+    go true f = differ (sym f)
+    go false f = refl
 
 -- ---- the two tries
 
@@ -75,7 +75,7 @@ pub first-try : (w : Wanted) (h : ℕ) (l : List ℕ) {out out′ : List ℕ} {r
 first-try w h l {out} m =
     record {
       made = λ e. rw (list-small h l (not-full w (listHeld h l) (roomBy w out) (sym (ap isFullAnswer (m .answered)) ∙ e))) m;
-      kept = λ e. m .written ∙ full-kept (flagOf (listHeld h l)) (madeBy w (listHeld h l)) (roomBy w out) out (sym (ap isFullAnswer (m .answered)) ∙ e);
+      kept = λ e. m .written ∙ full-kept (flagOf (listHeld h l)) (pairsOf (listHeld h l)) (madeBy w (listHeld h l)) (roomBy w out) out (sym (ap isFullAnswer (m .answered)) ∙ e);
     }
 
 pub whole-list : (l : List ℕ) → listHeld 0 l ≡ readList l

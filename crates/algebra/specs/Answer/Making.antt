@@ -107,5 +107,5 @@ pub record OfBytes (room : List ℕ → ℕ) (f : Sum → Made) (l out out′ : 
 
 -- document 01's numbers
 abbrev pub answerNumbers : Answer → Numbers
-answerNumbers (answer.Done n) = record { number = 0; place = 0; count = n; flag = false }
-answerNumbers (answer.Refused q at) = record { number = refusalNo q; place = at; count = 0; flag = false }
+answerNumbers (answer.Done n) = record { number = 0; place = 0; count = n; flag = false; pairs = 0 }
+answerNumbers (answer.Refused q at) = record { number = refusalNo q; place = at; count = 0; flag = false; pairs = 0 }

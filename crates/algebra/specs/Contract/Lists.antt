@@ -17,7 +17,7 @@ use Rattle.algebra.specs.declared.lists.Wanted.the-variants.{Sum, Deriva
 use Rattle.algebra.specs.Answer.Promises.{Promise}
 use Rattle.algebra.specs.Answer.Making.{Made, answered, written}
 use Rattle.algebra.specs.Contract.Writers.{deriveAndWriteBy, integrateAndWriteBy}
-use Rattle.algebra.specs.Reading.{byVerdict, readList, madeOf, flagOf, flagged}
+use Rattle.algebra.specs.Reading.{byVerdict, readList, madeOf, flagOf, pairsOf, flagged}
 use Rattle.algebra.specs.Entries.{afterRead, inverseOf}
 
 -- a list read with h entries held from the start
@@ -37,18 +37,18 @@ roomBy (Derivative w) out = recordsIn out
 roomBy (Integral w) out = recordsIn out
 roomBy Inverse out = recordsIn out
 
--- it is answered, with the flag where it isn't refused, and written
+-- it is answered, with the flag and the pairs where it isn't refused, and written
 abbrev pub Makes : Wanted → Read → List ℕ → List ℕ → ReadAnswer → Type 0
-Makes w x out out′ r = Promise (λ o. flagged (flagOf x) (answered (madeBy w x) (roomBy w o))) (λ o. written (madeBy w x) (roomBy w o) o) out out′ r
+Makes w x out out′ r = Promise (λ o. flagged (flagOf x) (pairsOf x) (answered (madeBy w x) (roomBy w o))) (λ o. written (madeBy w x) (roomBy w o) o) out out′ r
 
--- the answer without the flag
+-- the answer without the flag and the pairs
 abbrev pub unflagged : ReadAnswer → Answer
-unflagged (answer.Sum n c) = given.Done n
+unflagged (answer.Sum n c k) = given.Done n
 unflagged (answer.Refused q at) = given.Refused q at
 
 -- refused with 12
 abbrev pub isFullAnswer : ReadAnswer → Bool
-isFullAnswer (answer.Sum n c) = false
+isFullAnswer (answer.Sum n c k) = false
 isFullAnswer (answer.Refused q at) = isNoRoom q
 
 -- a first try: its answer is the list's, or it is 12, which says nothing yet, and no byte is changed

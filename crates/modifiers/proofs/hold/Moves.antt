@@ -115,7 +115,7 @@ held-under {a} {a′} {v} {env} at k w ready found moved =
             held = stacked-at (omega arith) (omega arith) (up .0);
             cells = omega arith;
             few = omega arith;
-            stands = record { stack = up .1; below = omega arith; handled = s .handled; complex = s .complex };
+            stands = record { stack = up .1; below = omega arith; handled = s .handled; complex = s .complex; pairs = s .pairs };
             same = λ f. taking-some at k st f (c .enough);
           };
     }
@@ -136,7 +136,7 @@ nothing-held {a} {v} st s same = record {
   held = stacked-none a (v - 0) v (omega arith);
   cells = refl;
   few = omega arith;
-  stands = let b = s .below in record { stack = s .stack; below = omega arith; handled = s .handled; complex = s .complex };
+  stands = let b = s .below in record { stack = s .stack; below = omega arith; handled = s .handled; complex = s .complex; pairs = s .pairs };
   same = same;
 }
 
@@ -147,7 +147,7 @@ dropped {a} {v} {env} at w found = record {
       let c = cut 1 w (st .stack) found (s .stack) in
       let high = c .high in
       let below = s .below in
-      nothing-held (withStack (drop 1 (st .stack)) st) (record { stack = c .rest; below = omega arith; handled = s .handled; complex = s .complex })
+      nothing-held (withStack (drop 1 (st .stack)) st) (record { stack = c .rest; below = omega arith; handled = s .handled; complex = s .complex; pairs = s .pairs })
       (λ f. taking-some at 1 st (λ ss st′. f [] st′) (c .enough));
 }
 
@@ -193,7 +193,7 @@ lent-fits {a} {a′} {v} {env} at n ds ready space low fits moved =
           let taken = stacked-total (s .stack) in
           let both = stacked-sunk moved low (s .stack) space below in
           agree-went (withStack (ds ++ st .stack) st) (lend-fits at (1152 - v) ds st (omega arith))
-          (record { stack = stacked-join (both .0) (both .1); below = fits; handled = s .handled; complex = s .complex });
+          (record { stack = stacked-join (both .0) (both .1); below = fits; handled = s .handled; complex = s .complex; pairs = s .pairs });
     }
 
 pub lent-full : {a : Arena} {v : ℕ} {env : AlgebraEnv} (at n : ℕ) (ds : List Sum) → Ready a v env → Stacked a v (v + n) ds → v < env .used + n
@@ -298,8 +298,8 @@ copied-fits {a} {b} {c} {v} {env} w n at ready inside fits up down =
           let raised = stacked-raised up upper (s .stack) (space-less (omega arith) (ready .space)) in
           let copy = stacked-moved w (w + n) n (λ j h. ap (slot b) (omega arith) ∙ up .moved (w + j) (omega arith) (omega arith)) (space-less (omega arith) room) ds low in
           let sunk = stacked-sunk down copy (raised .1) (space-less (omega arith) room) (omega arith) in
-          nothing-held (withStack ((ss ++ ds) ++ st .stack) st)
-          (record { stack = stacked-join (stacked-join (stacked-above (down .outside) (omega arith) (raised .0)) (sunk .0)) (sunk .1); below = fits; handled = s .handled; complex = s .complex })
+          let all = stacked-join (stacked-join (stacked-above (down .outside) (omega arith) (raised .0)) (sunk .0)) (sunk .1) in
+          nothing-held (withStack ((ss ++ ds) ++ st .stack) st) (record { stack = all; below = fits; handled = s .handled; complex = s .complex; pairs = s .pairs })
           (λ f. ap (λ (o : Walked). andThen o (λ st′. f [] st′)) (lend-fits at (1152 - v) (ss ++ ds) st (omega arith)));
     }
 
@@ -332,7 +332,7 @@ copied {a} {a′} {v} {env} at k w u r found next did = record {
       let low = stacked-le one in
       begun-same a′ v r (λ f. taking-some at k st (λ ss st′. andThen (lend at (1152 - v) (ss ++ deepest 1 ss) st′) (λ st″. f [] st″)) (c .enough))
       (did .copies (take k (st .stack)) (deepest 1 (take k (st .stack))) (withStack (drop k (st .stack)) st) (c .top) (stacked-at refl (omega arith) one)
-      (record { stack = c .rest; below = omega arith; handled = s .handled; complex = s .complex }));
+      (record { stack = c .rest; below = omega arith; handled = s .handled; complex = s .complex; pairs = s .pairs }));
 }
 
 pub copied-short : {a : Arena} {v : ℕ} {env : AlgebraEnv} (at k : ℕ) (r : Begun) → r ≡ Halted TooManyVariables at (leb 2 (env .handled)) → Found a 128 (env .used) k Short
@@ -353,5 +353,5 @@ put-back m ready space moved =
       back = λ ss st up s.
           let below = s .below in
           let both = stacked-sunk moved up (s .stack) space below in
-          record { stack = stacked-join (both .0) (both .1); below = omega arith; handled = s .handled; complex = s .complex };
+          record { stack = stacked-join (both .0) (both .1); below = omega arith; handled = s .handled; complex = s .complex; pairs = s .pairs };
     }

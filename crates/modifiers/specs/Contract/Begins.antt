@@ -36,7 +36,7 @@ pub record Begins (a a′ : Arena) (v : ℕ) (env : AlgebraEnv) (r : Begun) (G :
 
 -- the same state with the stack up to u alone
 abbrev pub upTo : ℕ → AlgebraEnv → AlgebraEnv
-upTo u env = record { used = u; handled = env .handled; complex = env .complex }
+upTo u env = record { used = u; handled = env .handled; complex = env .complex; pairs = env .pairs }
 
 -- of the sums from w up to the stack's end those of the lowest n cells are put below them once more
 pub record CopiesBelow (a a′ : Arena) (w n at v : ℕ) (env : AlgebraEnv) (r : Begun) : Type 0 where

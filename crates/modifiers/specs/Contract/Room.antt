@@ -19,7 +19,7 @@ isFull (went st) = false
 isFull (stopped q at b) = isNoRoom q
 
 abbrev pub isFullRead : Read → Bool
-isFullRead (done s c b) = false
+isFullRead (done s c b k) = false
 isFullRead (refusedAt q at b) = isNoRoom q
 
 -- a list read with h entries held from the start

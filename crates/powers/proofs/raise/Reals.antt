@@ -21,6 +21,7 @@ use Rattle.sums.specs.Tree.Good.{Good}
 use Rattle.sums.specs.Tree.Map.{Outcome, refused, Found, at, absent, unless}
 use Rattle.arithmetic.specs.Singles.{isOne, alone, asConstant, isX}
 use Rattle.arithmetic.specs.Power.{wholePower, rootable, unitCoefs, rooted, power, byReal, isEuler, pow, log}
+use Rattle.arithmetic.specs.Pairs.{wholePairs, powerPairs, realPairs, powPairs}
 use Rattle.arithmetic.proofs.Steps.{differ}
 use Rattle.sums.specs.Contract.Heads.{GoodHead}
 use Rattle.arithmetic.specs.declared.add.Constant.{Constant}
@@ -45,14 +46,22 @@ pub euler-is : (f : Found) → eulerIs (constantOf f) ≡ isEuler f
 euler-is (at c) = refl
 euler-is absent = refl
 
+-- the constant whose real number it is
+found : (f : Found) (e : Float) → realOf (constantOf f) ≡ Is e → (c : Complex) × (f ≡ at c) × (complex.isReal c ≡ true) × (c .re ≡ e)
+found absent e h = absurd (let z : _≡_ {A = ℕ} 0 1 = cc in omega arith)
+found (at c) e h = go (complex.isReal c) refl h
+  where
+    go : (b : Bool) → complex.isReal c ≡ b → cond b (Is (c .re)) Other ≡ Is e → (d : Complex) × (at c ≡ at d) × (complex.isReal d ≡ true) × (d .re ≡ e)
+    go true z h = (c, refl, z, cc)
+    go false z h = absurd (let z : _≡_ {A = ℕ} 0 1 = cc in omega arith)
+
 -- a real number
 pub by-real-is : (f : Found) (g : Float → Outcome) (e : Float) → realOf (constantOf f) ≡ Is e → byReal f g ≡ g e
-by-real-is absent g e h = absurd (let z : _≡_ {A = ℕ} 0 1 = cc in omega arith)
-by-real-is (at c) g e h = go (complex.isReal c) h
-  where
-    go : (b : Bool) → cond b (Is (c .re)) Other ≡ Is e → unless b TooComplex (g (c .re)) ≡ g e
-    go true h = ap g (cc)
-    go false h = absurd (let z : _≡_ {A = ℕ} 0 1 = cc in omega arith)
+by-real-is f g e h = let w = found f e h in rw (w .1, w .2) (ap g (w .3))
+
+-- and the pairs by it
+real-pairs-is : (f : Found) (g : Float → ℕ) (e : Float) → realOf (constantOf f) ≡ Is e → realPairs f g ≡ g e
+real-pairs-is f g e h = let w = found f e h in rw (w .1, w .2) (ap g (w .3))
 
 -- none
 pub by-real-not : (f : Found) (g : Float → Outcome) → realOf (constantOf f) ≡ Other → byReal f g ≡ refused TooComplex
@@ -95,17 +104,32 @@ module _ (s : Sum) (e : Float) where
       pub power-root : unitCoefs s ≡ true → power s e ≡ rooted e s
       power-root u = rw (h, r, u)
 
+  -- the pairs of a whole power, and none of a root
+  pub power-pairs-whole : isWhole e && le zero64 e ≡ true → powerPairs s e ≡ wholePairs s (smallWhole e)
+  power-pairs-whole h = rw h
+
+  pub power-pairs-root : isWhole e && le zero64 e ≡ false → powerPairs s e ≡ 0
+  power-pairs-root h = rw h
+
 module _ (s t : Sum) where
   -- E to a single x
   pub pow-exp : isEuler (asConstant s) && isX t ≡ true → pow s t ≡ alone Exp zero64 t complex.one
   unfolding pow
   pow-exp h = rw h
 
+  pub pow-pairs-exp : isEuler (asConstant s) && isX t ≡ true → powPairs s t ≡ 0
+  unfolding powPairs
+  pow-pairs-exp h = rw h
+
   module _ (h : isEuler (asConstant s) && isX t ≡ false) where
     -- a real power
     pub pow-real : (e : Float) → realOf (constantOf (asConstant t)) ≡ Is e → pow s t ≡ power s e
     unfolding pow
     pow-real e r = rw h (by-real-is (asConstant t) (power s) e r)
+
+    pub pow-pairs-real : (e : Float) → realOf (constantOf (asConstant t)) ≡ Is e → powPairs s t ≡ powerPairs s e
+    unfolding powPairs
+    pow-pairs-real e r = rw h (real-pairs-is (asConstant t) (powerPairs s) e r)
 
     -- any other
     pub pow-not : realOf (constantOf (asConstant t)) ≡ Other → pow s t ≡ refused TooComplex

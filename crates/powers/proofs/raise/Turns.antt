@@ -1,5 +1,5 @@
 -- Products by turns: where they lie, and what is left to do. Assumes nothing.
-use Prim.Native.Nat.{ℕ, suc, _+_, _-_, _%_, _≤_, _<_}
+use Prim.Native.Nat.{ℕ, suc, _+_, _*_, _-_, _%_, _≤_, _<_}
 use native.Mathlib.Omega.{arith}
 use borrow.Author.Tests.{eqb-true, eqb-false}
 use mathlib.Core.Path.{_≡_, refl, sym, ap, subst, _∙_}
@@ -8,10 +8,12 @@ use lib.Dec.{eqb}
 use Rattle.limits.specs.declared.Refusal.{Refusal}
 use Rattle.cells.specs.Contract.Book.{Book, Room}
 use Rattle.cells.specs.Contract.Moves.{Apart, under, over, Kept}
-use Rattle.sums.specs.Tree.Sums.{Sum}
+use Rattle.sums.specs.Tree.Sums.{Sum, len}
 use Rattle.arithmetic.specs.Product.{product}
 use Rattle.arithmetic.specs.Power.{raised}
+use Rattle.arithmetic.specs.Pairs.{raisedPairs}
 use Rattle.arithmetic.proofs.Agree.{raised-none, raised-sum, raised-refused}
+use Rattle.arithmetic.proofs.Pairs.{pairs-len, raised-pairs-none, raised-pairs-more}
 use Rattle.sums.specs.declared.order.Formed.{Formed}
 use Rattle.sums.specs.declared.order.Formed.the-variants.{Done, Refused}
 use Rattle.sums.specs.Contract.Lies.{Lies, Agrees}
@@ -68,17 +70,18 @@ pub data Place (w i n times : ℕ) : ℕ → ℕ → ℕ → Type 0 where
   first : {left : ℕ} → left ≡ times → Place w i n times i n left
   turned : {from len left : ℕ} → from ≡ turnPlace w (left + 1) → Place w i n times from len left
 
--- s is the base; so many products are left
-pub record So-far (b : Book) (from len left times : ℕ) (s : Sum) : Type 0 where
+-- s is the base; so many products are left, and k pairs are multiplied
+pub record So-far (b : Book) (from n left times k : ℕ) (s : Sum) : Type 0 where
   pub acc : Sum
-  pub made : Lies b from (from + len) 4 acc
+  pub made : Lies b from (from + n) 4 acc
   pub same : raised times s s ≡ raised left acc s
+  pub counts : raisedPairs times s s ≡ k + raisedPairs left acc s
 
-pub so-far-start : {b : Book} {i n : ℕ} (times : ℕ) {s : Sum} → Lies b i (i + n) 4 s → So-far b i n times times s
-so-far-start times {s} l = record { acc = s; made = l; same = refl }
+pub so-far-start : {b : Book} {i n : ℕ} (times : ℕ) {s : Sum} → Lies b i (i + n) 4 s → So-far b i n times times 0 s
+so-far-start times {s} l = record { acc = s; made = l; same = refl; counts = omega arith }
 
 -- the product so far, where a turn goes
-pub turn-so-far : {b : Book} {w i n times from len left p : ℕ} {s : Sum} → Source b i n w → len ≤ 64 → Place w i n times from len left → So-far b from len left times s → p ≡ turnPlace w left
+pub turn-so-far : {b : Book} {w i n times from len left p k : ℕ} {s : Sum} → Source b i n w → len ≤ 64 → Place w i n times from len left → So-far b from len left times k s → p ≡ turnPlace w left
     → Operand b from len p
 turn-so-far {left = left} S few (first z) F e = turn-base (turn-two left e) S
 turn-so-far {b} {w} {from = from} {len = len} {left = left} S few (turned z) F e =
@@ -94,21 +97,35 @@ pub last-place : {w i n times from len left : ℕ} → 0 < times → left ≡ 0 
 last-place h z (first e) = absurd (omega (arith, e))
 last-place {w} h z (turned e) = e ∙ ap (λ (m : ℕ). turnPlace w (m + 1)) z
 
-module _ {b : Book} (b′ : Book) (p : ℕ) {from len left times : ℕ} {s : Sum} (h : 0 < left) (F : So-far b from len left times s) (r : Formed) (a : Agrees r b′ p (product (F .acc) s)) where
-  one-more : raised times s s ≡ raised (suc (left - 1)) (F .acc) s
-  one-more = let same : left ≡ suc (left - 1) = omega arith in F .same ∙ ap (λ (m : ℕ). raised m (F .acc) s) same
+module _ {b : Book} (b′ : Book) (p : ℕ) {from n left times k : ℕ} {s : Sum} (h : 0 < left) (F : So-far b from n left times k s) (r : Formed) (a : Agrees r b′ p (product (F .acc) s)) where
+  again : left ≡ suc (left - 1)
+  again = omega arith
 
-  -- a product was formed
-  pub so-far-more : (m : ℕ) → r ≡ Done m → (m ≤ 64) × So-far b′ p m (left - 1) times s
-  so-far-more m e =
+  one-more : raised times s s ≡ raised (suc (left - 1)) (F .acc) s
+  one-more = F .same ∙ ap (λ (m : ℕ). raised m (F .acc) s) again
+
+  -- a product was formed, of each term so far with each of the base
+  pub so-far-more : (m more : ℕ) → r ≡ Done m → more ≡ len (F .acc) * len s → (m ≤ 64) × So-far b′ p m (left - 1) times (k + more) s
+  so-far-more m more e f =
       let d = agreed-done b′ p m r (product (F .acc) s) a e in
-      (d .few, record { acc = d .s; made = d .lies; same = one-more ∙ raised-sum (left - 1) (F .acc) s (d .s) (d .is) })
+      let left-over = F .counts ∙ ap (λ (m : ℕ). k + raisedPairs m (F .acc) s) again in (
+        d .few,
+        record {
+          acc = d .s;
+          made = d .lies;
+          same = one-more ∙ raised-sum (left - 1) (F .acc) s (d .s) (d .is);
+          counts = omega (arith, left-over, raised-pairs-more (left - 1) (F .acc) s (d .s) (d .is), pairs-len (F .acc) s, f);
+        },
+      )
 
   -- or none
   pub so-far-stops : (w : ℕ) (q : Refusal) → r ≡ Refused q → Agrees (Refused q) b′ w (raised times s s)
   so-far-stops w q e = agree-refused b′ w q _ (one-more ∙ raised-refused (left - 1) (F .acc) s q (agreed-refused b′ p q r (product (F .acc) s) a e))
 
 -- nothing is left
-pub so-far-done : {b : Book} {w from len left times : ℕ} {s : Sum} → len ≤ 64 → left ≡ 0 → from ≡ w → So-far b from len left times s → Agrees (Done len) b w (raised times s s)
-so-far-done {b} {w} {from} {len} {left} {times} {s} few z e F =
-    agree-done b w len _ (F .acc) (F .same ∙ ap (λ (m : ℕ). raised m (F .acc) s) z ∙ raised-none (F .acc) s) few (subst (λ (k : ℕ). Lies b k (k + len) 4 (F .acc)) e (F .made))
+pub so-far-done : {b : Book} {w from n left times k : ℕ} {s : Sum} → n ≤ 64 → left ≡ 0 → from ≡ w → So-far b from n left times k s → Agrees (Done n) b w (raised times s s)
+so-far-done {b} {w} {from} {n} {left} {times} {k} {s} few z e F =
+    agree-done b w n _ (F .acc) (F .same ∙ ap (λ (m : ℕ). raised m (F .acc) s) z ∙ raised-none (F .acc) s) few (subst (λ (j : ℕ). Lies b j (j + n) 4 (F .acc)) e (F .made))
+
+pub so-far-counted : {b : Book} {from n left times k : ℕ} {s : Sum} → left ≡ 0 → So-far b from n left times k s → k ≡ raisedPairs times s s
+so-far-counted {left = left} {s = s} z F = omega (arith, F .counts, ap (λ (m : ℕ). raisedPairs m (F .acc) s) z, raised-pairs-none (F .acc) s)

@@ -14,6 +14,7 @@ use Rattle.sums.specs.Tree.Map.{putIn, coefIn, formed, sum, refused}
 use Rattle.arithmetic.specs.Singles.{alone, constant}
 use Rattle.arithmetic.specs.Product.{mulable}
 use Rattle.arithmetic.specs.Power.{raised, wholePower}
+use Rattle.arithmetic.specs.Pairs.{raisedPairs, wholePairs}
 
 -- the constant 0 can be formed
 pub zero-is : alone X zero64 none complex.zero ≡ sum (constant complex.zero)
@@ -35,3 +36,12 @@ whole-zero s k h = rw h (sym zero-is)
 pub whole-some : (s : Sum) (k : ℕ) → (k ≡ 0 → ⊥) → wholePower s (small.Is k) ≡ raised (k - 1) s s
 whole-some s zero h = absurd (h refl)
 whole-some s (suc k) h = ap (λ (n : ℕ). raised n s s) (omega arith)
+
+-- ---- their pairs
+
+pub whole-pairs-zero : (s : Sum) (k : ℕ) → k ≡ 0 → wholePairs s (small.Is k) ≡ 0
+whole-pairs-zero s k h = rw h
+
+pub whole-pairs-some : (s : Sum) (k : ℕ) → (k ≡ 0 → ⊥) → wholePairs s (small.Is k) ≡ raisedPairs (k - 1) s s
+whole-pairs-some s zero h = absurd (h refl)
+whole-pairs-some s (suc k) h = ap (λ (n : ℕ). raisedPairs n s s) (omega arith)

@@ -2,3 +2,4 @@
 pub mod Roots
 pub mod Turns
 pub mod Reals
+pub mod Pairs

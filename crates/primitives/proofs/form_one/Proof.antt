@@ -73,7 +73,7 @@ form-one-spec =
     (λ c.
     let made = c .before .before .before .before .before in
     let told = made .before .before .before .before in
-    (made .power-by .ensures .0, λ s ls. rw (told .enum-told4 .given .1) (rw (pow-constant s (ofBits binary64 0x3fe0000000000000)) (made .power-by .ensures .1 s ls))))
+    (made .power-by .ensures .0, λ s ls. rw (told .enum-told4 .given .1) (rw (pow-constant s (ofBits binary64 0x3fe0000000000000)) (made .power-by .ensures .1 .0 s ls))))
     (λ c. search needs)
     (λ c. search needs)
     (λ c. search needs)

@@ -1,8 +1,8 @@
 -- `primitives::form_two` meets its contract: in each arm the primitive is the arm's. Assumes nothing.
 use Prim.Native.Nat.{_+_}
 use borrow.Author.Needs.{needs}
-use Rattle.primitives.proofs.Cases.{kept-two}
-use Rattle.arithmetic.proofs.add.Places.{kept-result, room-result, result-operand}
+use mathlib.Core.Path.{sym}
+use Rattle.primitives.proofs.Cases.{uncounted, pairs-none, pairs-mul, pairs-pow}
 use Rattle.primitives.proofs.form_two.Statement.{statement}
 use Rattle.primitives.proofs.form_two.Tie as tie
 
@@ -11,73 +11,41 @@ form-two-spec =
     tie.close
     (tie.spec
     (λ c. search needs)
-    (λ c κs. let st = c .before .before .before .before .before .before .before in (result-operand (st .pre .2), result-operand (st .pre .3), room-result (st .args .w) (st .pre .4)))
+    (λ c κs. search needs)
     (λ c. search needs)
-    (λ c κs. let st = c .before .before .before .before .before .before .before in (result-operand (st .pre .2), result-operand (st .pre .3), room-result (st .args .w) (st .pre .4)))
-    (λ c. search needs)
-    (λ c κs. let st = c .before .before .before .before .before .before .before in (result-operand (st .pre .2), result-operand (st .pre .3), room-result (st .args .w) (st .pre .4)))
-    (λ c. search needs)
-    (λ c κs. let st = c .before .before .before .before .before .before .before in record { left = st .pre .2; right = st .pre .3; some = st .pre .1; room = st .pre .4 })
-    (λ c. search needs)
-    (λ c κs. let st = c .before .before .before .before .before .before .before in (st .pre .2, st .pre .3, st .pre .4))
-    (λ c. search needs)
-    (λ c κs. let st = c .before .before .before .before .before .before .before in (st .pre .0, result-operand (st .pre .2), st .pre .3 .held, room-result (st .args .w) (st .pre .4)))
-    (λ c. search needs)
-    (λ c κs. let st = c .before .before .before .before .before .before .before in (st .pre .2, st .pre .3, st .pre .4))
-    (λ c κs. let st = c .before .before .before .before .before .before in (result-operand (st .pre .2), room-result (st .args .w) (st .pre .4)))
+    (λ c κs. search needs)
+    (λ c κs.
+    let any = c .before .before .before in
+    let pre = any .before .before .before .pre in
+    (uncounted _ (any .match .keys3), pre .0, pre .1, pre .2, pre .3, pre .4))
     (λ c. search needs)
     (λ c. search needs)
     (λ c. search needs)
     (λ c.
     let made = c .before .before .before .before .before in
-    let told = made .before .before .before .before in
-    (kept-result (made .expr-add .ensures .0), λ b a lb la. rw (told .enum-told .given .1) (made .expr-add .ensures .1 b a lb la)))
+    let told = made .before .before .before .before in (
+      made .multiplied .ensures .0,
+      (
+        λ b a lb la. rw (told .enum-told .given .1) (made .multiplied .ensures .1 .0 b a lb la),
+        λ b a lb la. rw (told .enum-told .given .1, pairs-mul b a) (made .multiplied .ensures .1 .1 b a lb la),
+      ),
+    ))
     (λ c. search needs)
     (λ c. search needs)
     (λ c. search needs)
     (λ c.
     let made = c .before .before .before .before .before in
-    let told = made .before .before .before .before in
-    (kept-result (made .expr-add2 .ensures .0), λ b a lb la. rw (told .enum-told2 .given .1) (made .expr-add2 .ensures .1 b a lb la)))
-    (λ c. search needs)
-    (λ c. search needs)
-    (λ c. search needs)
-    (λ c.
-    let made = c .before .before .before .before .before in
-    let told = made .before .before .before .before in
-    (kept-result (made .mul .ensures .0), λ b a lb la. rw (told .enum-told3 .given .1) (made .mul .ensures .1 b a lb la)))
-    (λ c. search needs)
-    (λ c. search needs)
-    (λ c. search needs)
-    (λ c.
-    let made = c .before .before .before .before .before in
-    let told = made .before .before .before .before in
-    (made .div .ensures .0, λ b a lb la. rw (told .enum-told4 .given .1) (made .div .ensures .1 b a lb la)))
-    (λ c. search needs)
-    (λ c. search needs)
-    (λ c. search needs)
-    (λ c.
-    let made = c .before .before .before .before .before in
-    let told = made .before .before .before .before in
-    (made .pow .ensures .0, λ b a lb la. rw (told .enum-told5 .given .1) (made .pow .ensures .1 b a lb la)))
-    (λ c. search needs)
-    (λ c. search needs)
-    (λ c. search needs)
-    (λ c.
-    let made = c .before .before .before .before .before in
-    let told = made .before .before .before .before in
-    (kept-result (made .log .ensures .0), λ b a lb la. rw (told .enum-told6 .given .1) (made .log .ensures .1 b a lb la)))
-    (λ c. search needs)
-    (λ c. search needs)
-    (λ c. search needs)
-    (λ c.
-    let made = c .before .before .before .before .before in
-    let told = made .before .before .before .before in
-    (made .complex .ensures .0, λ b a lb la. rw (told .enum-told7 .given .1) (made .complex .ensures .1 b a lb la)))
+    let told = made .before .before .before .before in (
+      made .pow .ensures .0,
+      (
+        λ b a lb la. rw (told .enum-told2 .given .1) (made .pow .ensures .1 .0 b a lb la),
+        λ b a lb la. rw (told .enum-told2 .given .1, pairs-pow b a) (made .pow .ensures .1 .1 b a lb la),
+      ),
+    ))
     (λ c. search needs)
     (λ c. search needs)
     (λ c. search needs)
     (λ c.
     let made = c .before .before .before .before .before in
     let any = made .before .before .before .before in
-    (kept-result (made .copied .ensures .0), λ b a lb la. rw (kept-two _ b a (any .match .keys8)) (made .copied .ensures .1 b lb))))
+    (made .form-uncounted .ensures .0, (made .form-uncounted .ensures .1, λ b a lb la n e. sym (pairs-none _ b a (uncounted _ (any .match .keys3)))))))

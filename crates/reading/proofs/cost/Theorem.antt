@@ -32,13 +32,13 @@ pub counts-reading : CountsReading
 counts-reading ns = nodes-runners 0 ns
 
 -- a sum is read only where no record was refused
-went-through : (w : Walked) (s : Sum) (c h : Bool) → ended w ≡ done s c h → (v : State) × (w ≡ went v)
-went-through (went v) s c h e = (v, refl)
-went-through (stopped q at b) s c h e = let z : _≡_ {A = ℕ} 0 1 = cc in absurd (omega arith)
+went-through : (w : Walked) (s : Sum) (c h : Bool) (k : ℕ) → ended w ≡ done s c h k → (v : State) × (w ≡ went v)
+went-through (went v) s c h k e = (v, refl)
+went-through (stopped q at b) s c h k e = let z : _≡_ {A = ℕ} 0 1 = cc in absurd (omega arith)
 
-read-exact : (ns : Nodes) (s : Sum) (c h : Bool) → readNodes ns ≡ done s c h → ran ns ≡ costOf ns
+read-exact : (ns : Nodes) (s : Sum) (c h : Bool) (k : ℕ) → readNodes ns ≡ done s c h k → ran ns ≡ costOf ns
 unfolding readNodes
-read-exact ns s c h e = let w = went-through (runAll (runners 0 ns) 0 start) s c h e in ran-exact ns (w .0) (w .1)
+read-exact ns s c h k e = let w = went-through (runAll (runners 0 ns) 0 start) s c h k e in ran-exact ns (w .0) (w .1)
 
 pub costs : Costs
 costs = record { most = ran-most; exact = ran-exact; read = read-exact }
@@ -56,7 +56,7 @@ pub tells : Tells
 tells =
     record {
       most = λ l n e k. omega (arith, ran-most (parse l), told-steps l n e k);
-      read = λ l n s c h e k d. read-exact (parse l) s c h d ∙ told-steps l n e k;
+      read = λ l n s c h p e k d. read-exact (parse l) s c h p d ∙ told-steps l n e k;
     }
 
 -- ---- refusals

@@ -1,5 +1,5 @@
 -- Laws of the start and the end of reading: x lies in the first cell of the stack, and one sum must be left. Assumes nothing.
-use Prim.Native.Nat.{ℕ, _+_, _-_, _/_, _≤_, _<_}
+use Prim.Native.Nat.{ℕ, _+_, _-_, _/_, _≤_, _<_, min}
 use native.Mathlib.Omega.{arith}
 use native.Mathlib.Nat.{eq-or-lt-of-le}
 use mathlib.Core.Path.{_≡_, refl, sym, _∙_}
@@ -35,7 +35,7 @@ use Rattle.stack.specs.Contract.Arena.{Arena, of, Space}
 use Rattle.stack.specs.Stack.{total, anyComplex}
 use Rattle.stack.specs.Contract.Stacked.{Stacked, no-sum, on-top, Sized, sizesOf}
 use Rattle.stack.proofs.slots.Laws.{space-same, stacked-one, stacked-two, stacked-some, stacked-le, stacked-end, stacked-size, stacked-total}
-use Rattle.stack.specs.State.{State, Walked, isHandled, went, stopped}
+use Rattle.stack.specs.State.{State, Walked, isHandled, went, stopped, mostPairs}
 use Rattle.stack.specs.Contract.Agree.{Stands, Ready, Agree, Does}
 use Rattle.stack.specs.declared.state.AlgebraEnv.{AlgebraEnv}
 use Rattle.stack.specs.declared.state.Ran.the-variants.{Went, Stopped}
@@ -73,8 +73,12 @@ x-lies p r =
     let f : Fitting x = record { num = ofBits-fits binary64 0x3ff0000000000000; re = ofBits-fits binary64 0x3ff0000000000000; im = ofBits-fits binary64 0 } in
     record { laid = (put-at p f, tt, tt); good = x-good .good; ends = refl; room = r }
 
+-- nothing but x is on the stack
+abbrev x-alone : AlgebraEnv
+x-alone = record { used = 129; handled = 0; complex = false; pairs = 0 }
+
 -- x stands in the arena
-x-stands : {b b′ : Book} {z : List ℕ} (top : ℕ) → 128 < top → Put b b′ 128 x → Space (of b′ z) top → getD z 128 0 ≡ 1 → Stands (of b′ z) top (record { used = 129; handled = 0; complex = false }) start
+x-stands : {b b′ : Book} {z : List ℕ} (top : ℕ) → 128 < top → Put b b′ 128 x → Space (of b′ z) top → getD z 128 0 ≡ 1 → Stands (of b′ z) top x-alone start
 unfolding size
 x-stands {b} {b′} {z} top some p s q =
     record {
@@ -82,11 +86,12 @@ x-stands {b} {b′} {z} top some p s q =
       below = omega arith;
       handled = refl;
       complex = refl;
+      pairs = refl;
     }
 
 -- and it is ready
 pub x-ready : {b b′ : Book} (z : List ℕ) (top : ℕ) → Reaches (of b z) top → Put b b′ 128 x
-    → Ready (of b′ (set z 128 1)) top (record { used = 129; handled = 0; complex = false }) × Stands (of b′ (set z 128 1)) top (record { used = 129; handled = 0; complex = false }) start
+    → Ready (of b′ (set z 128 1)) top x-alone × Stands (of b′ (set z 128 1)) top x-alone start
 x-ready {b} {b′} z top r p =
     let s = r .space in
     let some = r .some in
@@ -121,14 +126,14 @@ lies-at : {b : Book} {i j e n : ℕ} {s : Sum} → Lies b i e 4 s → i ≡ j �
 lies-at l p q = rw (← p) (rw (← q) l)
 
 -- one is on it, and lies behind the working places
-pub last-one : {a : Arena} {u n : ℕ} {h c : Bool} (st : State) (ss : List Sum) → Stacked a 128 u ss → 128 < u → Told a u n → 128 + n ≡ u → c ≡ st .complex → h ≡ isHandled st
-    → DataAs (answer.Sum n c h) (a .cells) (lastOf st ss)
+pub last-one : {a : Arena} {u n k : ℕ} {h c : Bool} (st : State) (ss : List Sum) → Stacked a 128 u ss → 128 < u → Told a u n → 128 + n ≡ u → c ≡ st .complex → h ≡ isHandled st
+    → k ≡ min mostPairs (st .pairs) → DataAs (answer.Sum n c h k) (a .cells) (lastOf st ss)
 unfolding total
-last-one st [] k l t e p q = absurd (omega (arith, stacked-total k))
-last-one {a} {u} {n} st (s ∷ []) k l t e p q =
+last-one st [] k l t e p q m = absurd (omega (arith, stacked-total k))
+last-one {a} {u} {n} st (s ∷ []) k l t e p q m =
     let o = stacked-one (t (size s) (sizesOf []) (stacked-size k)) k in
-    (record { lies = lies-at {j = 128} {n = 128 + n} (o .lies) (omega (arith, e)) (omega (arith, e)); good = o .good }, p, q)
-last-one st (s ∷ r ∷ ss) k l t e p q =
+    (record { lies = lies-at {j = 128} {n = 128 + n} (o .lies) (omega (arith, e)) (omega (arith, e)); good = o .good }, p, q, m)
+last-one st (s ∷ r ∷ ss) k l t e p q m =
     let o = stacked-two (t (size s) (sizesOf (r ∷ ss)) (stacked-size k)) refl k in
     absurd (omega (arith, stacked-total k, o .1 .some, o .0 .is))
 

@@ -256,7 +256,7 @@ forked-stops s at h from to ss st b left t (suc i) l e =
 
 -- more room above
 agree-wider : (a : Arena) {v v′ : ℕ} (r : Ran) (w : Walked) → v ≤ v′ → Agree r a v w → Agree r a v′ w
-agree-wider a (Went env) (went st) l h = record { stack = h .stack; below = omega (arith, h .below); handled = h .handled; complex = h .complex }
+agree-wider a (Went env) (went st) l h = record { stack = h .stack; below = omega (arith, h .below); handled = h .handled; complex = h .complex; pairs = h .pairs }
 agree-wider a (Went env) (stopped q at b) l h = h
 agree-wider a (Stopped q at b) (went st) l h = h
 agree-wider a (Stopped q at b) (stopped q′ at′ b′) l h = h

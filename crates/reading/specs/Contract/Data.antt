@@ -1,11 +1,12 @@
 -- What reading a list answers, held to the definition.
-use Prim.Native.Nat.{ℕ, _+_, _≤_, _<_}
+use Prim.Native.Nat.{ℕ, _+_, _≤_, _<_, min}
 use mathlib.Core.Path.{_≡_}
 use Rattle.limits.specs.Limits.{sumLevels}
 use Rattle.cells.specs.Contract.Book.{Book}
 use Rattle.arithmetic.specs.Singles.{GoodSum}
 use Rattle.sums.specs.Tree.Sums.{Sum}
 use Rattle.sums.specs.Contract.Lies.{Lies}
+use Rattle.stack.specs.State.{mostPairs}
 use Rattle.stack.specs.Contract.Arena.{Arena, Space, working, places}
 use Rattle.stack.specs.Contract.Agree.{Same}
 use Rattle.modifiers.specs.Reading.{Read, done, refusedAt}
@@ -24,7 +25,7 @@ pub record Given (b : Book) (n : ℕ) (s : Sum) : Type 0 where
   pub good : GoodSum s
 
 abbrev pub DataAs : AlgebraData → Book → Read → Type 0
-DataAs (answer.Sum n c h) b (done s c′ h′) = Given b n s × (c ≡ c′) × (h ≡ h′)
-DataAs (answer.Sum n c h) b (refusedAt q at h′) = ⊥
-DataAs (answer.Refused q at h) b (done s c′ h′) = ⊥
+DataAs (answer.Sum n c h k) b (done s c′ h′ k′) = Given b n s × (c ≡ c′) × (h ≡ h′) × (k ≡ min mostPairs k′)
+DataAs (answer.Sum n c h k) b (refusedAt q at h′) = ⊥
+DataAs (answer.Refused q at h) b (done s c′ h′ k′) = ⊥
 DataAs (answer.Refused q at h) b (refusedAt q′ at′ h′) = Same q at h q′ at′ h′

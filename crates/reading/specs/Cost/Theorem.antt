@@ -1,5 +1,5 @@
 -- What the cost of a list says of reading it.
-use Prim.Native.Nat.{ℕ, _≤_, _<_}
+use Prim.Native.Nat.{ℕ, _*_, _≤_, _<_}
 use mathlib.Core.Path.{_≡_}
 use mathlib.Core.Bool.{Bool, false, _&&_, _||_}
 use mathlib.Core.List.{List}
@@ -26,12 +26,16 @@ CountsReading = (ns : Nodes) → nodesOf (counters 0 ns) ≡ runners 0 ns
 pub record Costs : Type 0 where
   pub most : (ns : Nodes) → ran ns ≤ costOf ns
   pub exact : (ns : Nodes) (st : State) → runAll (runners 0 ns) 0 start ≡ went st → ran ns ≡ costOf ns
-  pub read : (ns : Nodes) (s : Sum) (c h : Bool) → readNodes ns ≡ done s c h → ran ns ≡ costOf ns
+  pub read : (ns : Nodes) (s : Sum) (c h : Bool) (k : ℕ) → readNodes ns ≡ done s c h k → ran ns ≡ costOf ns
 
 -- of a list of bytes: what is told is the most that is run, unless it is the largest number, and where a sum is read it is what is run
 pub record Tells : Type 0 where
   pub most : (l : List ℕ) (n : ℕ) → costList l ≡ Steps n → n < mostSteps → ran (parse l) ≤ n
-  pub read : (l : List ℕ) (n : ℕ) (s : Sum) (c h : Bool) → costList l ≡ Steps n → n < mostSteps → readNodes (parse l) ≡ done s c h → ran (parse l) ≡ n
+  pub read : (l : List ℕ) (n : ℕ) (s : Sum) (c h : Bool) (k : ℕ) → costList l ≡ Steps n → n < mostSteps → readNodes (parse l) ≡ done s c h k → ran (parse l) ≡ n
+
+-- a reading multiplies at most 258,048 pairs of outermost terms for each record that it runs
+abbrev pub PairsMost : Type 0
+PairsMost = (ns : Nodes) (s : Sum) (c h : Bool) (k : ℕ) → readNodes ns ≡ done s c h k → k ≤ 258048 * ran ns
 
 -- ---- lists that can't be hostile
 

@@ -20,11 +20,11 @@ use Rattle.stack.specs.Contract.Acting.{leafAct, handledBy, complexBy}
 
 -- where nothing is counted and no flag set, the state is as it was
 uncounted : (w : Walked) → w ≡ andThen w (λ st. went (flagged false (counted false st)))
-uncounted (went st) = same (st .stack) (st .handled) (st .complex)
+uncounted (went st) = same (st .stack) (st .handled) (st .complex) (st .pairs)
   where
-    same : (ss : List Sum) (n : ℕ) (c : Bool) → went (record { stack = ss; handled = n; complex = c }) ≡ went (record { stack = ss; handled = n; complex = c || false })
-    same ss n true = refl
-    same ss n false = refl
+    same : (ss : List Sum) (n : ℕ) (c : Bool) (k : ℕ) → went (record { stack = ss; handled = n; complex = c; pairs = k }) ≡ went (record { stack = ss; handled = n; complex = c || false; pairs = k })
+    same ss n true k = refl
+    same ss n false k = refl
 uncounted (stopped q at b) = refl
 
 pub leaf-counted : (at : ℕ) (r : Record) (k : KindFound) (h : ℕ) (st : State)

@@ -2,14 +2,13 @@
 use Prim.Native.Nat.{ℕ, _≤_}
 use native.Mathlib.Omega.{arith}
 use mathlib.Core.Path.{refl, ap}
-use mathlib.Core.Bool.{Bool}
 use mathlib.Core.List.{List}
 use Rattle.cells.specs.Contract.Book.{Book}
 use Rattle.cells.specs.Contract.Moves.{Kept}
 use Rattle.stack.specs.State.{State}
 use Rattle.stack.specs.Contract.Arena.{Arena, Slot, of}
 use Rattle.stack.specs.Contract.Blocks.{Outside}
-use Rattle.stack.specs.Contract.Agree.{Stands, Ready, envOf, Prepared}
+use Rattle.stack.specs.Contract.Agree.{Stands, Ready}
 use Rattle.stack.specs.declared.state.AlgebraEnv.{AlgebraEnv}
 use Rattle.stack.proofs.slots.Laws.{slot-same, space-same, outside-wider, stacked-le, stacked-above}
 
@@ -27,7 +26,7 @@ kept-outside {b} {b′} z k =
 
 -- the same state stands
 pub stands-working : {a a′ : Arena} {v : ℕ} {env : AlgebraEnv} {st : State} → Outside a a′ 0 128 → Stands a v env st → Stands a′ v env st
-stands-working o s = record { stack = stacked-above o (omega arith) (s .stack); below = s .below; handled = s .handled; complex = s .complex }
+stands-working o s = record { stack = stacked-above o (omega arith) (s .stack); below = s .below; handled = s .handled; complex = s .complex; pairs = s .pairs }
 
 pub ready-working : {a a′ : Arena} {v : ℕ} {env : AlgebraEnv} → Outside a a′ 0 128 → Ready a v env → Ready a′ v env
 ready-working o y = record { space = space-same (o .long) (y .space); within = y .within; some = (y .some .0, stands-working o (y .some .1)) }
@@ -38,14 +37,3 @@ outside-held y o =
     let low = stacked-le (y .some .1 .stack) in
     let below = y .some .1 .below in
     outside-wider (omega arith) (omega arith) o
-
--- the complex flag doesn't matter to what a step asks for
-pub any-flag : {a : Arena} {v used handled : ℕ} (complex : Bool) → Prepared a v used handled → Ready a v (envOf used handled complex)
-any-flag complex y =
-    let st = y .some .0 in
-    let s = y .some .1 in
-    record {
-      space = y .space;
-      within = y .within;
-      some = (record { stack = st .stack; handled = st .handled; complex = complex }, record { stack = s .stack; below = s .below; handled = s .handled; complex = refl });
-    }

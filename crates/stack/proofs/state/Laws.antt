@@ -27,7 +27,7 @@ use Rattle.stack.specs.State.{State, Walked, went, stopped, andThen, wit
 use Rattle.stack.specs.Steps.{flagged, counted}
 use Rattle.stack.proofs.Laws.{taking-some, taking-short, lend-room, lend-full}
 use Rattle.stack.specs.Contract.Agree.{Stands, Ready, Agree, Does}
-use Rattle.stack.specs.Contract.Parts.{withUsed, Tops, finished}
+use Rattle.stack.specs.Contract.Parts.{withUsed, wentOn, Tops, finished}
 
 -- ---- steps
 
@@ -35,9 +35,13 @@ use Rattle.stack.specs.Contract.Parts.{withUsed, Tops, finished}
 pub does-as : {a b : Arena} {v : ℕ} {env : AlgebraEnv} {r : Ran} {f g : State → Walked} → ((st : State) → Stands a v env st → f st ≡ g st) → Does a b v env r f → Does a b v env r g
 does-as {b = b} {v} {r = r} e d = record { kept = d .kept; agrees = λ st s. subst (λ (w : Walked). Agree r b v w) (e st s) (d .agrees st s) }
 
+-- no more pairs
+pub stands-on : {a : Arena} {v : ℕ} {env : AlgebraEnv} {st : State} → Stands a v env st → Stands a v (wentOn (env .used) 0 env) st
+stands-on s = record { stack = s .stack; below = s .below; handled = s .handled; complex = s .complex; pairs = let e = s .pairs in omega arith }
+
 -- a step that changes nothing
-pub does-nothing : (a : Arena) (v : ℕ) (env : AlgebraEnv) → Does a a v env (Went env) went
-does-nothing a v env = record { kept = outside-refl a 0 v; agrees = λ st s. s }
+pub does-nothing : (a : Arena) (v : ℕ) (env : AlgebraEnv) → Does a a v env (Went (wentOn (env .used) 0 env)) went
+does-nothing a v env = record { kept = outside-refl a 0 v; agrees = λ st s. stands-on s }
 
 -- another count and another flag
 pub does-finished : {a b : Arena} {v : ℕ} {env : AlgebraEnv} {r : Ran} {f : State → Walked} (h c : Bool) → Does a b v env r f
@@ -45,7 +49,14 @@ pub does-finished : {a b : Arena} {v : ℕ} {env : AlgebraEnv} {r : Ran} {f : St
 does-finished {b = b} {v} {r = r} {f} h c d = record { kept = d .kept; agrees = λ st s. go r (f st) (d .agrees st s) }
   where
     go : (r : Ran) (w : Walked) → Agree r b v w → Agree (finished h c r) b v (andThen w (λ st′. went (flagged c (counted h st′))))
-    go (Went env) (went st) s = record { stack = s .stack; below = s .below; handled = ap (λ (n : ℕ). cond h (min 2 (suc n)) n) (s .handled); complex = ap (λ (x : Bool). x || c) (s .complex) }
+    go (Went env) (went st) s =
+        record {
+          stack = s .stack;
+          below = s .below;
+          handled = ap (λ (n : ℕ). cond h (min 2 (suc n)) n) (s .handled);
+          complex = ap (λ (x : Bool). x || c) (s .complex);
+          pairs = s .pairs;
+        }
     go (Went env) (stopped q at x) s = absurd s
     go (Stopped q at x) (went st) s = absurd s
     go (Stopped q at x) (stopped q′ at′ x′) s = s
@@ -54,7 +65,7 @@ does-finished {b = b} {v} {r = r} {f} h c d = record { kept = d .kept; agrees = 
 
 -- what is left of the stack stands
 pub stands-popped : {a : Arena} {v : ℕ} {env : AlgebraEnv} {st : State} {w : ℕ} {ss : List Sum} → Stands a v env st → Stacked a 128 w ss → w ≤ v → Stands a v (withUsed w env) (withStack ss st)
-stands-popped s k le = record { stack = k; below = le; handled = s .handled; complex = s .complex }
+stands-popped s k le = record { stack = k; below = le; handled = s .handled; complex = s .complex; pairs = s .pairs }
 
 -- and what is asked for holds of it
 pub ready-popped : {a : Arena} {v : ℕ} {env : AlgebraEnv} {w : ℕ} {ss : List Sum} → Ready a v env → Stacked a 128 w ss → w ≤ env .used → Ready a v (withUsed w env)
@@ -82,13 +93,13 @@ does-short {a} {v} {env} {r} {at} n f e few =
 
 -- what has been put on lies on top, and v is where what is held begins
 pub does-push : {a b : Arena} {v : ℕ} {env : AlgebraEnv} {n : ℕ} (at : ℕ) (s : Sum) → v ≤ 1152 → n ≡ size s → env .used + n ≤ v → Outside a b (env .used) (env .used + n)
-    → Top b (env .used) (env .used + n) s → Does a b v env (Went (withUsed (env .used + n) env)) (push at (1152 - v) (sum s))
+    → Top b (env .used) (env .used + n) s → Does a b v env (Went (wentOn (env .used + n) 0 env)) (push at (1152 - v) (sum s))
 does-push {a} {b} {v} {env} {n} at s within is le o t =
     record {
       kept = outside-wider (omega arith) le o;
       agrees = λ st k.
           let all = stacked-total (k .stack) in
-          rw (lend-room at (1152 - v) s st (omega arith)) (record { stack = stacked-push o t (k .stack); below = le; handled = k .handled; complex = k .complex });
+          rw (lend-room at (1152 - v) s st (omega arith)) (stands-on (record { stack = stacked-push o t (k .stack); below = le; handled = k .handled; complex = k .complex; pairs = k .pairs }));
     }
 
 pub does-full : {a : Arena} {v : ℕ} {env : AlgebraEnv} {n : ℕ} (at : ℕ) (s : Sum) → v ≤ 1152 → n ≡ size s → v < env .used + n → Does a a v env (Stopped NoRoom at false) (push at (1152 - v) (sum s))
@@ -185,7 +196,8 @@ does-one {a} {b} {v} {env} {r} {n} at f o t g =
       agrees = λ st k.
           let x = topmost t (k .stack) in
           let e = x .are in
-          rw (taking-some at 1 st f (rw e (omega arith)), e) (g st (x .s) (x .rest) (record { stack = rw e at (k .stack); below = k .below; handled = k .handled; complex = k .complex }) (x .one));
+          rw (taking-some at 1 st f (rw e (omega arith)), e) (g st (x .s) (x .rest)
+          (record { stack = rw e at (k .stack); below = k .below; handled = k .handled; complex = k .complex; pairs = k .pairs }) (x .one));
     }
 
 -- and one that takes two
@@ -200,7 +212,7 @@ does-two {a} {b} {v} {env} {r} {n} {m} at f o t g =
           let x = pair t (k .stack) in
           let e = x .are in
           rw (taking-some at 2 st f (rw e (omega arith)), e) (g st (x .s) (x .t) (x .rest)
-          (record { stack = rw e at (k .stack); below = k .below; handled = k .handled; complex = k .complex }) (x .first) (x .second));
+          (record { stack = rw e at (k .stack); below = k .below; handled = k .handled; complex = k .complex; pairs = k .pairs }) (x .first) (x .second));
     }
 
 -- ---- what was formed

@@ -1,9 +1,9 @@
 -- The code's state and answers, held to those of the definitions. The stack lies in the arena behind the working places; from v on lies what is held.
-use Prim.Native.Nat.{ℕ, _≤_}
+use Prim.Native.Nat.{ℕ, _+_, _≤_, min}
 use mathlib.Core.Path.{_≡_}
 use mathlib.Core.Bool.{Bool, false}
 use Rattle.limits.specs.declared.Refusal.{Refusal}
-use Rattle.stack.specs.State.{State, Walked, went, stopped}
+use Rattle.stack.specs.State.{State, Walked, went, stopped, mostPairs}
 use Rattle.stack.specs.Contract.Arena.{Arena, Space, working, places}
 use Rattle.stack.specs.Contract.Stacked.{Stacked}
 use Rattle.stack.specs.Contract.Blocks.{Outside}
@@ -19,6 +19,7 @@ pub record Stands (a : Arena) (v : ℕ) (env : AlgebraEnv) (st : State) : Type 0
   pub below : env .used ≤ v
   pub handled : env .handled ≡ st .handled
   pub complex : env .complex ≡ st .complex
+  pub pairs : env .pairs ≡ min mostPairs (st .pairs)
 
 -- what a step asks for: no place from v on, so that what is held there, or a smaller arena, is all one to it
 pub record Ready (a : Arena) (v : ℕ) (env : AlgebraEnv) : Type 0 where
@@ -45,18 +46,18 @@ pub record Does (a a′ : Arena) (v : ℕ) (env : AlgebraEnv) (r : Ran) (f : Sta
 
 -- ---- steps that know the stack's end and how many primitives were handled, and leave counting to the walk
 
-abbrev pub envOf : ℕ → ℕ → Bool → AlgebraEnv
-envOf used handled complex = record { used = used; handled = handled; complex = complex }
+abbrev pub envOf : ℕ → ℕ → Bool → ℕ → AlgebraEnv
+envOf used handled complex pairs = record { used = used; handled = handled; complex = complex; pairs = pairs }
 
--- what such a step asks for: the complex flag doesn't matter to it
+-- what such a step asks for: neither the complex flag nor the pairs so far matter to it
 abbrev pub Prepared : Arena → ℕ → ℕ → ℕ → Type 0
-Prepared a v used handled = Ready a v (envOf used handled false)
+Prepared a v used handled = Ready a v (envOf used handled false 0)
 
--- its answer as one of a walk, where the record stands at a place
-abbrev pub ranOf : ℕ → ℕ → Bool → Stepped → Ran
-ranOf at handled complex (Went used) = ran.Went (envOf used handled complex)
-ranOf at handled complex (Stopped q b) = ran.Stopped q at b
+-- its answer as one of a walk, where the record stands at a place, with the pairs that it adds
+abbrev pub ranOf : ℕ → ℕ → Bool → ℕ → Stepped → Ran
+ranOf at handled complex pairs (Went used more) = ran.Went (envOf used handled complex (min mostPairs (pairs + more)))
+ranOf at handled complex pairs (Stopped q b) = ran.Stopped q at b
 
--- such a step, whatever the complex flag is
+-- such a step, whatever the complex flag and the pairs so far are
 abbrev pub Acts : Arena → Arena → ℕ → ℕ → ℕ → ℕ → Stepped → (State → Walked) → Type 0
-Acts a a′ v used handled at r f = (complex : Bool) → Does a a′ v (envOf used handled complex) (ranOf at handled complex r) f
+Acts a a′ v used handled at r f = (complex : Bool) (pairs : ℕ) → Does a a′ v (envOf used handled complex pairs) (ranOf at handled complex pairs r) f

@@ -1,4 +1,5 @@
 -- What is read without a complex step is real: the flag is false only where nothing but real numbers was pushed and Complex wasn't run. Assumes nothing.
+use Prim.Native.Nat.{ℕ}
 use mathlib.Core.Path.{_≡_, refl, subst}
 use mathlib.Core.Bool.{Bool, true, false, _||_}
 use lib.Ieee.{binary64, ofBits}
@@ -107,5 +108,5 @@ real-keeping =
     }
 
 -- what is read without a complex step is real
-pub read-real : (ns : tree.Nodes) {s : Sum} {b : Bool} → readNodes ns ≡ done s false b → RealSum s
+pub read-real : (ns : tree.Nodes) {s : Sum} {b : Bool} {k : ℕ} → readNodes ns ≡ done s false b k → RealSum s
 read-real ns e = read-keeps Unflagged real-keeping ns (λ z. single-real kinds.X one64 none complex.one (real-is one64) none-real) e refl

@@ -98,7 +98,7 @@ what-is (refused q) h = absurd h
 pub write-real : (s : Sum) → GoodSum s → RealSum s → (ns : tree.Nodes) × (toNodes false s ≡ wrote ns)
 write-real s g h = what-is (toNodes false s) (write-is 4 s (g .good) h false tree.end)
 
-module _ (ns : tree.Nodes) {s : Sum} {b : Bool} (e : readNodes ns ≡ done s false b) where
+module _ (ns : tree.Nodes) {s : Sum} {b : Bool} {k : ℕ} (e : readNodes ns ≡ done s false b k) where
   -- a list that is read without a complex step: its derivative is real and is written
   pub derivative-real : (d : Sum) → derive s ≡ sum d → GoodSum d × RealSum d × ((ms : tree.Nodes) × (toNodes false d ≡ wrote ms))
   derivative-real d o =

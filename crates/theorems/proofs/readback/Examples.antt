@@ -30,7 +30,7 @@ readOf (wrote ns) = readNodes ns
 readOf (refused q) = refusedAt q 0 false
 
 abbrev entriesOf : Read → ℕ
-entriesOf (done s c h) = size s
+entriesOf (done s c h k) = size s
 entriesOf (refusedAt q at h) = 0
 
 -- c times x to the p, before the rest
@@ -94,7 +94,7 @@ comes-back flag = reads-back flag formula is-formula
 
 -- without 0·sin x, and with the power 0
 pub came-back : readOf (toNodes false formula)
-    ≡ done (x-to minus-1-5 (complex.complex one64 (±0 true)) (x-to zero64 (complex.real three64) (x-to one64 (complex.real three64) none))) false true
+    ≡ done (x-to minus-1-5 (complex.complex one64 (±0 true)) (x-to zero64 (complex.real three64) (x-to one64 (complex.real three64) none))) false true 2
 unfolding arithmetic comparing listBytes listRules sumBytes maps products raised steps reading writing
 came-back = refl
 
@@ -134,9 +134,9 @@ only-written = refl
 
 -- a power of -0 comes back as 0, with 0·x beside it; x to the -1.5 comes back with an imaginary part of -0; 3·x written as a pair loses the -0 of its imaginary part
 pub signs :
-    (readOf (toNodes false (x-to (±0 true) complex.one none)) ≡ done (x-to zero64 complex.one noughtX) false true)
-    × (readOf (toNodes false (x-to minus-1-5 complex.one none)) ≡ done (x-to minus-1-5 (complex.complex one64 (±0 true)) none) false true)
-    × (readOf (toNodes true (x-to one64 (complex.complex three64 (±0 true)) none)) ≡ done (x-to one64 (complex.real three64) none) true false)
+    (readOf (toNodes false (x-to (±0 true) complex.one none)) ≡ done (x-to zero64 complex.one noughtX) false true 1)
+    × (readOf (toNodes false (x-to minus-1-5 complex.one none)) ≡ done (x-to minus-1-5 (complex.complex one64 (±0 true)) none) false true 0)
+    × (readOf (toNodes true (x-to one64 (complex.complex three64 (±0 true)) none)) ≡ done (x-to one64 (complex.real three64) none) true false 1)
 unfolding arithmetic comparing listBytes listRules sumBytes maps products raised steps reading writing
 signs = (refl, refl, refl)
 

@@ -111,7 +111,7 @@ flagOf (stopped q at b) = false
 -- a piece of no records leaves x as it is
 end-made : {v : Sum} {k : ℕ} {p : Bool} → k ≤ 1024 → Makes end (x ∷ []) (v ∷ []) k p → (x ≡ v) × (p ≡ false)
 unfolding runAll runners total
-end-made {v} {k} {p} few g = let e = g .run [] 0 0 0 false (omega arith) .1 in (ap topOf e, sym (ap flagOf e))
+end-made {v} {k} {p} few g = let e = g .run [] 0 0 (0, 0) false (omega arith) .1 in (ap topOf e, sym (ap flagOf e))
 
 module _ (flag : Bool) where
   more : {s : Sum} {rs : List Term} → TermsListed s rs → (ds : List Term) → Finite ds → AllOver ds rs → TermsRise rs → length ds + length rs ≤ 63
@@ -234,6 +234,6 @@ all-read flag (term-entry {p} {j} {c = d} {r = s} {ts} z n l) up few =
     }
 
 -- what is read of it
-pub read-list : {N : Nodes} {u : Sum} {p : Bool} → Makes N (x ∷ []) (u ∷ []) 1024 p → (h : Bool) × (readNodes N ≡ done u p h)
+pub read-list : {N : Nodes} {u : Sum} {p : Bool} → Makes N (x ∷ []) (u ∷ []) 1024 p → (h : Bool) × (k : ℕ) × (readNodes N ≡ done u p h k)
 unfolding readNodes total
-read-list {N} {u} {p} g = let e = g .run [] 0 0 0 false (omega arith) in (isHandled (state (u ∷ []) (e .0) p), rw (e .1))
+read-list {N} {u} {p} g = let e = g .run [] 0 0 (0, 0) false (omega arith) in (isHandled (state (u ∷ []) (e .0) p), e .0 .1, rw (e .1))

@@ -1,5 +1,5 @@
 -- From bytes to bytes: what `write` wrote, `read` takes and gives back, and where real parts are written, `write` of that writes the same bytes again. Assumes nothing.
-use Prim.Native.Nat.{ℕ, _*_, _≤_}
+use Prim.Native.Nat.{ℕ, _*_, _≤_, min}
 use mathlib.Core.Path.{_≡_, sym, ap, _∙_, subst}
 use mathlib.Core.Bool.{Bool, false, _&&_}
 use mathlib.Core.List.{List}
@@ -16,6 +16,7 @@ use Rattle.sums.specs.Entry.Encoding.{entriesIn, encodeSum}
 use Rattle.sums.proofs.bytes.Laws.{length-sum}
 use Rattle.writing.specs.Draft.Writing.{Written, wrote}
 use Rattle.writing.specs.ToNodes.{toNodes}
+use Rattle.stack.specs.State.{mostPairs}
 use Rattle.modifiers.specs.Reading.{Read, done}
 use Rattle.algebra.specs.declared.answer.Answer.{Answer}
 use Rattle.algebra.specs.declared.answer.Answer.the-variants as given
@@ -59,9 +60,9 @@ module _ (flag : Bool) (s : Sum) (ns : Nodes) (good : Good 4 s) (some : 1 ≤ si
       (sym (z .0), ap (take (24 * n)) (o .written ∙ ap (sets out 0) (sym (z .1))) ∙ first-bytes (encode ns) out (24 * n) (omega (arith, z .0, length-encode ns)) (omega (arith, o .fits)))
 
 -- what is read with room for it
-read-done : (t : Sum) (c h : Bool) (out out′ : List ℕ) (r : ReadAnswer) → size t ≤ 64 → 64 ≤ entriesIn out → ReadGives (done t c h) out out′ r
-    → (r ≡ answer.Sum (size t) c) × (take (32 * size t) out′ ≡ encodeSum t)
-read-done t c h out out′ r few l p =
+read-done : (t : Sum) (c h : Bool) (k : ℕ) (out out′ : List ℕ) (r : ReadAnswer) → size t ≤ 64 → 64 ≤ entriesIn out → ReadGives (done t c h k) out out′ r
+    → (r ≡ answer.Sum (size t) c (min mostPairs k)) × (take (32 * size t) out′ ≡ encodeSum t)
+read-done t c h k out out′ r few l p =
     let fits = le-leb (size t) (entriesIn out) (omega arith) in
     (p .answered ∙ rw fits, ap (take (32 * size t)) (p .written ∙ rw fits) ∙ first-bytes (encodeSum t) out (32 * size t) (omega (arith, length-sum t)) (omega arith))
 
@@ -72,7 +73,7 @@ module _ (flag : Bool) (s : Sum) (f : PowerFormula s) (some : 1 ≤ size s) wher
   b = reads-back flag s f
 
   -- the bytes that were written are read as t
-  list-read : {out out′ : List ℕ} {n : ℕ} → Writes flag s out out′ (given.Done n) → readList (take (24 * n) out′) ≡ done (b .t) (flag && wrotePair (terms s)) (b .handled)
+  list-read : {out out′ : List ℕ} {n : ℕ} → Writes flag s out out′ (given.Done n) → readList (take (24 * n) out′) ≡ done (b .t) (flag && wrotePair (terms s)) (b .handled) (b .pairs)
   list-read p =
       ap readList (written-bytes flag s (b .list) (f .good) some (f .room) (b .written) p .1)
       ∙ bytes-read flag (b .list) (listed 4 s (f .good) (f .real) (f .powers) (f .small)) (omega (arith, f .few)) (b .written)
@@ -84,18 +85,19 @@ passes flag s f some =
     record {
       t = B .t;
       back = B .back;
+      pairs = min mostPairs (B .pairs);
       records = tree.size (B .list);
       writes = written-done flag s (B .list) (f .good) some (f .room) (B .written);
       reads = λ out₁ out₁′ out₂ out₂′ n r p l g.
-          read-done (B .t) (flag && wrotePair (terms s)) (B .handled) out₂ out₂′ r (B .back .formula .room) (omega arith)
+          read-done (B .t) (flag && wrotePair (terms s)) (B .handled) (B .pairs) out₂ out₂′ r (B .back .formula .room) (omega arith)
           (subst (λ (z : Read). ReadGives z out₂ out₂′ r) (list-read flag s f some p) g);
     }
 
 pub stays : Stays
-stays s f some out₁ out₁′ out₂ out₂′ out₃ out₃′ n m c r p g l q =
+stays s f some out₁ out₁′ out₂ out₂′ out₃ out₃′ n m k c r p g l q =
     let B = b false s f some in
     let w = written-bytes false s (B .list) (f .good) some (f .room) (B .written) p in
-    let T = read-told (done (B .t) false (B .handled)) (subst (λ (z : Read). ReadGives z out₂ out₂′ (answer.Sum m c)) (list-read false s f some p) g) in
+    let T = read-told (done (B .t) false (B .handled) (B .pairs)) (subst (λ (z : Read). ReadGives z out₂ out₂′ (answer.Sum m c k)) (list-read false s f some p) g) in
     let same : T .s ≡ B .t = cc in
     let bytes : take (32 * m) out₂′ ≡ encodeSum (B .t) = T .bytes ∙ ap encodeSum same in
     let G = read-good (B .list) (B .read) in
@@ -103,4 +105,4 @@ stays s f some out₁ out₁′ out₂ out₂′ out₃ out₃′ n m c r p g l 
     let again = B .back .again ∙ B .written in
     let d : r ≡ given.Done (tree.size (B .list)) = written-done false (B .t) (B .list) (G .good) (good-some G) (G .room) again out₃ out₃′ r (omega (arith, w .0)) v in
     let h = written-bytes false (B .t) (B .list) (G .good) (good-some G) (G .room) again (subst (λ (z : Answer). Writes false (B .t) out₃ out₃′ z) d v) in
-    (d ∙ ap given.Done (sym (w .0)), ap (λ (k : ℕ). take (24 * k) out₃′) (w .0) ∙ h .1 ∙ sym (w .1))
+    (d ∙ ap given.Done (sym (w .0)), ap (λ (i : ℕ). take (24 * i) out₃′) (w .0) ∙ h .1 ∙ sym (w .1))

@@ -25,7 +25,7 @@ use Rattle.formats.specs.declared.record.Primitive.the-variants as prim
 use Rattle.formats.specs.Names.{kindOf, primitiveOf, modifierOf}
 use Rattle.formats.specs.Tree as tree
 use Rattle.formats.specs.Tree.{Nodes, end, rec}
-use Rattle.primitives.specs.Forms.{ofOne, ofTwo}
+use Rattle.primitives.specs.Forms.{ofOne, ofTwo, pairsOf}
 use Rattle.stack.specs.Stack.{total}
 use Rattle.stack.specs.State.{State, Walked, went, stopped, andThen, taking, lend}
 use Rattle.stack.specs.State as states
@@ -35,8 +35,12 @@ use Rattle.modifiers.specs.Reading.{stepOf, runners}
 use Rattle.theorems.proofs.Speed.Steps.{number-finite}
 use Rattle.writing.specs.Draft.Writing.{push, pushPair, does, append, one, wrapped}
 
-abbrev pub state : List Sum → ℕ → Bool → State
-state ss n f = record { stack = ss; handled = n; complex = f }
+-- how many primitives were handled, and how many pairs multiplied
+abbrev pub Counts : Type 0
+Counts = ℕ × ℕ
+
+abbrev pub state : List Sum → Counts → Bool → State
+state ss n f = record { stack = ss; handled = n .0; complex = f; pairs = n .1 }
 
 -- x, with which the stack starts
 abbrev pub x : Sum
@@ -68,7 +72,7 @@ run-append (rec r ns ms) b at h st =
 -- The records N make of the sums us on top of the stack the sums vs, wherever they stand and whatever lies below or is held, where there is room for k entries;
 -- p says whether they set the flag
 pub record Makes (N : Nodes) (us vs : List Sum) (k : ℕ) (p : Bool) : Type 0 where
-  pub run : (ss : List Sum) (at h n : ℕ) (f : Bool) → h + total ss + k ≤ 1024 → (m : ℕ) × (runAll (runners at N) h (state (us ++ ss) n f) ≡ went (state (vs ++ ss) m (f || p)))
+  pub run : (ss : List Sum) (at h : ℕ) (n : Counts) (f : Bool) → h + total ss + k ≤ 1024 → (m : Counts) × (runAll (runners at N) h (state (us ++ ss) n f) ≡ went (state (vs ++ ss) m (f || p)))
 
 -- with more room
 pub makes-more : {N : Nodes} {us vs : List Sum} {k : ℕ} {p : Bool} (l : ℕ) → k ≤ l → Makes N us vs k p → Makes N us vs l p
@@ -111,7 +115,7 @@ one-run : (r : Record) (at h : ℕ) (st st′ : State) → stepOf at r [] h st �
 unfolding runAll runners
 one-run r at h st st′ e = rw e
 
-lent : (at h n : ℕ) (f : Bool) (us ss : List Sum) → h + total us + total ss ≤ 1024 → lend at h us (state ss n f) ≡ went (state (us ++ ss) n f)
+lent : (at h : ℕ) (n : Counts) (f : Bool) (us ss : List Sum) → h + total us + total ss ≤ 1024 → lend at h us (state ss n f) ≡ went (state (us ++ ss) n f)
 unfolding lend
 lent at h n f us ss i = rw (le-leb (h + total us + total ss) 1024 i)
 
@@ -119,8 +123,12 @@ total-one : (c : Sum) → total (c ∷ []) ≡ size c
 unfolding total
 total-one c = omega arith
 
-abbrev counted : ℕ → ℕ
-counted n = min 2 (suc n)
+-- one more handled, and k more pairs
+abbrev counted : Counts → Counts
+counted n = (min 2 (suc (n .0)), n .1)
+
+abbrev paired : ℕ → Counts → Counts
+paired k n = (n .0, k + n .1)
 
 one-there : (ss : List Sum) → leb 1 (suc (length ss)) ≡ true
 one-there ss = le-leb 1 (suc (length ss)) (omega arith)
@@ -130,16 +138,18 @@ two-there ss = le-leb 2 (suc (suc (length ss))) (omega arith)
 
 -- a primitive that takes two sums, of which a was on top, and forms c
 module _ (a b c : Sum) where
-  two-run : (o : Outcome) (at h n : ℕ) (f : Bool) (ss : List Sum) → o ≡ sum c → h + size c + total ss ≤ 1024
-      → andThen (states.push at h o (state ss n f)) (λ st. went (state (st .stack) (counted (st .handled)) (st .complex || false))) ≡ went (state (c ∷ ss) (counted n) (f || false))
+  two-run : (o : Outcome) (at h : ℕ) (n : Counts) (f : Bool) (ss : List Sum) → o ≡ sum c → h + size c + total ss ≤ 1024
+      → andThen (states.push at h o (state ss n f)) (λ st. went (state (st .stack) (counted (st .handled, st .pairs)) (st .complex || false)))
+      ≡ went (state (c ∷ ss) (counted n) (f || false))
   two-run o at h n f ss e i = rw (e, lent at h n f (c ∷ []) ss (omega (arith, total-one c)))
 
   pub makes-mul : ofTwo prim.Mul b a ≡ sum c → Makes (one (does prim.Mul)) (a ∷ b ∷ []) (c ∷ []) (size c) false
   unfolding stepOf kindOf leafStep primitiveOf primitive taking
   makes-mul e = record {
     run = λ ss at h n f i. (
-      counted n,
-      one-run (does prim.Mul) at h (state (a ∷ b ∷ ss) n f) (state (c ∷ ss) (counted n) (f || false)) (rw (two-there ss) (two-run (ofTwo prim.Mul b a) at h n f ss e (omega arith))),
+      counted (paired (pairsOf prim.Mul b a) n),
+      one-run (does prim.Mul) at h (state (a ∷ b ∷ ss) n f) (state (c ∷ ss) (counted (paired (pairsOf prim.Mul b a) n)) (f || false))
+          (rw (two-there ss) (two-run (ofTwo prim.Mul b a) at h (paired (pairsOf prim.Mul b a) n) f ss e (omega arith))),
     );
   }
 
@@ -147,8 +157,9 @@ module _ (a b c : Sum) where
   unfolding stepOf kindOf leafStep primitiveOf primitive taking
   makes-add e = record {
     run = λ ss at h n f i. (
-      counted n,
-      one-run (does prim.Add) at h (state (a ∷ b ∷ ss) n f) (state (c ∷ ss) (counted n) (f || false)) (rw (two-there ss) (two-run (ofTwo prim.Add b a) at h n f ss e (omega arith))),
+      counted (paired (pairsOf prim.Add b a) n),
+      one-run (does prim.Add) at h (state (a ∷ b ∷ ss) n f) (state (c ∷ ss) (counted (paired (pairsOf prim.Add b a) n)) (f || false))
+          (rw (two-there ss) (two-run (ofTwo prim.Add b a) at h (paired (pairsOf prim.Add b a) n) f ss e (omega arith))),
     );
   }
 
@@ -156,8 +167,9 @@ module _ (a b c : Sum) where
   unfolding stepOf kindOf leafStep primitiveOf primitive taking
   makes-pow e = record {
     run = λ ss at h n f i. (
-      counted n,
-      one-run (does prim.Pow) at h (state (a ∷ b ∷ ss) n f) (state (c ∷ ss) (counted n) (f || false)) (rw (two-there ss) (two-run (ofTwo prim.Pow b a) at h n f ss e (omega arith))),
+      counted (paired (pairsOf prim.Pow b a) n),
+      one-run (does prim.Pow) at h (state (a ∷ b ∷ ss) n f) (state (c ∷ ss) (counted (paired (pairsOf prim.Pow b a) n)) (f || false))
+          (rw (two-there ss) (two-run (ofTwo prim.Pow b a) at h (paired (pairsOf prim.Pow b a) n) f ss e (omega arith))),
     );
   }
 

@@ -100,14 +100,15 @@ reads-back flag s f =
     let l = listed 4 s (f .good) (f .real) (f .powers) (f .small) in
     let a = all-read flag l (rising 4 (f .good) l) (omega (arith, f .few)) in
     let r = read-list (a .reads) in
-    let g = read-good (a .list) (r .1) in
+    let g = read-good (a .list) (r .2) in
     let n = listed-nice l in
     record {
       list = a .list;
       written = a .written;
       t = a .to;
       handled = r .0;
-      read = r .1;
+      pairs = r .1;
+      read = r .2;
       pair = pair-list flag l false end (a .list) (a .written);
       back = record {
         same = came-terms (a .came) n;

@@ -1,5 +1,6 @@
 -- What `write` wrote, `read` gives back, over trees: the terms that aren't zero, as they were; at most 0·x besides; and the list that
 -- the formula was written as is what it is written as again.
+use Prim.Native.Nat.{ℕ}
 use mathlib.Core.Path.{_≡_}
 use mathlib.Core.Bool.{Bool, true, false, _&&_, _||_}
 use mathlib.Core.List.{List, [], _∷_}
@@ -50,7 +51,8 @@ pub record Back (flag : Bool) (s : Sum) : Type 0 where
   pub written : toNodes flag s ≡ wrote list
   pub t : Sum
   pub handled : Bool
-  pub read : readNodes list ≡ done t (flag && wrotePair (terms s)) handled
+  pub pairs : ℕ
+  pub read : readNodes list ≡ done t (flag && wrotePair (terms s)) handled pairs
   pub pair : hasPair list ≡ (flag && wrotePair (terms s))
   pub back : ReadBack s t
 

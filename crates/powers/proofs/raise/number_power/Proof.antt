@@ -42,14 +42,14 @@ number c = constant-lies _ (start c .pre .0) 0 (room-less {n = 192} (omega arith
 abbrev stored : tie.After-power-by → tie.After-store
 stored c = c .before .before .before .before .before .before .before
 
-told : (c : tie.After-power-by) → (let a = start (stored c) .args in Agrees (c .power-by .result) (T″ c) 64 (power (constant (real (a .base))) (a .e)))
-told c = c .power-by .ensures .1 _ (number (stored c))
+told : (c : tie.After-power-by) → (let a = start (stored c) .args in Agrees (c .power-by .result .formed) (T″ c) 64 (power (constant (real (a .base))) (a .e)))
+told c = c .power-by .ensures .1 .0 _ (number (stored c))
 
 abbrev raised : tie.After-known-told → tie.After-power-by
 raised c = c .before .before .before .before .before .before
 
-made : (c : tie.After-known-told) → (let a = start (stored (raised c)) .args in Agreed (T″ (raised c)) 64 (c .before .m .given .0 .0) (power (constant (real (a .base))) (a .e)))
-made c = agreed-done (T″ (raised c)) 64 _ (raised c .power-by .result) _ (told (raised c)) (c .before .m .given .1)
+made : (c : tie.After-known-told) → (let a = start (stored (raised c)) .args in Agreed (T″ (raised c)) 64 (c .before .formed .given .0 .0) (power (constant (real (a .base))) (a .e)))
+made c = agreed-done (T″ (raised c)) 64 _ (raised c .power-by .result .formed) _ (told (raised c)) (c .before .formed .given .1)
 
 pub number-power-spec : {M : Type 1} → statement M
 number-power-spec =
@@ -93,4 +93,4 @@ number-power-spec =
     (λ c.
     let up = c .before .before .before .before .before .before in
     let st = start (stored up) in
-    (kept-refl (B st) _ _, agree-refused (B st) (st .args .p) _ _ (agreed-refused (T″ up) 64 _ (up .power-by .result) _ (told up) (c .before .r .given .1)))))
+    (kept-refl (B st) _ _, agree-refused (B st) (st .args .p) _ _ (agreed-refused (T″ up) 64 _ (up .power-by .result .formed) _ (told up) (c .before .formed2 .given .1)))))

@@ -15,7 +15,8 @@ use Rattle.arithmetic.specs.Add.Contract.Operands.{constantOf}
 use Rattle.arithmetic.proofs.add.Places.{kept-result, room-result, result-operand}
 use Rattle.powers.specs.declared.raise.Real.{Real}
 use Rattle.powers.specs.Raise.Contract.Reals.{realOf, eulerIs}
-use Rattle.powers.proofs.raise.Reals.{euler-is, real-finite, pow-exp, pow-real, pow-not, x-some, exp-head}
+use Rattle.powers.proofs.raise.Reals.{euler-is, real-finite, pow-exp, pow-real, pow-not, pow-pairs-exp, pow-pairs-real, x-some, exp-head}
+use Rattle.powers.proofs.raise.Pairs.{counted-agrees, counted-is, counted-refused}
 use Rattle.powers.proofs.raise.pow.Statement.{statement}
 use Rattle.powers.proofs.raise.pow.Tie as tie
 
@@ -50,9 +51,9 @@ pub pow-spec : {M : Type 1} → statement M
 pow-spec =
     tie.close
     (tie.spec
-    (λ c κs. c .before .before .before .before .before .pre .0 .held)
     (λ c κs. search needs)
-    (λ c κs. c .before .before .before .before .before .before .before .before .before .before .pre .1 .held)
+    (λ c κs. search needs)
+    (λ c κs. search needs)
     -- E to a single x
     (λ c κs.
     let asks = c .before .before .before .before in
@@ -63,14 +64,21 @@ pow-spec =
     let some = x-some (lt .0) (one .1) in
     let ends = lt .1 .ends in
     (exp-head _ (omega arith), result-operand (st .pre .1), room-result (st .args .w) (st .pre .2)))
+    (λ c κs. search needs)
     (λ c. search needs)
     (λ c. search needs)
     (λ c. search needs)
     (λ c.
-    let made = c .before .before .before .before .before in
+    let made = c .before .before .before .before .before .before in
     let test = made .before .before .before .before in
-    (kept-result (made .over .ensures .0), λ s t ls lt. rw (pow-exp s t (asked (test .before) _ (test .if1 .taken) s t ls lt)) (made .over .ensures .1 t lt)))
-    (λ c κs. start (c .before .before .before .before) .pre .1 .held)
+    let told = c .counted .ensures in (
+      kept-result (made .over .ensures .0),
+      (
+        λ s t ls lt. counted-agrees _ _ _ _ told (rw (pow-exp s t (asked (test .before) _ (test .if1 .taken) s t ls lt)) (made .over .ensures .1 t lt)),
+        λ s t ls lt. counted-is told (sym (pow-pairs-exp s t (asked (test .before) _ (test .if1 .taken) s t ls lt))),
+      ),
+    ))
+    (λ c κs. search needs)
     (λ c κs. search needs)
     (λ c. search needs)
     -- a real power
@@ -81,6 +89,7 @@ pow-spec =
     let lt = st .pre .1 .held in
     (real-finite (lt .0) _ (lt .1 .good) (real-number real _ (given .e .given .1) (lt .0) (lt .1)), st .pre .0, st .pre .2))
     (λ c. search needs)
+    (λ c κs. search needs)
     (λ c. search needs)
     (λ c. search needs)
     (λ c. search needs)
@@ -90,15 +99,23 @@ pow-spec =
     let real = given .before .before in
     let test = tested real in (
       made .power-by .ensures .0,
-      λ s t ls lt. rw (pow-real s t (asked (test .before) _ (test .if1 .left) s t ls lt) _ (real-number real _ (given .e .given .1) t lt)) (made .power-by .ensures .1 s ls),
+      (
+        λ s t ls lt. rw (pow-real s t (asked (test .before) _ (test .if1 .left) s t ls lt) _ (real-number real _ (given .e .given .1) t lt)) (made .power-by .ensures .1 .0 s ls),
+        λ s t ls lt. rw (pow-pairs-real s t (asked (test .before) _ (test .if1 .left) s t ls lt) _ (real-number real _ (given .e .given .1) t lt)) (made .power-by .ensures .1 .1 s ls),
+      ),
     ))
     -- any other
     (λ c. search needs)
     (λ c. search needs)
     (λ c. search needs)
     (λ c.
-    let real = c .before .before in
-    let test = tested real in (
+    let none = c .before in
+    let real = none .before .before in
+    let test = tested real in
+    let told = c .counted2 .ensures in (
       kept-refl (B (start (test .before))) _ _,
-      λ s t ls lt. rw (pow-not s t (asked (test .before) _ (test .if1 .left) s t ls lt) (real-number real _ (c .enum-told .given .1) t lt)) refl,
+      (
+        λ s t ls lt. counted-agrees _ _ _ _ told (rw (pow-not s t (asked (test .before) _ (test .if1 .left) s t ls lt) (real-number real _ (none .enum-told .given .1) t lt)) refl),
+        λ s t ls lt. counted-refused told,
+      ),
     )))

@@ -14,7 +14,8 @@ use Rattle.arithmetic.specs.Power.{rootable}
 use Rattle.sums.specs.Contract.Lies.{Lies}
 use Rattle.arithmetic.proofs.add.Places.{kept-result, room-result, apart-result}
 use Rattle.powers.specs.Raise.Contract.Roots.{Rooting}
-use Rattle.powers.proofs.raise.Reals.{power-whole, power-several, power-math, power-root}
+use Rattle.powers.proofs.raise.Reals.{power-whole, power-several, power-math, power-root, power-pairs-whole, power-pairs-root}
+use Rattle.powers.proofs.raise.Pairs.{counted-agrees, counted-is, counted-refused}
 use Rattle.powers.proofs.raise.power_by.Statement.{statement}
 use Rattle.powers.proofs.raise.power_by.Tie as tie
 
@@ -61,29 +62,49 @@ power-by-spec =
     let whole = c .before .before .before .before .before in
     let test = whole .before .before .before .before in
     let w = test .before in
-    (whole .whole-power .ensures .0, λ s l. rw (power-whole s (start w .args .e) (asked w _ (test .if1 .taken))) (whole .whole-power .ensures .1 s l)))
-    (λ c κs. start (c .before .before .before .before) .pre .1 .held)
-    -- several terms, or one of another kind
-    (λ c. search needs)
-    (λ c. search needs)
-    (λ c. search needs)
-    (λ c.
-    let test = of-root (c .before) in
-    let w = test .before in (
-      kept-refl (B (start w)) _ _,
-      λ s l. rw (power-several s (start w .args .e) (asked w _ (test .if1 .left)) (sym (c .before .can-root .ensures s l) ∙ not-true _ (c .if2 .taken))) refl,
+    let is = asked w _ (test .if1 .taken) in (
+      whole .whole-power .ensures .0,
+      (
+        λ s l. rw (power-whole s (start w .args .e) is) (whole .whole-power .ensures .1 .0 s l),
+        λ s l. rw (power-pairs-whole s (start w .args .e) is) (whole .whole-power .ensures .1 .1 s l),
+      ),
     ))
-    (λ c κs. start (of-root (c .before .before .before .before) .before) .pre .1 .held)
-    -- a coefficient that isn't 1
+    (λ c κs. search needs)
+    -- several terms, or one of another kind
+    (λ c κs. search needs)
     (λ c. search needs)
     (λ c. search needs)
     (λ c. search needs)
     (λ c.
-    let rooted = of-units (c .before) in
-    let test = of-root (rooted .before) in
-    let w = test .before in (
+    let asks = c .before in
+    let test = of-root (asks .before) in
+    let w = test .before in
+    let told = c .counted .ensures in (
       kept-refl (B (start w)) _ _,
-      λ s l. rw (power-math s (start w .args .e) (asked w _ (test .if1 .left)) (single rooted s l) (sym (c .before .unit-coefs .ensures s l) ∙ not-true _ (c .if3 .taken))) refl,
+      (
+        λ s l. counted-agrees _ _ _ _ told
+            (rw (power-several s (start w .args .e) (asked w _ (test .if1 .left)) (sym (asks .before .can-root .ensures s l) ∙ not-true _ (asks .if2 .taken))) refl),
+        λ s l. counted-refused told,
+      ),
+    ))
+    (λ c κs. search needs)
+    -- a coefficient that isn't 1
+    (λ c κs. search needs)
+    (λ c. search needs)
+    (λ c. search needs)
+    (λ c. search needs)
+    (λ c.
+    let asks = c .before in
+    let rooted = of-units (asks .before) in
+    let test = of-root (rooted .before) in
+    let w = test .before in
+    let told = c .counted2 .ensures in (
+      kept-refl (B (start w)) _ _,
+      (
+        λ s l. counted-agrees _ _ _ _ told
+            (rw (power-math s (start w .args .e) (asked w _ (test .if1 .left)) (single rooted s l) (sym (asks .before .unit-coefs .ensures s l) ∙ not-true _ (asks .if3 .taken))) refl),
+        λ s l. counted-refused told,
+      ),
     ))
     -- a root
     (λ c κs.
@@ -91,16 +112,22 @@ power-by-spec =
     let st = start (of-root (of-units (units .before) .before) .before) in
     let held = st .pre .1 .held in
     (st .pre .0, (held .0, rooting units (held .0) (held .1)), apart-result (st .pre .1 .apart), room-result (st .args .w) (st .pre .2)))
+    (λ c κs. search needs)
     (λ c. search needs)
     (λ c. search needs)
     (λ c. search needs)
     (λ c.
-    let done = c .before .before .before .before .before in
+    let done = c .before .before .before .before .before .before in
     let units = done .before .before .before .before in
     let test = of-root (of-units (units .before) .before) in
-    let w = test .before in (
+    let w = test .before in
+    let other = asked w _ (test .if1 .left) in
+    let told = c .counted3 .ensures in (
       kept-result (done .root .ensures .0),
-      λ s l.
-          let r = rooting units s l in
-          rw (power-root s (start w .args .e) (asked w _ (test .if1 .left)) (r .single) (r .units)) (done .root .ensures .1 s r),
+      (
+        λ s l.
+            let r = rooting units s l in
+            counted-agrees _ _ _ _ told (rw (power-root s (start w .args .e) other (r .single) (r .units)) (done .root .ensures .1 s r)),
+        λ s l. counted-is told (sym (power-pairs-root s (start w .args .e) other)),
+      ),
     )))

@@ -16,7 +16,7 @@ use Rattle.reading.proofs.cost.Laws.{cost-none, turn-next, turn-levels,
 use Rattle.reading.proofs.cost.stretch_steps.Reads as stretch-steps
 use Rattle.reading.proofs.cost.stretch_steps.Kinds as stretch-steps-kinds
 use Rattle.reading.proofs.cost.+stretch_steps.Lts-stretch_steps as stretch-steps-lts
-use Rattle.reading.proofs.cost.add_steps.Reads as add-steps-reads
+use Rattle.stack.proofs.state.capped_sum.Reads as capped-sum-reads
 use Rattle.reading.proofs.cost.inside_times.Reads as inside-times-reads
 use Rattle.reading.proofs.cost.own_steps.Reads as own-steps-reads
 use Rattle.formats.proofs.record.record_at.Reads as record-at-reads
@@ -52,8 +52,8 @@ pub +stretch-steps-spec : {M : Type 1} → statement M
       stretch-steps.Post,
       own-steps-reads.Asked,
       own-steps-reads.Learnt,
-      add-steps-reads.Asked,
-      add-steps-reads.Learnt,
+      capped-sum-reads.Asked,
+      capped-sum-reads.Learnt,
     )
     (at-measure t)
     stretch-steps.Post
@@ -99,9 +99,9 @@ pub +stretch-steps-spec : {M : Type 1} → statement M
     let r = c .before .before .before .before .before .record-at in (
       (l .inv .0 .0, turn-after (a .list .now) (l .at) (a .to) (l .inv .0 .0) (a .left) (l .inv .0 .1) (omega arith) (r .result) (r .ensures .0)),
       turn-steps (a .list .now) (l .at) (a .to) (l .inv .0 .0) (a .left) (l .inv .0 .1) (omega arith) (r .result) (r .ensures .0) (costOf (forest (a .list .now) (a .from) (a .to)))
-          (l .steps) (c .before .before .before .inside-times .result) (c .before .before .stretch-steps .result) (c .before .own-steps .result) (c .add-steps .result)
-          (c .before .before .before .inside-times .ensures) (c .before .before .stretch-steps .ensures) (c .before .own-steps .ensures) (c .add-steps .ensures) (l .inv .1),
-      omega (arith, c .add-steps .ensures),
+          (l .steps) (c .before .before .before .inside-times .result) (c .before .before .stretch-steps .result) (c .before .own-steps .result) (c .capped-sum .result)
+          (c .before .before .before .inside-times .ensures) (c .before .before .stretch-steps .ensures) (c .before .own-steps .ensures) (c .capped-sum .ensures) (l .inv .1),
+      omega (arith, c .capped-sum .ensures),
     ))
     (λ c.
     let l = c .before .loop in

@@ -11,7 +11,7 @@ own-steps-spec =
     (tie.spec
     (λ c. own-never _ _ (c .if1 .taken))
     (λ c κs. search needs)
-    (λ c. own-once _ _ (c .before .if2 .taken) (c .add-steps .ensures))
+    (λ c. own-once _ _ (c .before .if2 .taken) (c .capped-sum .ensures))
     (λ c κs. search needs)
     (λ c κs. search needs)
-    (λ c. own-twice _ _ (omega (arith, c .before .before .before .if1 .left, c .before .before .if2 .left)) (c .before .add-steps2 .ensures) (c .add-steps3 .ensures)))
+    (λ c. own-twice _ _ (omega (arith, c .before .before .before .if1 .left, c .before .before .if2 .left)) (c .before .capped-sum2 .ensures) (c .capped-sum3 .ensures)))

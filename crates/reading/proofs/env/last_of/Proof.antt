@@ -38,7 +38,7 @@ returns-3 c v st s =
     let after-any-complex = after-if1 .before .before in
     let start = after-any-complex .before .before .before .before .before in
     last-one st (st .stack) (s .stack) (some-used (start .pre .1) (after-if1 .if1 .left)) (after-top-size .top-size .ensures) (omega arith) (s .complex)
-    (handled-is s (after-any-complex .any-complex .ensures))
+    (handled-is s (after-any-complex .any-complex .ensures)) (s .pairs)
 
 pub last-of-spec : {M : Type 1} → statement M
 last-of-spec =

@@ -14,7 +14,7 @@ returns c ss k =
     absurd (let z : _≡_ {A = ℕ} 0 1 = cc in omega arith)
 
 returns-2 : tie.Need-returns-2
-returns-2 c ss k = ap (ranOf (c .before .before .before .before .before .before .before .args .at) 0 false) (sym (c .before .r .given .1) ∙ c .before .before .before .halt .ensures ss k)
+returns-2 c ss k = ap (ranOf (c .before .before .before .before .before .before .before .args .at) 0 false 0) (sym (c .before .r .given .1) ∙ c .before .before .before .halt .ensures ss k)
 
 pub refuse-spec : {M : Type 1} → statement M
 refuse-spec = tie.close (tie.spec (λ c κs. search needs) (λ c. search needs) (λ c. search needs) returns returns-2)

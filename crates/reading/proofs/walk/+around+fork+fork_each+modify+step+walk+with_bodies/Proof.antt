@@ -5,8 +5,7 @@ use Prim.Native.Nat.{_+_, _-_, _*_, _≤_, max}
 use mathlib.Core.Bool.{Bool, true, false}
 use mathlib.Core.Path.{refl, sym, ap, _∙_}
 use Rattle.formats.specs.Names.{kindOf}
-use Rattle.stack.specs.Contract.Agree.{envOf}
-use Rattle.reading.proofs.turn.Leaf.{prepared, leaf-stopped, leaf-went, quick-inside}
+use Rattle.reading.proofs.turn.Leaf.{prepared, leaf-after, quick-inside}
 use Rattle.formats.specs.Tree.{forest, height, count}
 use Rattle.formats.specs.Contract.Walk.{Stretch}
 use Rattle.formats.specs.declared.record.Record.{Record}
@@ -61,9 +60,8 @@ use Rattle.modifiers.proofs.lend.lend_deepest.Reads as lend-deepest-reads
 use Rattle.modifiers.proofs.lend.put_back.Reads as put-back-reads
 use Rattle.reading.proofs.turn.read_leaf.Reads as read-leaf-reads
 use Rattle.reading.proofs.turn.is_quick.Reads as is-quick-reads
-use Rattle.reading.proofs.turn.counted.Reads as counted-reads
+use Rattle.reading.proofs.turn.finish.Reads as finish-reads
 use Rattle.stack.proofs.leaf.leaf.Reads as leaf-reads
-use Rattle.stack.proofs.leaf.flags.Reads as flags-reads
 use Rattle.reading.proofs.turn.refuse.Reads as refuse-reads
 use Rattle.reading.proofs.walk.wide.Reads as wide-reads
 use Rattle.formats.proofs.record.count_nodes.Reads as count-nodes-reads
@@ -177,10 +175,8 @@ walk-claims t = (
   is-quick-reads.Learnt,
   leaf-reads.Asked,
   leaf-reads.Learnt,
-  counted-reads.Asked,
-  counted-reads.Learnt,
-  flags-reads.Asked,
-  flags-reads.Learnt,
+  finish-reads.Asked,
+  finish-reads.Learnt,
   has-nodes-reads.Asked,
   has-nodes-reads.Learnt,
   step-below t,
@@ -595,13 +591,13 @@ step-returns-2 t c =
     step-leaf (args .at) (args .r) fs refl nothing (after-read-leaf .read-leaf .ensures)
 
 abbrev walk-Inv-loop : walk-lts.InvT-loop
-walk-Inv-loop list from to kinds₀ insides₀ numbers₀ sizes₀ v at₀ used₀ handled₀ complex₀ kinds insides numbers sizes at used handled complex =
-    ((b : Bool) × Stretch list at to b (height (forest list from to)) × OneBody list at to b) × Ready (of (book kinds insides numbers) sizes) v (envOf used handled complex)
-    × Going (of (book kinds₀ insides₀ numbers₀) sizes₀) (of (book kinds insides numbers) sizes) v (envOf used₀ handled₀ complex₀) (envOf used handled complex)
+walk-Inv-loop list from to kinds₀ insides₀ numbers₀ sizes₀ v at₀ cur₀ kinds insides numbers sizes at cur =
+    ((b : Bool) × Stretch list at to b (height (forest list from to)) × OneBody list at to b) × Ready (of (book kinds insides numbers) sizes) v cur
+    × Going (of (book kinds₀ insides₀ numbers₀) sizes₀) (of (book kinds insides numbers) sizes) v cur₀ cur
     (λ st. walkOf list from to (1152 - v) st) (λ st. walkOf list at to (1152 - v) st)
 
 abbrev walk-μ-loop : walk-lts.MeasureT-loop
-walk-μ-loop list from to kinds₀ insides₀ numbers₀ sizes₀ v at₀ used₀ handled₀ complex₀ kinds insides numbers sizes at used handled complex =
+walk-μ-loop list from to kinds₀ insides₀ numbers₀ sizes₀ v at₀ cur₀ kinds insides numbers sizes at cur =
     to - at
 
 walk-loop-holds : (t : ℕ) → walk-lts.Need-loop-holds (walk-claims t) (walk-at t) walk.Post walk-Inv-loop walk-μ-loop
@@ -641,12 +637,19 @@ walk-leaf-requires t c κs =
     let at-loop = c .before .before .before .before .before .before .before .before .before in
     prepared (at-loop .loop .inv .1)
 
-walk-enum-known-q : (t : ℕ) → walk-lts.Need-enum-known-q (walk-claims t) (walk-at t) walk.Post walk-Inv-loop walk-μ-loop
-walk-enum-known-q t c = search needs
+walk-finish-requires : (t : ℕ) → walk-lts.Need-finish-requires (walk-claims t) (walk-at t) walk.Post walk-Inv-loop walk-μ-loop
+walk-finish-requires t c κs = search needs
+
+walk-enum-known-done : (t : ℕ) → walk-lts.Need-enum-known-done (walk-claims t) (walk-at t) walk.Post walk-Inv-loop walk-μ-loop
+walk-enum-known-done t c = search needs
+
+walk-enum-told : (t : ℕ) → walk-lts.Need-enum-told (walk-claims t) (walk-at t) walk.Post walk-Inv-loop walk-μ-loop
+walk-enum-told t c = search needs
 
 walk-returns : (t : ℕ) → walk-lts.Need-returns (walk-claims t) (walk-at t) walk.Post walk-Inv-loop walk-μ-loop
 walk-returns t c =
-    let after-leaf = c .before .before .before .before .before .before .before .before .before .before in
+    let after-finish = c .before .before in
+    let after-leaf = after-finish .before .before .before .before .before .before .before .before in
     let after-if1 = after-leaf .before .before .before .before .before in
     let after-is-quick = after-if1 .before in
     let after-record-at = after-is-quick .before .before in
@@ -658,25 +661,18 @@ walk-returns t c =
     let r = after-record-at .record-at .result in
     let fs = runners (place + 1) (forest list (place + 1) (place + 1 + r .inside)) in
     let plain = quick-inside (kindOf (r .kind)) (sym (after-is-quick .is-quick .ensures) ∙ after-if1 .if1 .taken) in
-    let stopped = leaf-stopped _ place r (kindOf (r .kind)) (1152 - v) (at-loop .loop .complex) (after-leaf .leaf .ensures place) (c .before .q .given .1) in
-    going-stop _ (at-loop .loop .inv .2) (step-leaf place r fs refl plain stopped) (walk-turn t after-record-at .on (1152 - v))
-
-walk-enum-known-then : (t : ℕ) → walk-lts.Need-enum-known-then (walk-claims t) (walk-at t) walk.Post walk-Inv-loop walk-μ-loop
-walk-enum-known-then t c = search needs
-
-walk-counted-requires : (t : ℕ) → walk-lts.Need-counted-requires (walk-claims t) (walk-at t) walk.Post walk-Inv-loop walk-μ-loop
-walk-counted-requires t c κs = search needs
-
-walk-flags-requires : (t : ℕ) → walk-lts.Need-flags-requires (walk-claims t) (walk-at t) walk.Post walk-Inv-loop walk-μ-loop
-walk-flags-requires t c κs = search needs
+    let ran = leaf-after (at-loop .loop .cur) (after-leaf .leaf .result) place r (kindOf (r .kind)) (1152 - v) (after-leaf .leaf .ensures place) in
+    let quick = step-leaf place r fs refl plain (does-back (after-finish .finish .ensures) ran) in
+    let told = c .enum-told .given .1 in
+    does-back told (going-stop _ (at-loop .loop .inv .2) (does-told told quick) (walk-turn t after-record-at .on (1152 - v)))
 
 walk-loop-less : (t : ℕ) → walk-lts.Need-loop-less (walk-claims t) (walk-at t) walk.Post walk-Inv-loop walk-μ-loop
 walk-loop-less t c = omega arith
 
 walk-loop-again : (t : ℕ) → walk-lts.Need-loop-again (walk-claims t) (walk-at t) walk.Post walk-Inv-loop walk-μ-loop
 walk-loop-again t c =
-    let after-then = c .before .before .before in
-    let after-leaf = after-then .before .before .before .before .before .before .before .before .before in
+    let after-finish = c .before .before .before in
+    let after-leaf = after-finish .before .before .before .before .before .before .before .before in
     let after-if1 = after-leaf .before .before .before .before .before in
     let after-is-quick = after-if1 .before in
     let after-record-at = after-is-quick .before .before in
@@ -688,10 +684,10 @@ walk-loop-again t c =
     let r = after-record-at .record-at .result in
     let fs = runners (place + 1) (forest list (place + 1) (place + 1 + r .inside)) in
     let plain = quick-inside (kindOf (r .kind)) (sym (after-is-quick .is-quick .ensures) ∙ after-if1 .if1 .taken) in
-    let went = leaf-went _ place r (kindOf (r .kind)) (1152 - v) (at-loop .loop .complex) (after-leaf .leaf .ensures place) (after-then .then .given .1) refl (c .before .counted .ensures)
-    (c .flags .ensures) in
+    let ran = leaf-after (at-loop .loop .cur) (after-leaf .leaf .result) place r (kindOf (r .kind)) (1152 - v) (after-leaf .leaf .ensures place) in
+    let quick = step-leaf place r fs refl plain (does-back (after-finish .finish .ensures) ran) in
     let turned = walk-turn t after-record-at in
-    let gone = going-step (at-loop .loop .inv .2) (step-leaf place r fs refl plain went) (turned .on (1152 - v)) in
+    let gone = going-step (at-loop .loop .inv .2) (does-told (c .before .done .given .1) quick) (turned .on (1152 - v)) in
     ((at-loop .loop .inv .0 .0, turned .rest, turned .one), going-ready (start .pre .1 .0) gone, gone)
 
 walk-has-nodes-requires : (t : ℕ) → walk-lts.Need-has-nodes-requires (walk-claims t) (walk-at t) walk.Post walk-Inv-loop walk-μ-loop
@@ -731,8 +727,8 @@ walk-step-requires t c κs =
 walk-enum-known-ran : (t : ℕ) → walk-lts.Need-enum-known-ran (walk-claims t) (walk-at t) walk.Post walk-Inv-loop walk-μ-loop
 walk-enum-known-ran t c = search needs
 
-walk-enum-told : (t : ℕ) → walk-lts.Need-enum-told (walk-claims t) (walk-at t) walk.Post walk-Inv-loop walk-μ-loop
-walk-enum-told t c = search needs
+walk-enum-told-2 : (t : ℕ) → walk-lts.Need-enum-told-2 (walk-claims t) (walk-at t) walk.Post walk-Inv-loop walk-μ-loop
+walk-enum-told-2 t c = search needs
 
 walk-returns-2 : (t : ℕ) → walk-lts.Need-returns-2 (walk-claims t) (walk-at t) walk.Post walk-Inv-loop walk-μ-loop
 walk-returns-2 t c =
@@ -740,7 +736,7 @@ walk-returns-2 t c =
     let after-record-at = after-step .before .before .before .before .before .before .before .before .before .before in
     let at-loop = after-record-at .before .before in
     let start = at-loop .before .before .before .before .before in
-    let told = c .enum-told .given .1 in
+    let told = c .enum-told2 .given .1 in
     does-back told (going-stop _ (at-loop .loop .inv .2) (does-told told (after-step .step .ensures)) (walk-turn t after-record-at .on (1152 - start .args .v)))
 
 walk-loop-less-3 : (t : ℕ) → walk-lts.Need-loop-less-3 (walk-claims t) (walk-at t) walk.Post walk-Inv-loop walk-μ-loop
@@ -938,15 +934,14 @@ pub +around+fork+fork-each+modify+step+walk+with-bodies-spec : {M : Type 1} → 
     (walk-add-next-2 t)
     (walk-is-quick-requires t)
     (walk-leaf-requires t)
-    (walk-enum-known-q t)
+    (walk-finish-requires t)
+    (walk-enum-known-done t)
+    (walk-enum-told t)
     (λ c. walk-returns t c .kept .long .cells .kinds)
     (λ c. walk-returns t c .kept .long .cells .insides)
     (λ c. walk-returns t c .kept .long .cells .numbers)
     (λ c. walk-returns t c .kept .long .sizes)
     (walk-returns t)
-    (walk-enum-known-then t)
-    (walk-counted-requires t)
-    (walk-flags-requires t)
     (walk-loop-less t)
     (walk-loop-again t)
     (walk-has-nodes-requires t)
@@ -955,7 +950,7 @@ pub +around+fork+fork-each+modify+step+walk+with-bodies-spec : {M : Type 1} → 
     (walk-loop-again-2 t)
     (walk-step-requires t)
     (walk-enum-known-ran t)
-    (walk-enum-told t)
+    (walk-enum-told-2 t)
     (λ c. walk-returns-2 t c .kept .long .cells .kinds)
     (λ c. walk-returns-2 t c .kept .long .cells .insides)
     (λ c. walk-returns-2 t c .kept .long .cells .numbers)

@@ -15,25 +15,25 @@ two : (c : tie.Else2) → row (primitiveOf (c .before .before .before .before .b
 two c = taken-two (primitiveOf (c .before .before .before .before .before .before .args .code)) (c .before .before .taken .ensures) (c .before .if1 .left) (c .if2 .left)
 
 returns : tie.Need-returns
-returns c at complex =
+returns c at complex pairs =
     let args = c .before .before .before .before .before .before .before .before .before .before .args in
     taken-none at (1152 - args .v) (primitiveOf (args .code)) (sym (c .before .before .before .before .before .before .taken .ensures) ∙ c .before .before .before .before .before .if1 .taken)
-    (does-stop (λ ss k. ap (ranOf at (args .handled) complex) (c .halt .ensures ss k)))
+    (does-stop (λ ss k. ap (ranOf at (args .handled) complex pairs) (c .halt .ensures ss k)))
 
 returns-2 : tie.Need-returns-2
-returns-2 c at complex =
+returns-2 c at complex pairs =
     let applied = c .before .before .before .before .before .before .before in
     let tested = applied .before .before .before .before .before in
     let known = tested .before .before in
     let args = known .before .before .before .before .args in
-    taken-some at (1152 - args .v) (primitiveOf (args .code)) 1 (sym (known .taken .ensures) ∙ tested .if2 .taken) (applied .one-operand .ensures at complex)
+    taken-some at (1152 - args .v) (primitiveOf (args .code)) 1 (sym (known .taken .ensures) ∙ tested .if2 .taken) (applied .one-operand .ensures at complex pairs)
 
 returns-3 : tie.Need-returns-3
-returns-3 c at complex =
+returns-3 c at complex pairs =
     let applied = c .before .before .before .before .before .before .before in
     let tested = applied .before .before .before .before .before in
     let args = tested .before .before .before .before .before .before .args in
-    taken-some at (1152 - args .v) (primitiveOf (args .code)) 2 (two tested) (applied .two-operands .ensures at complex)
+    taken-some at (1152 - args .v) (primitiveOf (args .code)) 2 (two tested) (applied .two-operands .ensures at complex pairs)
 
 pub apply-spec : {M : Type 1} → statement M
 apply-spec =

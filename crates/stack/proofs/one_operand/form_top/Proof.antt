@@ -16,7 +16,7 @@ use Rattle.stack.specs.Contract.Blocks.{Outside}
 use Rattle.stack.proofs.state.Laws.{Topmost, topmost, ready-popped}
 use Rattle.stack.proofs.state.Forming.{filled}
 use Rattle.stack.proofs.one_operand.Table.{of-one-good}
-use Rattle.stack.proofs.one_operand.Working.{kept-outside, ready-working, any-flag}
+use Rattle.stack.proofs.one_operand.Working.{kept-outside, ready-working}
 use Rattle.stack.proofs.one_operand.Leaving.{one-formed}
 use Rattle.stack.proofs.one_operand.form_top.Statement.{statement}
 use Rattle.stack.proofs.one_operand.form_top.Tie as tie
@@ -60,12 +60,12 @@ push-formed-requires c κs =
     )
 
 returns : tie.Need-returns
-returns c at complex =
+returns c at complex pairs =
     let made = c .before .before .before .before .before .before .before .before .before .before .before .before .before .before .before .before .before in
     let st = start made in
     let p = primitiveOf (st .args .code) in
     let pushed = c .before .before .before .before .before .before .before .push-formed .ensures in
-    one-formed at (1152 - st .args .v) p (st .pre .0) (any-flag complex (st .pre .2)) (st .pre .1) (worked made) (λ s l g. pushed (ofOne p s) at (formed made s l) complex)
+    one-formed at (1152 - st .args .v) p (st .pre .0) (st .pre .2) (st .pre .1) (worked made) (λ s l g. pushed (ofOne p s) at (formed made s l) complex pairs)
 
 pub form-top-spec : {M : Type 1} → statement M
 form-top-spec =

@@ -12,7 +12,6 @@ use Rattle.stack.specs.Contract.Agree.{ranOf}
 use Rattle.stack.specs.Contract.Parts.{Tops}
 use Rattle.stack.proofs.slots.Laws.{stacked-le}
 use Rattle.stack.proofs.state.Laws.{does-none, tops-one, Topmost, topmost}
-use Rattle.stack.proofs.one_operand.Working.{any-flag}
 use Rattle.stack.proofs.one_operand.Leaving.{one-popped, one-twice}
 use Rattle.stack.proofs.one_operand.one_operand.Statement.{statement}
 use Rattle.stack.proofs.one_operand.one_operand.Tie as tie
@@ -31,7 +30,7 @@ top : (c : tie.After-top-size) → Topmost (A (start c)) (start c .args .used) (
 top c = topmost (tops c) (start c .pre .some .1 .stack)
 
 returns : tie.Need-returns
-returns c at complex = does-none 1 _ (omega arith) (ap (ranOf at (c .before .before .before .before .before .args .handled) complex) (c .short .ensures)) (c .before .if1 .taken)
+returns c at complex pairs = does-none 1 _ (omega arith) (ap (ranOf at (c .before .before .before .before .before .args .handled) complex pairs) (c .short .ensures)) (c .before .if1 .taken)
 
 top-size-requires : tie.Need-top-size-requires
 top-size-requires c κs =
@@ -42,7 +41,7 @@ top-size-requires c κs =
     (omega arith, omega arith)
 
 returns-2 : tie.Need-returns-2
-returns-2 c at complex =
+returns-2 c at complex pairs =
     let sized = c .before .before in
     let args = start sized .args in
     one-popped at (1152 - args .v) (primitiveOf (args .code)) (sym (c .before .left .ensures) ∙ c .if2 .taken) (tops sized)
@@ -62,7 +61,7 @@ push-cells-requires c κs =
     (x .some, x .few, omega arith, (start sized .args .handled, start sized .pre))
 
 returns-4 : tie.Need-returns-4
-returns-4 c at complex =
+returns-4 c at complex pairs =
     let pushed = c .before .before .before .before .before .before .before in
     let tested = pushed .before .before .before .before .before in
     let known = tested .before .before in
@@ -70,8 +69,8 @@ returns-4 c at complex =
     let st = start sized in
     let p = primitiveOf (st .args .code) in
     let twice : 2 ≤ row p .left = omega (arith, known .left .ensures, tested .before .if2 .left, tested .if3 .left) in
-    one-twice at (1152 - st .args .v) p twice (any-flag complex (st .pre)) (tops sized)
-    (λ s l. pushed .push-cells .ensures s l at (st .args .handled) complex)
+    one-twice at (1152 - st .args .v) p twice (st .pre) (tops sized)
+    (λ s l. pushed .push-cells .ensures s l at (st .args .handled) complex pairs)
 
 pub one-operand-spec : {M : Type 1} → statement M
 one-operand-spec =

@@ -6,7 +6,7 @@ use Rattle.stack.proofs.state.push_cells.Statement.{statement}
 use Rattle.stack.proofs.state.push_cells.Tie as tie
 
 returns : tie.Need-returns
-returns c s l at h complex =
+returns c s l at h complex pairs =
     let start = c .before .before .before .before in
     let ready = start .pre .3 .1 in
     let ends = l .ends in
@@ -15,7 +15,7 @@ returns c s l at h complex =
     does-full {n = start .args .n} at s (ready .within) (omega arith) (omega arith)
 
 returns-2 : tie.Need-returns-2
-returns-2 c s l at h complex =
+returns-2 c s l at h complex pairs =
     let start = c .before .before .before .before .before .before .before .before .before .before .before .before .before .before .before .before in
     let ready = start .pre .3 .1 in
     let ends = l .ends in

@@ -18,18 +18,18 @@ push-cells-requires c κs =
     (few .0, few .1, omega arith, (start .args .handled, start .pre .1))
 
 returns : tie.Need-returns
-returns c o at g complex =
+returns c o at g complex pairs =
     let start = c .before .before .before .before .before .before .before .before .before .before .before .before .before .before .before .before .before .before in
     let f = c .before .before .before .before .before .before .before .before .before .before .before .before .before .f .given in
     let pushed = c .before .before .before .before .before .before .before .push-cells .ensures in
-    push-done _ at (1152 - start .args .v) (f .0 .0) (start .args .f) o (f .1) (λ s l. pushed s l at (start .args .handled) complex) g
+    push-done _ at (1152 - start .args .v) (f .0 .0) (start .args .f) o (f .1) (λ s l. pushed s l at (start .args .handled) complex pairs) g
 
 returns-2 : tie.Need-returns-2
-returns-2 c o at g complex =
+returns-2 c o at g complex pairs =
     let start = c .before .before .before .before .before .before .before .before .before .before .before in
     let f = c .before .before .before .before .before .before .f2 .given in
     let halted = c .halt .ensures in
-    push-refused _ at (1152 - start .args .v) (f .0 .0) (start .args .f) o (f .1) (does-stop (λ ss k. ap (ranOf at (start .args .handled) complex) (halted ss k))) g
+    push-refused _ at (1152 - start .args .v) (f .0 .0) (start .args .f) o (f .1) (does-stop (λ ss k. ap (ranOf at (start .args .handled) complex pairs) (halted ss k))) g
 
 pub push-formed-spec : {M : Type 1} → statement M
 push-formed-spec =

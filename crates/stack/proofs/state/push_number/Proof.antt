@@ -24,23 +24,23 @@ made c =
     (not-false (after-finite-bits .finite-bits .result && c .before .finite-bits2 .result) (c .if1 .left))
 
 returns : tie.Need-returns
-returns c at complex =
+returns c at complex pairs =
     let start = c .before .before .before .before .before .before .before .before .before .before .before in
     let x = start .args in
     let tests = c .before .before .before .before .before .before in
     let no = not-true (tests .before .finite-bits .result && tests .finite-bits2 .result) (c .before .before .before .before .before .if1 .taken) in
     let none = not-finite (x .re) (x .im) (tests .before .finite-bits .ensures) (tests .finite-bits2 .ensures) no in
-    push-none at (1152 - x .v) none (does-stop (λ ss k. ap (ranOf at (x .handled) complex) (c .halt .ensures ss k)))
+    push-none at (1152 - x .v) none (does-stop (λ ss k. ap (ranOf at (x .handled) complex pairs) (c .halt .ensures ss k)))
 
 returns-2 : tie.Need-returns-2
-returns-2 c at complex =
+returns-2 c at complex pairs =
     let start = c .before .before .before .before .before .before .before in
     let x = start .args in
     let full = c .if2 .taken in
     rw (made (c .before)) (does-full {n = 1} at (of-bits (x .re) (x .im)) (start .pre .within) (number-size (x .re) (x .im)) (omega arith))
 
 returns-3 : tie.Need-returns-3
-returns-3 c at complex =
+returns-3 c at complex pairs =
     let start = c .before .before .before .before .before .before .before in
     let x = start .args in
     let room = c .if2 .left in

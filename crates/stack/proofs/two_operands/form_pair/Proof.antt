@@ -8,17 +8,18 @@ use Rattle.cells.specs.Contract.Book.{book}
 use Rattle.cells.specs.Contract.Moves.{over}
 use Rattle.cells.proofs.Laws.{room-less}
 use Rattle.sums.specs.Tree.Sums.{Sum}
+use Rattle.powers.specs.Raise.Contract.Pairs.{Counted}
 use Rattle.formats.specs.declared.record.Primitive.{Primitive}
 use Rattle.formats.specs.Names.{primitiveOf}
-use Rattle.primitives.specs.Forms.{ofTwo}
+use Rattle.primitives.specs.Forms.{ofTwo, pairsOf}
 use Rattle.sums.specs.Contract.Lies.{Lies, Agrees}
 use Rattle.stack.specs.Contract.Arena.{Arena, of}
 use Rattle.stack.specs.Contract.Blocks.{Outside}
 use Rattle.stack.specs.Contract.Parts.{Tops}
 use Rattle.stack.proofs.state.Laws.{tops-one, tops-two, Topmost, topmost, Pair, pair, ready-popped}
-use Rattle.stack.proofs.state.Forming.{filled}
+use Rattle.stack.proofs.state.Forming.{filled, push-paired}
 use Rattle.stack.proofs.one_operand.Table.{of-two-good}
-use Rattle.stack.proofs.one_operand.Working.{kept-outside, ready-working, any-flag}
+use Rattle.stack.proofs.one_operand.Working.{kept-outside, ready-working}
 use Rattle.stack.proofs.one_operand.Leaving.{two-formed}
 use Rattle.stack.proofs.two_operands.form_pair.Statement.{statement}
 use Rattle.stack.proofs.two_operands.form_pair.Tie as tie
@@ -52,9 +53,11 @@ worked c = kept-outside (start (sized c) .args .sizes .now) (c .form-two .ensure
 
 formed : (c : tie.After-form-two) (t s : Sum)
     → (let st = start (sized c) in let low = sized c .top-size .result in let up = st .args .used - st .args .n in let down = up - low in Lies (A st .cells) down (down + low) 4 t
-    → Lies (A st .cells) up (up + st .args .n) 4 s → Agrees (c .form-two .result) (A′ c .cells) 0 (ofTwo (primitiveOf (st .args .code)) t s))
+    → Lies (A st .cells) up (up + st .args .n) 4 s → Agrees (c .form-two .result .formed) (A′ c .cells) 0 (ofTwo (primitiveOf (st .args .code)) t s)
+    × Counted (c .form-two .result) (pairsOf (primitiveOf (st .args .code)) t s))
 formed c t s lt ls =
-    subst (λ (p : Primitive). Agrees (c .form-two .result) (A′ c .cells) 0 (ofTwo p t s)) (sized c .before .before .primitive-of .ensures) (c .form-two .ensures .1 t s lt ls)
+    subst (λ (p : Primitive). Agrees (c .form-two .result .formed) (A′ c .cells) 0 (ofTwo p t s) × Counted (c .form-two .result) (pairsOf p t s))
+    (sized c .before .before .primitive-of .ensures) (c .form-two .ensures .1 .0 t s lt ls, c .form-two .ensures .1 .1 t s lt ls)
 
 top-size-requires : tie.Need-top-size-requires
 top-size-requires c κs =
@@ -84,19 +87,23 @@ push-formed-requires c κs =
     let st = start (sized made) in
     let x = both (sized made) in
     let p = primitiveOf (st .args .code) in
-    let agrees = formed made (x .t) (x .s) (x .second .lies) (x .first .lies) in (
-      filled (made .form-two .result) (A′ made .cells) (ofTwo p (x .t) (x .s)) (λ r e. of-two-good p (x .second .good) (x .first .good) e) agrees,
+    let agrees = formed made (x .t) (x .s) (x .second .lies) (x .first .lies) .0 in (
+      filled (made .form-two .result .formed) (A′ made .cells) (ofTwo p (x .t) (x .s)) (λ r e. of-two-good p (x .second .good) (x .first .good) e) agrees,
       ready-working (worked made) (ready-popped (st .pre .3) (x .second .rest) (omega arith)),
     )
 
 returns : tie.Need-returns
-returns c at complex =
-    let made = c .before .before .before .before .before .before .before .before .before .before .before .before .before .before .before .before .before in
+returns c at complex pairs =
+    let put = c .before .before .before .before .before .before .before .before .push-formed in
+    let made = c .before .before .before .before .before .before .before .before .before .before .before .before .before .before .before .before .before .before in
     let st = start (sized made) in
     let p = primitiveOf (st .args .code) in
-    let pushed = c .before .before .before .before .before .before .before .push-formed .ensures in
-    two-formed at (1152 - st .args .v) p (st .pre .0) (any-flag complex (st .pre .3)) (tops (sized made)) (worked made)
-    (λ s t ls gs lt gt. pushed (ofTwo p t s) at (formed made t s lt ls) complex)
+    let f = made .form-two .result .formed in
+    rw (c .more-pairs .ensures)
+    (two-formed at (1152 - st .args .v) p (st .pre .0) (st .pre .3) (tops (sized made)) (worked made)
+    (λ s t ls gs lt gt.
+    let told = formed made t s lt ls in
+    push-paired at (1152 - st .args .v) (put .result) f (A′ made .cells) (ofTwo p t s) (told .0) (told .1) (put .ensures (ofTwo p t s) at (told .0) complex pairs)))
 
 pub form-pair-spec : {M : Type 1} → statement M
 form-pair-spec =
@@ -108,6 +115,7 @@ form-pair-spec =
     (λ c. let e = both c .second .ends in omega arith)
     form-two-requires
     push-formed-requires
+    (λ c κs. search needs)
     (λ c. search needs)
     (λ c. search needs)
     (λ c. search needs)

@@ -12,7 +12,6 @@ use Rattle.stack.specs.Contract.Parts.{Tops}
 use Rattle.stack.proofs.slots.Laws.{space-less}
 use Rattle.stack.proofs.state.Laws.{tops-one, tops-two, Topmost, topmost, Pair, pair}
 use Rattle.stack.proofs.one_operand.Table.{rows}
-use Rattle.stack.proofs.one_operand.Working.{any-flag}
 use Rattle.stack.proofs.one_operand.Leaving.{two-turned, two-over}
 use Rattle.stack.proofs.two_operands.two_leave.Statement.{statement}
 use Rattle.stack.proofs.two_operands.two_leave.Tie as tie
@@ -56,13 +55,13 @@ flip-requires c κs =
     (space-less (ready .some .1 .below) (ready .space), (tops sized, (ready .some .0 .stack, ready .some .1 .stack)))
 
 returns-2 : tie.Need-returns-2
-returns-2 c at complex =
+returns-2 c at complex pairs =
     let flipped = c .before .before .before .before .before .before .before in
     let tested = flipped .before .before .before .before .before in
     let sized = tested .before in
     let st = start sized in
     let left = sym (sized .before .before .before .left .ensures) ∙ tested .if2 .taken in
-    two-turned at (primitiveOf (st .args .code)) left (any-flag complex (st .pre .3)) (tops sized) (flipped .flip .ensures)
+    two-turned at (primitiveOf (st .args .code)) left (st .pre .3) (tops sized) (flipped .flip .ensures)
 
 push-cells-requires : tie.Need-push-cells-requires
 push-cells-requires c κs =
@@ -74,7 +73,7 @@ push-cells-requires c κs =
     (x .second .some, x .second .few, omega arith, (st .args .handled, st .pre .3))
 
 returns-3 : tie.Need-returns-3
-returns-3 c at complex =
+returns-3 c at complex pairs =
     let pushed = c .before .before .before .before .before .before .before in
     let tested = pushed .before .before .before .before .before in
     let sized = tested .before in
@@ -82,7 +81,7 @@ returns-3 c at complex =
     let st = start sized in
     let p = primitiveOf (st .args .code) in
     let some : 3 ≤ row p .left = omega (arith, known .left .ensures, rows p .1 (st .pre .0), sized .before .before .if1 .left, tested .if2 .left) in
-    two-over at (1152 - st .args .v) p some (any-flag complex (st .pre .3)) (tops sized) (λ t l. pushed .push-cells .ensures t l at (st .args .handled) complex)
+    two-over at (1152 - st .args .v) p some (st .pre .3) (tops sized) (λ t l. pushed .push-cells .ensures t l at (st .args .handled) complex pairs)
 
 pub two-leave-spec : {M : Type 1} → statement M
 two-leave-spec =

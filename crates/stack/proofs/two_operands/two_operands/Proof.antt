@@ -26,7 +26,7 @@ top : (c : tie.After-top-size) → Topmost (A (start c)) (start c .args .used) (
 top c = topmost (tops c) (start c .pre .1 .some .1 .stack)
 
 returns : tie.Need-returns
-returns c at complex = does-none 2 _ (omega arith) (ap (ranOf at (c .before .before .before .before .before .args .handled) complex) (c .short .ensures)) (c .before .if1 .taken)
+returns c at complex pairs = does-none 2 _ (omega arith) (ap (ranOf at (c .before .before .before .before .before .args .handled) complex pairs) (c .short .ensures)) (c .before .if1 .taken)
 
 top-size-requires : tie.Need-top-size-requires
 top-size-requires c κs =
@@ -37,9 +37,9 @@ top-size-requires c κs =
     (omega arith, omega arith)
 
 returns-2 : tie.Need-returns-2
-returns-2 c at complex =
+returns-2 c at complex pairs =
     let sized = c .before .before in
-    does-only _ (ap (ranOf at (start sized .args .handled) complex) (c .short2 .ensures)) (tops sized) (c .before .if2 .taken)
+    does-only _ (ap (ranOf at (start sized .args .handled) complex pairs) (c .short2 .ensures)) (tops sized) (c .before .if2 .taken)
 
 two-leave-requires : tie.Need-two-leave-requires
 two-leave-requires c κs =

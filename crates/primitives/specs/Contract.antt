@@ -1,0 +1,2 @@
+-- What contracts between own functions, or laws, cite, and no promise to a user.
+pub mod Counting
