@@ -139,7 +139,7 @@ const DERIVATIVE: Entry<2> = Entry {
 const READ: Entry<3> = Entry {
     name: "read",
     size: ENTRY,
-    library: proved::read,
+    library: forms::library_read,
     forms: forms::READ,
 };
 

@@ -60,7 +60,7 @@ impl Entry {
                 sides.push(Side::new(MODULE, move |list| module_derivative(list, &asm)));
                 sides
             }
-            Entry::Read => from_bytes(proved::read, forms::READ),
+            Entry::Read => from_bytes(forms::library_read, forms::READ),
             Entry::Run => {
                 let mut sides = vec![Side::new(PROVED, |list| proved::run(list, X))];
                 for (name, run) in forms::RUN {
@@ -106,7 +106,7 @@ impl Checker {
 
     fn read(&mut self, list: &[u8]) {
         let mut owed = [0; MOST_ENTRIES * ENTRY];
-        let told = proved::read(list, &mut owed);
+        let told = forms::library_read(list, &mut owed);
         for (_, read) in forms::READ {
             let mut out = [0; MOST_ENTRIES * ENTRY];
             let given = read(&mut self.lent, list, &mut out);

@@ -126,7 +126,12 @@ fn read_list(list: &ToRead, out: Option<&str>) -> Done {
         ""
     };
     Ok(Printed {
-        text: format!("{}\n\n{}{complex}", formula(&sum), term_table(&sum)),
+        text: format!(
+            "{}\n{}\n{}{complex}",
+            formula(&sum),
+            cost::pairs_text(found.pairs),
+            term_table(&sum)
+        ),
         remarks,
     })
 }

@@ -1,4 +1,4 @@
-//! What it takes to read a list, asked before it is read.
+//! What it takes to read a list: its steps, asked before it is read, and the pairs of terms that were multiplied.
 
 use uplink::{bytes, MOST_STEPS};
 
@@ -45,12 +45,18 @@ fn too_long(name: &str, steps: u64) -> String {
     )
 }
 
-/// A number of steps, in digits as given; the largest is told for everything above it too.
-fn counted(steps: u64, digits: fn(u64) -> String) -> String {
-    match steps {
+/// A number of steps or pairs, in digits as given; the largest is told for everything above it too.
+fn counted(number: u64, digits: fn(u64) -> String) -> String {
+    match number {
         MOST_STEPS => "more than 18 quintillion".into(),
-        steps => digits(steps),
+        number => digits(number),
     }
+}
+
+/// The pairs that a reading multiplied, as `dive read` prints them.
+pub fn pairs_text(pairs: u64) -> String {
+    let noun = if pairs == 1 { "pair" } else { "pairs" };
+    format!("{} {noun} multiplied\n", counted(pairs, grouped))
 }
 
 /// A number of steps as `dive cost` prints it.
@@ -94,6 +100,20 @@ mod tests {
         ];
         for (number, text) in cases {
             assert_eq!(grouped(number), text);
+        }
+    }
+
+    #[test]
+    fn pairs_in_words() {
+        let cases = [
+            (0, "0 pairs multiplied\n"),
+            (1, "1 pair multiplied\n"),
+            (4030, "4,030 pairs multiplied\n"),
+            (258_048, "258,048 pairs multiplied\n"),
+            (u64::MAX, "more than 18 quintillion pairs multiplied\n"),
+        ];
+        for (pairs, text) in cases {
+            assert_eq!(pairs_text(pairs), text);
         }
     }
 

@@ -96,6 +96,23 @@ Example: 62 Boths, one inside the other
 Reads the list as a formula, a sum of terms, and prints it, with the coefficient
 of each term. With -o the sum is written to OUT as entries, 32 bytes each, and
 nothing is printed.
+
+Under the formula stands how many pairs of terms were multiplied to get there: a
+pair is a term of one factor with a term of the other. Mul of a and b terms
+takes a times b pairs. Pow by a whole n takes those of its n - 1 products, each
+of the product so far with the base, whatever falls together or comes to 0. Both
+counts its body twice. What lies inside two quotients 1/(..) isn't counted, nor
+what other steps multiply.
+
+So a square of n terms is dear, n times n pairs, and a power of a sum of many
+terms is dearest: up to 258,048 pairs for one Pow. A power of x alone is cheap,
+n - 1 pairs, so raise x before it is multiplied by a sum, and not the sum by x
+again and again. Adding takes no pairs.
+
+Example: one formula in two lists
+
+  dive read samples/dear.txt           # 151 pairs: a sum times x, eight times
+  dive read samples/cheap.txt          # 87 pairs: the sum times x^8, once
 ",
     },
     Command {

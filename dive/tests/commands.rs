@@ -25,8 +25,56 @@ fn a_list_is_shown() {
 #[test]
 fn a_formula_is_read() {
     let read = line("read samples/cubic.txt").done();
-    assert!(read.starts_with("72 x - 12 x^2 + 0.5 x^3\n"), "{read}");
+    let top = "72 x - 12 x^2 + 0.5 x^3\n10 pairs multiplied\n\n";
+    assert!(read.starts_with(top), "{read}");
     assert!(read.contains("\nx^2   -12\n"), "{read}");
+}
+
+/// The pairs under the formula, and everything else the same.
+#[test]
+fn a_formula_is_dear_or_cheap() {
+    let lines = |sample: &str| {
+        let read = line(&format!("read samples/{sample}.txt")).done();
+        read.lines().map(String::from).collect::<Vec<_>>()
+    };
+    let (mut dear, mut cheap) = (lines("dear"), lines("cheap"));
+    assert_eq!(dear.remove(1), "151 pairs multiplied");
+    assert_eq!(cheap.remove(1), "87 pairs multiplied");
+    assert_eq!(dear, cheap);
+    let table = |sample| line(&format!("table samples/{sample}.txt 0 24 3")).done();
+    assert_eq!(table("dear"), table("cheap"));
+    let help = line("help read").done();
+    for words in [
+        "a times b pairs",
+        "n times n pairs",
+        "# 151 pairs",
+        "# 87 pairs",
+    ] {
+        assert!(help.contains(words), "{words}");
+    }
+}
+
+#[test]
+fn pairs_of_every_count() {
+    let folder = folder("pairs_of_every_count");
+    let list = path(&folder.join("list.txt"));
+    for (words, pairs) in [
+        ("", "0 pairs"),
+        ("Dup, Mul", "1 pair"),
+        ("push 3, Pow", "2 pairs"),
+        ("push 1, Add, push 63, Pow", "4,030 pairs"),
+        ("Pop, push 5, Exp2", "0 pairs"),
+        ("Both {0: push 2, Mul }", "2 pairs"),
+    ] {
+        fs::write(&list, words).expect("a file");
+        let read = line(&format!("read {list}")).done();
+        let second = read.lines().nth(1);
+        assert_eq!(second, Some(&format!("{pairs} multiplied")[..]), "{read}");
+    }
+    fs::write(&list, "push 1, Add, push 64, Pow").expect("a file");
+    assert!(!line(&format!("read {list}"))
+        .failed(1)
+        .contains("multiplied"));
 }
 
 #[test]
@@ -471,7 +519,7 @@ fn the_rusts_list_computes_another_formula() {
 #[test]
 fn of_powers_both_writers_write_the_same() {
     for sample in [
-        "parabola", "cubic", "fit", "on", "fork", "drag", "root", "nought", "turn",
+        "parabola", "cubic", "fit", "on", "fork", "drag", "root", "nought", "turn", "dear", "cheap",
     ] {
         for command in ["derivative", "integral", "write"] {
             let plain = line(&format!("{command} samples/{sample}.txt"));
