@@ -3,6 +3,7 @@ pub mod Down
 pub mod Roots
 pub mod Rooting
 pub mod Singles
+pub mod Flat
 pub mod Turns
 pub mod Pairs
 pub mod Whole

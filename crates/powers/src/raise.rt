@@ -11,20 +11,22 @@ use sums::order::Formed;
 use sums::tree::Merge;
 ghost use mathlib.Core.Path.{_≡_};
 ghost use mathlib.Core.Bool.{true};
-ghost use Prim.Native.Nat.{_+_, _<_, _^_};
+ghost use Prim.Native.Nat.{ℕ, _+_, _≤_, _<_, _^_};
+ghost use lib.ListN.{length, getD};
 ghost use lib.Ieee.Scale.{finite};
 ghost use Rattle.limits.specs.Limits.{sumEntries, sumLevels, highestPower};
 ghost use Rattle.numbers.specs.Numbers.{smallWhole};
 ghost use Rattle.numbers.specs.Complex.Arith.{real, one};
+ghost use Rattle.cells.specs.declared.Entry.{Entry};
 ghost use Rattle.cells.specs.Contract.Book.{lent, entering, leaving, Room};
 ghost use Rattle.cells.specs.Contract.Moves.{Apart, Kept};
-ghost use Rattle.sums.specs.Tree.Sums.{Sum, entry};
+ghost use Rattle.sums.specs.Tree.Sums.{Sum, entry, size, len};
 ghost use Rattle.sums.specs.Tree.Kinds.{X};
 ghost use Rattle.arithmetic.specs.Singles.{single, constant, alone};
 ghost use Rattle.arithmetic.specs.Power.{rootable, unitCoefs, rootOfOne, rooted, raised, wholePower, power, pow, log};
 ghost use Rattle.arithmetic.specs.Pairs.{raisedPairs, wholePairs, powerPairs, powPairs};
 ghost use Rattle.sums.specs.Contract.Heads.{GoodHead};
-ghost use Rattle.sums.specs.Contract.Lies.{Held, OfOne, OfTwo, Agrees};
+ghost use Rattle.sums.specs.Contract.Lies.{At, Held, OfOne, OfTwo, Agrees};
 ghost use Rattle.arithmetic.specs.Add.Contract.Operands.{Operand, Source};
 ghost use Rattle.powers.specs.Raise.Contract.Pairs.{Counted, countedAs};
 ghost use Rattle.powers.specs.Raise.Contract.Reals.{realOf, eulerIs};
@@ -179,6 +181,17 @@ fn turn_place(w: usize, left: u64) -> usize
     w + SUM_ENTRIES
 }
 
+// How many outermost terms the sum of n cells from i on has: each cell is one where nothing lies inside any.
+fn outermost(insides: &[u8], i: usize, n: usize, flat: bool) -> u64
+    requires { ⌜ i + n ≤ length (now insides) ⌝ }
+    ensures { λ r. ⌜ ((f : ℕ → Entry) (s : Sum) → ((k : ℕ) → f k .inside ≡ getD (now (insides .entry)) k 0) → At f i s → n ≡ size s → (flat ≡ true → len s ≡ size s) → r ≡ len s) ⌝ }
+{
+    if flat {
+        return n as u64;
+    }
+    sums::order::count(insides, i, n) as u64
+}
+
 // So many more products of the sum of n cells from i on with itself, one at least.
 fn multiply(
     kinds: &mut [u8],
@@ -194,14 +207,16 @@ fn multiply(
     ensures { λ r. ⌜ OfOne (entering kinds insides numbers) i (i + n) sumLevels (λ s. Agrees (r .formed) (leaving kinds insides numbers) w (raised times s s)) ⌝ }
     ensures { λ r. ⌜ OfOne (entering kinds insides numbers) i (i + n) sumLevels (λ s. Counted r (raisedPairs times s s)) ⌝ }
 {
-    let base = sums::order::count(insides, i, n) as u64;
+    let terms = sums::order::count(insides, i, n);
+    let flat = terms == n;
+    let base = terms as u64;
     let mut from = i;
     let mut len = n;
     let mut left = times;
     let mut pairs = 0u64;
     while 0 < left {
         let p = turn_place(w, left);
-        let more = sums::order::count(insides, from, len) as u64 * base;
+        let more = base * outermost(insides, from, len, flat);
         match arithmetic::multiply::mul(kinds, insides, numbers, from, len, i, n, p) {
             Formed::Done(m) => len = m,
             Formed::Refused(r) => return counted(Formed::Refused(r), 0),

@@ -21,6 +21,7 @@ use Rattle.arithmetic.specs.Add.Contract.Operands.{Operand, Source}
 use Rattle.arithmetic.proofs.add.Lying.{clear, lies-clear, agreed-done, agreed-refused, agree-done, agree-refused}
 use Rattle.arithmetic.proofs.add.Places.{kept-result, kept-working, room-result, room-working, result-operand, working-operand}
 use Rattle.powers.specs.Raise.Contract.Turns.{turnPlace}
+use Rattle.powers.proofs.raise.Flat.{Flat, flat-product}
 
 -- ---- places
 
@@ -70,15 +71,16 @@ pub data Place (w i n times : ℕ) : ℕ → ℕ → ℕ → Type 0 where
   first : {left : ℕ} → left ≡ times → Place w i n times i n left
   turned : {from len left : ℕ} → from ≡ turnPlace w (left + 1) → Place w i n times from len left
 
--- s is the base; so many products are left, and k pairs are multiplied
+-- s is the base; so many products are left, k pairs are multiplied, and nothing lies inside a term where nothing does in the base
 pub record So-far (b : Book) (from n left times k : ℕ) (s : Sum) : Type 0 where
   pub acc : Sum
   pub made : Lies b from (from + n) 4 acc
   pub same : raised times s s ≡ raised left acc s
   pub counts : raisedPairs times s s ≡ k + raisedPairs left acc s
+  pub flat : Flat s → Flat acc
 
 pub so-far-start : {b : Book} {i n : ℕ} (times : ℕ) {s : Sum} → Lies b i (i + n) 4 s → So-far b i n times times 0 s
-so-far-start times {s} l = record { acc = s; made = l; same = refl; counts = omega arith }
+so-far-start times {s} l = record { acc = s; made = l; same = refl; counts = omega arith; flat = λ e. e }
 
 -- the product so far, where a turn goes
 pub turn-so-far : {b : Book} {w i n times from len left p k : ℕ} {s : Sum} → Source b i n w → len ≤ 64 → Place w i n times from len left → So-far b from len left times k s → p ≡ turnPlace w left
@@ -115,6 +117,7 @@ module _ {b : Book} (b′ : Book) (p : ℕ) {from n left times k : ℕ} {s : Sum
           made = d .lies;
           same = one-more ∙ raised-sum (left - 1) (F .acc) s (d .s) (d .is);
           counts = omega (arith, left-over, raised-pairs-more (left - 1) (F .acc) s (d .s) (d .is), pairs-len (F .acc) s, f);
+          flat = λ e. flat-product (F .acc) s (d .s) (F .made .good) (F .flat e) (d .is);
         },
       )
 

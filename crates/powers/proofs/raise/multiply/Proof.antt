@@ -1,8 +1,10 @@
--- `powers::raise::multiply` meets its contract. The loop's invariant: the product so far lies at its place, and the products that are left make of it what all make of
--- the base, with the pairs that all have. Assumes nothing.
+-- `powers::raise::multiply` meets its contract. The loop's invariant: the product so far lies at its place and is flat where the base is, and the products that are left
+-- make of it what all make of the base, with the pairs that all have. Assumes nothing.
 use Prim.Native.Nat.{ℕ, _+_, _*_, _-_, _≤_, _<_}
 use native.Mathlib.Omega.{arith}
+use native.Mathlib.Nat.{mul-comm}
 use borrow.Author.Needs.{needs}
+use borrow.Author.Tests.{eqb-true}
 use mathlib.Core.Path.{_≡_, refl, sym, ap₂, _∙_}
 use Rattle.cells.specs.Contract.Book.{Book, book, at}
 use Rattle.cells.specs.Contract.Moves.{Kept}
@@ -27,11 +29,11 @@ record Known (b₀ b : Book) (times i n w from m left k : ℕ) : Type 0 where
   so-far : (s : Sum) → Lies b₀ i (i + n) 4 s → So-far b from m left times k s
 
 abbrev Inv-loop : tie.InvT-loop
-Inv-loop kinds₀ insides₀ numbers₀ times i n w base from₀ len₀ left₀ pairs₀ kinds insides numbers from m left pairs =
+Inv-loop kinds₀ insides₀ numbers₀ times i n w terms₀ flat₀ base₀ from₀ len₀ left₀ pairs₀ kinds insides numbers from m left pairs =
     Known (book kinds₀ insides₀ numbers₀) (book kinds insides numbers) times i n w from m left pairs
 
 abbrev μ-loop : tie.MeasureT-loop
-μ-loop kinds₀ insides₀ numbers₀ times i n w base from₀ len₀ left₀ pairs₀ kinds insides numbers from m left pairs = left
+μ-loop kinds₀ insides₀ numbers₀ times i n w terms₀ flat₀ base₀ from₀ len₀ left₀ pairs₀ kinds insides numbers from m left pairs = left
 
 abbrev start : tie.At-loop Inv-loop μ-loop → tie.Start Inv-loop μ-loop
 start c = c .before .before .before .before .before
@@ -56,23 +58,30 @@ terms c s l = c .before .count .ensures (at (B (start c))) s (λ j. refl) (l .la
 abbrev looped : tie.After-turn-place Inv-loop μ-loop → tie.At-loop Inv-loop μ-loop
 looped c = c .before .before
 
-abbrev placed : tie.After-count2 Inv-loop μ-loop → tie.After-turn-place Inv-loop μ-loop
+abbrev placed : tie.After-outermost Inv-loop μ-loop → tie.After-turn-place Inv-loop μ-loop
 placed c = c .before .before
 
--- and how many the product so far has
-terms-now : (c : tie.After-count2 Inv-loop μ-loop) (acc : Sum) → (let l = looped (placed c) in Lies (N l) (l .loop .from) (l .loop .from + l .loop .len) 4 acc → c .count2 .result ≡ len acc)
-terms-now c acc l = c .count2 .ensures (at (N (looped (placed c)))) acc (λ j. refl) (l .laid) (let e = l .ends in omega arith)
+-- and how many the product so far has, which is flat where the base is
+terms-now : (c : tie.After-outermost Inv-loop μ-loop) (s : Sum) → (let l = looped (placed c) in
+    let a = start l .args in
+    (z : Lies (B (start l)) (a .i) (a .i + a .n) 4 s) → c .outermost .result ≡ len (l .loop .inv .so-far s z .acc))
+terms-now c s z =
+    let l = looped (placed c) in
+    let F = l .loop .inv .so-far s z in
+    let ends = F .made .ends in
+    c .outermost .ensures (at (N l)) (F .acc) (λ j. refl) (F .made .laid) (omega arith)
+    (λ e. F .flat (omega (arith, terms l s z, eqb-true (l .before .count .result) (start l .args .n) e, z .ends)))
 
 -- at most 64 with at most 64
-few-pairs : (c : tie.After-count2 Inv-loop μ-loop) → c .count2 .result * looped (placed c) .before .count .result ≤ 4096
+few-pairs : (c : tie.After-outermost Inv-loop μ-loop) → looped (placed c) .before .count .result * c .outermost .result ≤ 4096
 few-pairs c =
     let l = looped (placed c) in
     let held = start l .pre .2 .held in
     let F = l .loop .inv .so-far (held .0) (held .1) in
-    product-most (omega (arith, terms-now c (F .acc) (F .made), len-most (F .acc), F .made .ends, l .loop .inv .few))
-    (omega (arith, terms l (held .0) (held .1), len-most (held .0), held .1 .ends, start l .pre .2 .few))
+    product-most (omega (arith, terms l (held .0) (held .1), len-most (held .0), held .1 .ends, start l .pre .2 .few))
+    (omega (arith, terms-now c (held .0) (held .1), len-most (F .acc), F .made .ends, l .loop .inv .few))
 
-abbrev counted : tie.After-mul Inv-loop μ-loop → tie.After-count2 Inv-loop μ-loop
+abbrev counted : tie.After-mul Inv-loop μ-loop → tie.After-outermost Inv-loop μ-loop
 counted c = c .before .before .before .before
 
 -- the book after the product
@@ -95,14 +104,14 @@ next : (c : tie.After-known-told Inv-loop μ-loop) (s : Sum) → (let o = counte
     let a = start l .args in
     let m = c .before .m .given .0 .0 in
     Lies (B (start l)) (a .i) (a .i + a .n) 4 s
-    → (m ≤ 64) × So-far (N′ (made c)) (q .turn-place .result) m (l .loop .left - 1) (a .times) (l .loop .pairs + o .count2 .result * l .before .count .result) s)
+    → (m ≤ 64) × So-far (N′ (made c)) (q .turn-place .result) m (l .loop .left - 1) (a .times) (l .loop .pairs + l .before .count .result * o .outermost .result) s)
 next c s ls =
     let o = counted (made c) in
     let q = placed o in
     let l = looped q in
     let G = l .loop .inv .so-far s ls in
     so-far-more (N′ (made c)) (q .turn-place .result) (q .before .loop-test .taken) G (made c .mul .result) (made c .mul .ensures .1 (G .acc) s (G .made) (base l s ls)) _ _
-    (c .before .m .given .1) (ap₂ _*_ (terms-now o (G .acc) (G .made)) (terms l s ls))
+    (c .before .m .given .1) (mul-comm (l .before .count .result) (o .outermost .result) ∙ ap₂ _*_ (terms-now o s ls) (terms l s ls))
 
 again : tie.Need-loop-again Inv-loop μ-loop
 again c =
