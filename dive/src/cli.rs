@@ -1,7 +1,7 @@
 //! The words of the command line.
 
 use crate::{
-    cost::ToRead, explain::Asked, failure::Failure, help, nearest::nearest, numbers,
+    cost::ToRead, explain::Asked, failure::Failure, given::Given, help, nearest::nearest, numbers,
     table::Minutes, writer::Writer,
 };
 
@@ -11,18 +11,18 @@ pub enum Command {
     Help(Option<String>),
     Version,
     Show {
-        file: String,
+        given: Given,
     },
     Assemble {
-        file: String,
+        given: Given,
         out: String,
     },
     Text {
-        file: String,
+        given: Given,
         out: Option<String>,
     },
     Cost {
-        file: String,
+        given: Given,
     },
     Read {
         list: ToRead,
@@ -36,7 +36,7 @@ pub enum Command {
         out: Option<String>,
     },
     Run {
-        file: String,
+        given: Given,
         x: f64,
     },
     /// The value of the list's formula.
@@ -60,6 +60,7 @@ pub enum Command {
 #[derive(Debug, Default)]
 struct Words {
     plain: Vec<String>,
+    formula: Option<String>,
     out: Option<String>,
     csv: bool,
     long: bool,
@@ -126,9 +127,11 @@ fn sorted(rest: &[String]) -> Result<Words, String> {
         match word.as_str() {
             "-o" | "--output" => {
                 let out = rest.next().ok_or("after -o comes the name of a file")?;
-                if words.out.replace(out.clone()).is_some() {
-                    return Err("-o is given twice".into());
-                }
+                once(&mut words.out, out, "-o")?;
+            }
+            "-e" | "--expression" => {
+                let formula = rest.next().ok_or("after -e comes a formula in quotes, as in -e '60 x - 6 x^2'")?;
+                once(&mut words.formula, formula, "-e")?;
             }
             "--csv" => words.csv = true,
             "--long" => words.long = true,
@@ -147,10 +150,18 @@ fn sorted(rest: &[String]) -> Result<Words, String> {
     Ok(words)
 }
 
+/// Keeps what an option says.
+fn once(kept: &mut Option<String>, said: &str, option: &str) -> Result<(), String> {
+    match kept.replace(said.into()) {
+        Some(_) => Err(format!("{option} is given twice")),
+        None => Ok(()),
+    }
+}
+
 fn command(name: &str, words: Words) -> Result<Command, Failure> {
     check_options(name, &words)?;
     match name {
-        "run" => run(words.plain),
+        "run" => run(words),
         "value" => value(words),
         "table" => table(words),
         "plot" => plot(words),
@@ -196,24 +207,25 @@ fn check_options(name: &str, words: &Words) -> Result<(), Failure> {
 }
 
 fn of_one_file(name: &str, words: Words) -> Result<Command, Failure> {
-    let (file, out, long) = (one(words.plain)?, words.out, words.long);
+    let ([], given) = taken(&words, "")?;
+    let (out, long) = (words.out, words.long);
     let writer = if words.as_rust {
         Writer::AsRust
     } else {
         Writer::Faithful
     };
     let asked = match name {
-        "show" => return Ok(Command::Show { file }),
+        "show" => return Ok(Command::Show { given }),
         "assemble" => {
             return Ok(Command::Assemble {
-                file,
+                given,
                 out: needed(out)?,
             })
         }
-        "text" => return Ok(Command::Text { file, out }),
-        "cost" => return Ok(Command::Cost { file }),
+        "text" => return Ok(Command::Text { given, out }),
+        "cost" => return Ok(Command::Cost { given }),
         "read" => {
-            let list = ToRead { file, long };
+            let list = ToRead { given, long };
             return Ok(Command::Read { list, out });
         }
         "derivative" => Asked::Derivative,
@@ -221,7 +233,7 @@ fn of_one_file(name: &str, words: Words) -> Result<Command, Failure> {
         "write" => Asked::Write,
         _ => Asked::Inverse,
     };
-    let list = ToRead { file, long };
+    let list = ToRead { given, long };
     Ok(Command::Make {
         asked,
         writer,
@@ -230,20 +242,22 @@ fn of_one_file(name: &str, words: Words) -> Result<Command, Failure> {
     })
 }
 
-fn run(plain: Vec<String>) -> Result<Command, Failure> {
-    let (file, x) = file_and_x(plain)?;
-    Ok(Command::Run { file, x })
+fn run(words: Words) -> Result<Command, Failure> {
+    let (given, x) = given_and_x(&words)?;
+    Ok(Command::Run { given, x })
 }
 
 fn value(words: Words) -> Result<Command, Failure> {
-    let long = words.long;
-    let (file, x) = file_and_x(words.plain)?;
-    let list = ToRead { file, long };
+    let (given, x) = given_and_x(&words)?;
+    let list = ToRead {
+        given,
+        long: words.long,
+    };
     Ok(Command::Value { list, x })
 }
 
 fn table(words: Words) -> Result<Command, Failure> {
-    let (list, minutes) = list_and_minutes(words.plain, words.long)?;
+    let (list, minutes) = list_and_minutes(&words)?;
     Ok(Command::Table {
         list,
         minutes,
@@ -252,7 +266,7 @@ fn table(words: Words) -> Result<Command, Failure> {
 }
 
 fn plot(words: Words) -> Result<Command, Failure> {
-    let (list, minutes) = list_and_minutes(words.plain, words.long)?;
+    let (list, minutes) = list_and_minutes(&words)?;
     if minutes.from == minutes.to {
         return Err(Failure::Usage("FROM must be below TO for a plot".into()));
     }
@@ -263,32 +277,49 @@ fn plot(words: Words) -> Result<Command, Failure> {
     })
 }
 
-fn exactly<const N: usize>(plain: Vec<String>, what: &str) -> Result<[String; N], Failure> {
-    let count = plain.len();
-    plain
-        .try_into()
-        .map_err(|_| Failure::Usage(format!("it takes {what}, and {count} words are given")))
+/// The words that a command takes, and the list's source: the word before them, or a formula.
+fn taken<const N: usize>(words: &Words, what: &str) -> Result<([String; N], Given), Failure> {
+    let mut plain = words.plain.clone().into_iter();
+    let given = match &words.formula {
+        Some(formula) => Some(Given::Formula(formula.clone())),
+        None => plain.next().map(Given::File),
+    };
+    match (given, plain.collect::<Vec<_>>().try_into()) {
+        (Some(given), Ok(taken)) => Ok((taken, given)),
+        _ => Err(Failure::Usage(miscounted(words, what))),
+    }
 }
 
-fn one(plain: Vec<String>) -> Result<String, Failure> {
-    let [file] = exactly(plain, "one FILE")?;
-    Ok(file)
+/// What is said of too many words or too few.
+fn miscounted(words: &Words, what: &str) -> String {
+    let count = words.plain.len();
+    let takes = match (&words.formula, what) {
+        (None, "") => "one FILE".into(),
+        (None, what) => format!("FILE{} {what}", if what.contains(", ") { "," } else { " and" }),
+        (Some(_), "") => "nothing beside -e, which stands for FILE".into(),
+        (Some(_), what) => format!("{what} beside -e, which stands for FILE"),
+    };
+    format!("it takes {takes}, and {count} words are given")
 }
 
 fn needed(out: Option<String>) -> Result<String, Failure> {
     out.ok_or_else(|| Failure::Usage("-o and the name of a file to write are needed".into()))
 }
 
-fn file_and_x(plain: Vec<String>) -> Result<(String, f64), Failure> {
-    let [file, x] = exactly(plain, "FILE and X")?;
+fn given_and_x(words: &Words) -> Result<(Given, f64), Failure> {
+    let ([x], given) = taken(words, "X")?;
     let x = numbers::parse(&x).map_err(|message| Failure::Usage(format!("X: {message}")))?;
-    Ok((file, x))
+    Ok((given, x))
 }
 
-fn list_and_minutes(plain: Vec<String>, long: bool) -> Result<(ToRead, Minutes), Failure> {
-    let [file, from, to, step] = exactly(plain, "FILE, FROM, TO and STEP")?;
+fn list_and_minutes(words: &Words) -> Result<(ToRead, Minutes), Failure> {
+    let ([from, to, step], given) = taken(words, "FROM, TO and STEP")?;
     let minutes = Minutes::parse([&from, &to, &step])?;
-    Ok((ToRead { file, long }, minutes))
+    let list = ToRead {
+        given,
+        long: words.long,
+    };
+    Ok((list, minutes))
 }
 
 #[cfg(test)]
@@ -308,9 +339,12 @@ mod tests {
 
     #[test]
     fn commands_are_understood() {
-        let file = || String::from("a.txt");
-        let list = |long| ToRead { file: file(), long };
-        assert_eq!(parsed("show a.txt"), Ok(Command::Show { file: file() }));
+        let given = || Given::File("a.txt".into());
+        let list = |long| ToRead {
+            given: given(),
+            long,
+        };
+        assert_eq!(parsed("show a.txt"), Ok(Command::Show { given: given() }));
         let out = Some(String::from("b"));
         assert_eq!(
             parsed("read -o b a.txt"),
@@ -326,7 +360,7 @@ mod tests {
             out,
         };
         assert_eq!(parsed("inverse a.txt --long --output b"), Ok(made));
-        assert_eq!(parsed("cost a.txt"), Ok(Command::Cost { file: file() }));
+        assert_eq!(parsed("cost a.txt"), Ok(Command::Cost { given: given() }));
         assert!(matches!(
             parsed("table - 0 10 1 --csv"),
             Ok(Command::Table { csv: true, .. })
@@ -344,16 +378,34 @@ mod tests {
 
     #[test]
     fn commands_with_an_x_are_understood() {
-        let file = || String::from("a.txt");
+        let given = || Given::File("a.txt".into());
         let x = -2.5;
-        let run = Command::Run { file: file(), x };
+        let run = Command::Run { given: given(), x };
         assert_eq!(parsed("run a.txt -2.5"), Ok(run));
         let list = ToRead {
-            file: file(),
+            given: given(),
             long: true,
         };
         let value = Command::Value { list, x };
         assert_eq!(parsed("value a.txt -2.5 --long"), Ok(value));
+    }
+
+    #[test]
+    fn a_formula_stands_for_a_file() {
+        let words = |words: &[&str]| -> Vec<String> { words.iter().map(ToString::to_string).collect() };
+        let given = Given::Formula("-x ^2".into());
+        let shown = Command::Show {
+            given: given.clone(),
+        };
+        assert_eq!(parse(&words(&["show", "-e", "-x ^2"])), Ok(shown));
+        let run = Command::Run { given, x: -2.0 };
+        let line = ["run", "-2", "--expression", "-x ^2"];
+        assert_eq!(parse(&words(&line)), Ok(run));
+        assert!(refused("show -e").contains("after -e comes a formula"));
+        assert!(refused("show -e x -e x").contains("-e is given twice"));
+        assert!(refused("show a.txt -e x").contains("it takes nothing beside -e, which stands for FILE, and 1 words"));
+        assert!(refused("run a.txt 1 -e x").contains("it takes X beside -e, which stands for FILE, and 2 words"));
+        assert!(refused("table -e x 0 1").contains("it takes FROM, TO and STEP beside -e"));
     }
 
     /// A command line of the commands that have these names.

@@ -12,6 +12,7 @@ use crate::{
     explain::{explained, Asked},
     failure::Failure,
     formula::{formula, table as term_table},
+    given::Given,
     help, notation, numbers,
     plot::{self, Heading},
     remarks,
@@ -48,10 +49,10 @@ pub fn run(command: Command) -> Done {
         Command::Help(None) => Ok(help::OVERVIEW.to_string().into()),
         Command::Help(Some(name)) => Ok(help::of(&name).unwrap_or_default().into()),
         Command::Version => Ok(format!("dive {}\n", env!("CARGO_PKG_VERSION")).into()),
-        Command::Show { file } => show(&file),
-        Command::Assemble { file, out } => assemble(&file, &out),
-        Command::Text { file, out } => text(&file, out.as_deref()),
-        Command::Cost { file } => cost_of(&file),
+        Command::Show { given } => show(&given),
+        Command::Assemble { given, out } => assemble(&given, &out),
+        Command::Text { given, out } => text(&given, out.as_deref()),
+        Command::Cost { given } => cost_of(&given),
         Command::Read { list, out } => read_list(&list, out.as_deref()),
         Command::Make {
             asked,
@@ -59,25 +60,25 @@ pub fn run(command: Command) -> Done {
             list,
             out,
         } => make(asked, writer, &list, out.as_deref()),
-        Command::Run { file, x } => run_list(&file, x),
+        Command::Run { given, x } => run_list(&given, x),
         Command::Value { list, x } => value_of(&list, x),
         Command::Table { list, minutes, csv } => table(&list, minutes, csv),
         Command::Plot { list, minutes, out } => plot(&list, minutes, &out),
     }
 }
 
-fn show(file: &str) -> Done {
-    let list = Source::load(file)?.list()?;
+fn show(given: &Given) -> Done {
+    let list = Source::load(given)?.list()?;
     Ok(Printed {
         text: words::shown(&list),
         remarks: remarks::of_list(&list).into_iter().collect(),
     })
 }
 
-fn assemble(file: &str, out: &str) -> Done {
-    let source = Source::load(file)?;
+fn assemble(given: &Given, out: &str) -> Done {
+    let source = Source::load(given)?;
     let list = source.list()?;
-    save(out, &source.bytes, file)?;
+    save(out, &source.bytes, given)?;
     Ok(format!(
         "{out}: {} of {} bytes\n",
         counted(list.len(), "record", "records"),
@@ -90,10 +91,10 @@ fn counted(count: usize, one: &str, several: &str) -> String {
     format!("{count} {}", if count == 1 { one } else { several })
 }
 
-fn text(file: &str, out: Option<&str>) -> Done {
-    let text = notation::text(&Source::load(file)?.list()?);
+fn text(given: &Given, out: Option<&str>) -> Done {
+    let text = notation::text(&Source::load(given)?.list()?);
     match out {
-        Some(out) => save(out, text.as_bytes(), file).map(|()| Printed::default()),
+        Some(out) => save(out, text.as_bytes(), given).map(|()| Printed::default()),
         None => Ok(text.into()),
     }
 }
@@ -102,8 +103,8 @@ fn refuse(asked: Asked, source: &Source) -> impl Fn(Refused) -> Failure + '_ {
     move |refused| Failure::Refused(explained(asked, source, refused))
 }
 
-fn cost_of(file: &str) -> Done {
-    let source = Source::load(file)?;
+fn cost_of(given: &Given) -> Done {
+    let source = Source::load(given)?;
     let steps = bytes::cost(&source.bytes).map_err(refuse(Asked::Cost, &source))?;
     Ok(cost::text(steps).into())
 }
@@ -114,7 +115,7 @@ fn read_list(list: &ToRead, out: Option<&str>) -> Done {
     let found = bytes::read(&source.bytes, &mut room).map_err(refuse(Asked::Read, &source))?;
     let remarks = of_source(&source).into_iter().collect();
     if let Some(out) = out {
-        return save(out, found.sum, &list.file).map(|()| Printed {
+        return save(out, found.sum, &list.given).map(|()| Printed {
             text: String::new(),
             remarks,
         });
@@ -156,8 +157,8 @@ fn made<'a>(
     }
 }
 
-fn make(asked: Asked, writer: Writer, given: &ToRead, out: Option<&str>) -> Done {
-    let source = given.load()?;
+fn make(asked: Asked, writer: Writer, to_read: &ToRead, out: Option<&str>) -> Done {
+    let source = to_read.load()?;
     let mut room = vec![0; LIST_BYTES];
     let list = made(asked, writer, &source.bytes, &mut room).map_err(refuse(asked, &source))?;
     let (heading, of_formula) = about(asked, &source).unwrap_or_default();
@@ -167,7 +168,7 @@ fn make(asked: Asked, writer: Writer, given: &ToRead, out: Option<&str>) -> Done
         .chain(of_writer(asked, &source, list))
         .collect();
     match out {
-        Some(out) => save(out, list, &given.file).map(|()| Printed {
+        Some(out) => save(out, list, &to_read.given).map(|()| Printed {
             text: String::new(),
             remarks,
         }),
@@ -197,8 +198,8 @@ fn about(asked: Asked, source: &Source) -> Option<(String, Option<String>)> {
     Some((formula(&made) + "\n\n", remark))
 }
 
-fn run_list(file: &str, x: f64) -> Done {
-    let source = Source::load(file)?;
+fn run_list(given: &Given, x: f64) -> Done {
+    let source = Source::load(given)?;
     let ran = bytes::run(&source.bytes, x).map_err(refuse(Asked::Run(x), &source))?;
     Ok(format!(
         "value  {}\nsteps  {}\npeak   {}\n",
@@ -242,7 +243,7 @@ fn of_table(source: &Source, gaps: Vec<String>) -> Vec<String> {
 }
 
 fn plot(list: &ToRead, minutes: Minutes, out: &str) -> Done {
-    let (file, source) = (&list.file, list.load()?);
+    let source = list.load()?;
     let table = table::table(&source, minutes)?;
     let title = Path::new(&source.name)
         .file_name()
@@ -252,8 +253,11 @@ fn plot(list: &ToRead, minutes: Minutes, out: &str) -> Done {
         subtitle: &subtitle(&source),
     };
     let picture = plot::svg(heading, &table.rows, minutes)
-        .ok_or_else(|| Failure::Refused(format!("{file}: the values lie too far apart to draw")))?;
-    save(out, picture.as_bytes(), file)?;
+        .ok_or_else(|| {
+            let name = &source.name;
+            Failure::Refused(format!("{name}: the values lie too far apart to draw"))
+        })?;
+    save(out, picture.as_bytes(), &list.given)?;
     let points = counted(table.rows.len(), "point", "points");
     let text = format!(
         "{out}: {points} from {} to {} minutes\n",

@@ -2,26 +2,26 @@
 
 use uplink::{bytes, MOST_STEPS};
 
-use crate::{failure::Failure, source::Source};
+use crate::{failure::Failure, given::Given, source::Source};
 
 /// A list of up to so many steps is read without `--long`.
 const MOST_WITHOUT_LONG: u64 = 10_000_000;
 
-/// A file whose list is to be read as a formula.
+/// What is given with a list that is to be read as a formula.
 #[derive(Debug, Clone, PartialEq, Eq)]
 pub struct ToRead {
-    pub file: String,
+    pub given: Given,
     /// However long that takes.
     pub long: bool,
 }
 
 impl ToRead {
-    /// The list in the file.
+    /// The list that is given.
     ///
     /// # Errors
     /// There is none, or reading it would take too long.
     pub fn load(&self) -> Result<Source, Failure> {
-        let source = Source::load(&self.file)?;
+        let source = Source::load(&self.given)?;
         match bytes::cost(&source.bytes) {
             Ok(steps) if is_too_long(steps, self.long) => {
                 Err(Failure::Refused(too_long(&source.name, steps)))

@@ -1,4 +1,4 @@
-//! The list in a file: bytes of records, or the text notation.
+//! The list in a file or on the command line: bytes of records, steps in words, or a formula.
 
 use std::{
     fs,
@@ -9,8 +9,10 @@ use std::{
 use uplink::{decode_list, encode_list, list_fault, Fault, Record, RECORD_BYTES};
 
 use crate::{
+    expression::{self, kind_of, Fault as Wrong, Kind, Notation},
     failure::Failure,
-    notation::{self, Span},
+    given::Given,
+    notation::{self, Mistake, Parsed, Span},
 };
 
 /// A list, with the file that it came from.
@@ -28,8 +30,16 @@ struct Text {
 }
 
 impl Source {
+    /// The list that is given.
+    pub fn load(given: &Given) -> Result<Self, Failure> {
+        match given {
+            Given::File(file) => Source::of_file(file),
+            Given::Formula(written) => Source::of_formula(written),
+        }
+    }
+
     /// The list in a file, or in what comes from the standard input if the name is `-`.
-    pub fn load(file: &str) -> Result<Self, Failure> {
+    fn of_file(file: &str) -> Result<Self, Failure> {
         let content = if file == "-" {
             read_input()
         } else {
@@ -52,16 +62,31 @@ impl Source {
         let written = text_of(content).ok_or_else(|| {
             Failure::Refused(format!("{name} is neither a list of records (there is no zero byte in it) nor text in UTF-8"))
         })?;
-        let parsed = notation::parse(&written)
-            .map_err(|mistake| Failure::Refused(mistake.shown(name, &written)))?;
-        let bytes = encode_list(&parsed.list);
+        let parsed = match kind_of(&written) {
+            Notation::Steps => notation::parse(&written),
+            Notation::Formula => expression::parse(&written).map_err(|wrong| in_a_file(wrong, &written)),
+            Notation::Either => return Err(Failure::Refused(could_be_either(name))),
+        };
+        Source::of_text(name, written, parsed)
+    }
+
+    /// The list of a formula.
+    pub fn of_formula(written: &str) -> Result<Self, Failure> {
+        let parsed = expression::parse(written).map_err(Mistake::from);
+        Source::of_text("formula", written.into(), parsed)
+    }
+
+    fn of_text(
+        name: &str,
+        written: String,
+        parsed: Result<Parsed, Mistake>,
+    ) -> Result<Self, Failure> {
+        let Parsed { list, spans } =
+            parsed.map_err(|mistake| Failure::Refused(mistake.shown(name, &written)))?;
         Ok(Source {
             name: name.into(),
-            bytes,
-            text: Some(Text {
-                written,
-                spans: parsed.spans,
-            }),
+            bytes: encode_list(&list),
+            text: Some(Text { written, spans }),
         })
     }
 
@@ -109,6 +134,27 @@ impl Source {
     }
 }
 
+/// A mistake in a file's formula, which might be meant as steps.
+fn in_a_file(wrong: Wrong, written: &str) -> Mistake {
+    let word = (wrong.kind == Kind::Name).then(|| wrong.span.of(written));
+    let step = word.and_then(|word| notation::nearest_step(&word));
+    let mistake = Mistake::from(wrong);
+    match step {
+        Some(step) => Mistake::new(
+            mistake.span,
+            format!("{}; or is the step `{step}` meant?", mistake.message),
+        ),
+        None => mistake,
+    }
+}
+
+fn could_be_either(name: &str) -> String {
+    format!(
+        "{name} holds numbers alone, which could be meant as steps or as a formula. As a step a number is pushed, as in `push 3`; \
+         a formula that is a number is written in parentheses, as in (3)."
+    )
+}
+
 /// The record at a place of a list, if that can be told.
 pub fn record_at(list: &[u8], place: usize) -> Option<Record> {
     let bytes = list.chunks_exact(RECORD_BYTES).nth(place)?;
@@ -144,8 +190,8 @@ fn read_input() -> io::Result<Vec<u8>> {
 }
 
 /// Writes a file, but never over the one that was read.
-pub fn save(file: &str, content: &[u8], read: &str) -> Result<(), Failure> {
-    if is_same(file, read) {
+pub fn save(file: &str, content: &[u8], read: &Given) -> Result<(), Failure> {
+    if read.file().is_some_and(|read| is_same(file, read)) {
         return Err(Failure::Usage(format!(
             "{file} is the file that was read: name another one after -o"
         )));

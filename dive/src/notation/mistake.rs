@@ -9,23 +9,34 @@ pub struct Span {
 }
 
 impl Span {
-    /// The line that it stands on, with the stretch marked below it.
+    /// The line that it stands on, with the stretch marked below it. Of a long line only what is near is shown.
     pub fn shown(self, text: &str) -> String {
-        let line = text
-            .lines()
-            .nth(self.line - 1)
-            .unwrap_or("")
-            .replace('\t', " ");
+        let first = self.column.saturating_sub(1).saturating_sub(NEAR);
+        let shown = |c: char| if c.is_control() { ' ' } else { c };
+        let mut line: String = self.line_of(text).skip(first).map(shown).take(2 * NEAR).collect();
+        line.truncate(line.trim_end().len());
         let number = self.line.to_string();
         let blank = " ".repeat(number.len());
-        let before = " ".repeat(self.column - 1);
-        let mark = "^".repeat(self.width.max(1));
-        format!(
-            "  {number} | {}\n  {blank} | {before}{mark}\n",
-            line.trim_end()
-        )
+        let before = " ".repeat(self.column - 1 - first);
+        let mark = "^".repeat(self.width.clamp(1, NEAR));
+        format!("  {number} | {line}\n  {blank} | {before}{mark}\n")
+    }
+
+    /// The stretch itself.
+    pub fn of(self, text: &str) -> String {
+        let line = self.line_of(text);
+        line.skip(self.column - 1).take(self.width).collect()
+    }
+
+    /// The characters of the line that it stands on, those that aren't counted left out.
+    fn line_of(self, text: &str) -> impl Iterator<Item = char> + '_ {
+        let text = text.strip_prefix('\u{feff}').unwrap_or(text);
+        text.lines().nth(self.line - 1).unwrap_or("").chars()
     }
 }
+
+/// So many characters of a line are shown before a place, and up to as many behind.
+const NEAR: usize = 100;
 
 /// What is wrong with a text, and where.
 #[derive(Debug, Clone, PartialEq, Eq)]

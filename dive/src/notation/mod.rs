@@ -9,8 +9,9 @@ mod print;
 mod tokens;
 
 pub use mistake::{Mistake, Span};
-pub use parse::parse;
+pub use parse::{nearest_step, parse, starts_step, Parsed};
 pub use print::text;
+pub use tokens::words;
 
 use uplink::Record;
 

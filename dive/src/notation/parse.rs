@@ -252,6 +252,16 @@ fn named(word: &str) -> Option<Record> {
         .or(modified.map(|found| modifier(*found)))
 }
 
+/// Whether a word starts a step.
+pub fn starts_step(word: &str) -> bool {
+    matches!(word, "push" | "Primitive" | "Modifier") || named(word).is_some()
+}
+
+/// The name of a step that is probably meant by a word.
+pub fn nearest_step(word: &str) -> Option<&'static str> {
+    nearest(word, names())
+}
+
 /// Every name that starts a step.
 fn names() -> impl Iterator<Item = &'static str> {
     let plain = PLAIN.iter().chain(&HOLDING).map(|(name, _)| *name);
@@ -272,7 +282,7 @@ fn no_step(word: &str) -> String {
     if numbers::parse(word).is_ok() {
         return format!("a number is pushed by `push {word}`");
     }
-    match nearest(word, names()) {
+    match nearest_step(word) {
         Some(name) => format!("there is no step `{word}`; is `{name}` meant?"),
         None => format!("there is no step `{word}`; `dive help notation` lists them all"),
     }

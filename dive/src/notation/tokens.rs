@@ -79,6 +79,18 @@ impl<'a> Tokens<'a> {
     }
 }
 
+/// The words of a text, braces among them.
+pub fn words(text: &str) -> Vec<&str> {
+    let mut tokens = Tokens::of(text);
+    std::iter::from_fn(|| match tokens.take().0 {
+        Token::End => None,
+        Token::Open => Some("{"),
+        Token::Close => Some("}"),
+        Token::Word(word) => Some(word),
+    })
+    .collect()
+}
+
 /// The word at the front of a text; digits with a colon behind them are a word by themselves.
 fn first_word(text: &str) -> &str {
     let word = &text[..text.find(ends_word).unwrap_or(text.len())];
