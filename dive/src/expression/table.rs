@@ -24,7 +24,7 @@ fn cases() -> Vec<Case> {
             continue;
         }
         match formula.take() {
-            None => formula = Some(line.strip_prefix("formula ").expect("a formula")),
+            None => formula = Some(behind("formula", line).expect("a formula")),
             Some(formula) => cases.push(Case {
                 line: at,
                 formula: unescaped(formula),
@@ -34,6 +34,15 @@ fn cases() -> Vec<Case> {
     }
     assert_eq!(formula, None, "a formula without an answer");
     cases
+}
+
+/// What belongs to a keyword at the start of a line.
+fn behind<'a>(keyword: &str, line: &'a str) -> Option<&'a str> {
+    let rest = line.strip_prefix(keyword)?;
+    if rest.is_empty() {
+        return Some(rest);
+    }
+    rest.strip_prefix(' ')
 }
 
 /// A text with its escapes written out.
@@ -106,7 +115,7 @@ fn answer(formula: &str) -> String {
 
 /// The bytes of steps, so that numbers are compared by their bits.
 fn bytes(steps: &str) -> Option<Vec<u8>> {
-    let steps = steps.strip_prefix("steps ")?;
+    let steps = behind("steps", steps)?;
     let parsed = notation::parse(steps).expect("good steps");
     Some(encode_list(&parsed.list))
 }
