@@ -130,7 +130,9 @@ fn sorted(rest: &[String]) -> Result<Words, String> {
                 once(&mut words.out, out, "-o")?;
             }
             "-e" | "--expression" => {
-                let formula = rest.next().ok_or("after -e comes a formula in quotes, as in -e '60 x - 6 x^2'")?;
+                let formula = rest
+                    .next()
+                    .ok_or("after -e comes a formula in quotes, as in -e '60 x - 6 x^2'")?;
                 once(&mut words.formula, formula, "-e")?;
             }
             "--csv" => words.csv = true,
@@ -295,7 +297,10 @@ fn miscounted(words: &Words, what: &str) -> String {
     let count = words.plain.len();
     let takes = match (&words.formula, what) {
         (None, "") => "one FILE".into(),
-        (None, what) => format!("FILE{} {what}", if what.contains(", ") { "," } else { " and" }),
+        (None, what) => format!(
+            "FILE{} {what}",
+            if what.contains(", ") { "," } else { " and" }
+        ),
         (Some(_), "") => "nothing beside -e, which stands for FILE".into(),
         (Some(_), what) => format!("{what} beside -e, which stands for FILE"),
     };
@@ -392,7 +397,8 @@ mod tests {
 
     #[test]
     fn a_formula_stands_for_a_file() {
-        let words = |words: &[&str]| -> Vec<String> { words.iter().map(ToString::to_string).collect() };
+        let words =
+            |words: &[&str]| -> Vec<String> { words.iter().map(ToString::to_string).collect() };
         let given = Given::Formula("-x ^2".into());
         let shown = Command::Show {
             given: given.clone(),
@@ -403,8 +409,10 @@ mod tests {
         assert_eq!(parse(&words(&line)), Ok(run));
         assert!(refused("show -e").contains("after -e comes a formula"));
         assert!(refused("show -e x -e x").contains("-e is given twice"));
-        assert!(refused("show a.txt -e x").contains("it takes nothing beside -e, which stands for FILE, and 1 words"));
-        assert!(refused("run a.txt 1 -e x").contains("it takes X beside -e, which stands for FILE, and 2 words"));
+        assert!(refused("show a.txt -e x")
+            .contains("it takes nothing beside -e, which stands for FILE, and 1 words"));
+        assert!(refused("run a.txt 1 -e x")
+            .contains("it takes X beside -e, which stands for FILE, and 2 words"));
         assert!(refused("table -e x 0 1").contains("it takes FROM, TO and STEP beside -e"));
     }
 

@@ -252,11 +252,10 @@ fn plot(list: &ToRead, minutes: Minutes, out: &str) -> Done {
         title: &title,
         subtitle: &subtitle(&source),
     };
-    let picture = plot::svg(heading, &table.rows, minutes)
-        .ok_or_else(|| {
-            let name = &source.name;
-            Failure::Refused(format!("{name}: the values lie too far apart to draw"))
-        })?;
+    let picture = plot::svg(heading, &table.rows, minutes).ok_or_else(|| {
+        let name = &source.name;
+        Failure::Refused(format!("{name}: the values lie too far apart to draw"))
+    })?;
     save(out, picture.as_bytes(), &list.given)?;
     let points = counted(table.rows.len(), "point", "points");
     let text = format!(

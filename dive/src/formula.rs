@@ -17,26 +17,21 @@ fn level(sum: &[Entry]) -> impl Iterator<Item = (&Entry, &[Entry])> {
     })
 }
 
-/// A sum as a formula in x.
+/// A sum as a formula in x, in the notation of formulas if it has one there: read again it is the same sum.
 pub fn formula(sum: &[Entry]) -> String {
     let mut text = String::new();
     for (entry, inside) in level(sum) {
         let is_negative = entry.im == 0.0 && entry.re.is_sign_negative() && entry.re != 0.0;
-        let size = if is_negative {
-            Entry {
-                re: -entry.re,
-                ..*entry
-            }
-        } else {
-            *entry
+        let size = Entry {
+            re: entry.re.abs(),
+            ..*entry
         };
-        text.push_str(match (text.is_empty(), is_negative) {
-            (true, false) => "",
-            (true, true) => "-",
-            (false, false) => " + ",
-            (false, true) => " - ",
-        });
-        text.push_str(&with_coefficient(&size, inside));
+        text += &match (text.is_empty(), is_negative) {
+            (true, false) => with_coefficient(entry, inside),
+            (true, true) => first(entry, inside),
+            (false, false) => format!(" + {}", with_coefficient(entry, inside)),
+            (false, true) => format!(" - {}", with_coefficient(&size, inside)),
+        };
     }
     text
 }
@@ -52,8 +47,29 @@ fn with_coefficient(entry: &Entry, inside: &[Entry]) -> String {
     match entry.term {
         Term::X(0.0) => number,
         Term::Div => format!("{number}/({})", formula(inside)),
-        _ if number == "1" => term(entry, inside),
+        _ if number == "1" && !is_written_out(entry) => term(entry, inside),
         _ => format!("{number} {}", term(entry, inside)),
+    }
+}
+
+/// Whether a coefficient of 1 is written out: a broken power below 0 by itself is read with the imaginary part -0, and times 1 with 0.
+fn is_written_out(entry: &Entry) -> bool {
+    let is_broken = matches!(entry.term, Term::X(power) if power < 0.0 && power.fract() != 0.0);
+    is_broken && entry.im.is_sign_positive()
+}
+
+/// The first term, with its sign. A minus before a power of x is read as Neg, which makes the imaginary part -0, and a coefficient of -1 as a number.
+fn first(entry: &Entry, inside: &[Entry]) -> String {
+    let size = Entry {
+        re: -entry.re,
+        ..*entry
+    };
+    match entry.term {
+        Term::Div if entry.re == -1.0 => format!("-({})", with_coefficient(&size, inside)),
+        Term::X(power) if entry.re == -1.0 && power != 0.0 && entry.im.is_sign_positive() => {
+            format!("-1 {}", term(entry, inside))
+        }
+        _ => format!("-{}", with_coefficient(&size, inside)),
     }
 }
 

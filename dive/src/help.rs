@@ -12,8 +12,8 @@ pub const OVERVIEW: &str = "\
 dive: formulas of dives as lists of steps
 
   dive show FILE                       the list in words, numbered by place
-  dive assemble FILE -o OUT            from the text notation to records
-  dive text FILE                       from records to the text notation
+  dive assemble FILE -o OUT            from text to records
+  dive text FILE                       from records to steps in words
   dive cost FILE                       how many steps it takes to read the list
   dive read FILE                       the formula that the list stands for
   dive derivative FILE                 the list of its derivative: speed
@@ -25,12 +25,14 @@ dive: formulas of dives as lists of steps
   dive table FILE FROM TO STEP         minutes, depth and speed
   dive plot FILE FROM TO STEP -o OUT   the same as a picture (SVG)
   dive help COMMAND                    more about a command
-  dive help notation                   the text notation
+  dive help formula                    formulas, as in -e '60 x - 6 x^2'
+  dive help notation                   steps in words
   dive help writers                    why there are two writers of lists
 
-FILE is a list of records (24 bytes each) or in the text notation: a file with
-a zero byte in it is taken as records, any other as text. - is what comes from
-the standard input.
+FILE is a list of records (24 bytes each), steps in words, or a formula: a file
+with a zero byte in it is taken as records, any other as text. - is what comes
+from the standard input. Every command takes -e FORMULA in the place of FILE:
+dive table -e '60 x - 6 x^2' 0 10 1
 
 A list that takes more than ten million steps to read is read only with --long:
 `dive help cost`.
@@ -42,7 +44,7 @@ Exit codes: 0 done, 1 refused, 2 wrong usage or a file that can't be read or
 written.
 ";
 
-pub const COMMANDS: [Command; 15] = [
+pub const COMMANDS: [Command; 16] = [
     Command {
         name: "show",
         usage: "show FILE",
@@ -57,14 +59,15 @@ the dive. What lies inside a record is set to the right below it.
         usage: "assemble FILE -o OUT",
         about: "\
 Writes the list in FILE to OUT as records, 24 bytes each. A mistake in the text
-is shown with its line and column. See `dive help notation`.
+is shown with its line and column. See `dive help notation` and `dive help
+formula`.
 ",
     },
     Command {
         name: "text",
         usage: "text FILE [-o OUT]",
         about: "\
-Prints the list in FILE in the text notation, or writes it to OUT. Every number
+Prints the list in FILE as steps in words, or writes these to OUT. Every number
 is written so that it reads back bit for bit: assembled again, the text gives
 the same bytes.
 ",
@@ -242,6 +245,51 @@ Example
 ",
     },
     Command {
+        name: "formula",
+        usage: "help formula",
+        about: "\
+A formula in x, behind -e or --expression in the place of FILE, or in a file:
+
+  60 x - 6 x^2        -x^2 + 3        2(x+1)        x sqrt(x)        1/(1 + x)
+
+Numbers are 3, 0.5 or 2.5e-3. ^ is done first, from the right; then a minus
+before something, so that -x^2 is -(x^2); then * and /, then + and -, from the
+left. × · − ² ³ are * * - ^2 ^3. Without a sign between, x, a function or ( is
+multiplied: 60 x, 2(x+1). The functions sqrt sin cos exp ln log2 log10 take what
+is in parentheses, or one number or x. # starts a comment.
+
+What could be two things is refused: 1/2 x, which is (1/2) x or 1/(2 x); sin 2 x
+and sin x^2; a number behind something, as in x 2.
+
+Each sign is a step, and nothing is worked out beforehand:
+
+  number, + - * / ^     push, Add, Sub, Mul, Div, Pow
+  - before something    push of the number below 0, before anything else Neg
+  sqrt sin cos exp ln log2 log10       Sqrt Sin Cos Exp Ln Log2 Log10
+
+Terms are computed in the order written. In A - B the steps of A come first,
+then those of B, then Sub; x is copied by Dup or Over, or turned to the top by
+Flip, where B needs it. A number without x that is added to or multiplied by
+what stands behind it comes after that: 60 x is push 60, Mul. A formula without
+x starts with Pop. `dive show -e FORMULA` shows the steps. A list has at most
+2,048, and a formula at most 100 parentheses inside each other.
+
+A file is steps if there is a step's name, push or a brace in it, or nothing at
+all; else it is a formula. Numbers alone could be either and are refused: write
+push 3, or (3).
+
+What is read is printed as a formula, too, and read again it is the same sum to
+the bit, with these exceptions: complex numbers, sinh, cosh and logarithms to
+other bases have no formula; a function times a number isn't read; and the sign
+of an imaginary part of 0 isn't kept.
+
+Example
+
+  dive show -e '60 x - 6 x^2'          # Dup, push 60, Mul, Flip, push 2, ..
+  dive assemble -e '60 x - 6 x^2' -o parabola.list
+",
+    },
+    Command {
         name: "notation",
         usage: "help notation",
         about: "\
@@ -282,7 +330,7 @@ pub fn of(name: &str) -> Option<String> {
 }
 
 /// What there is help on besides commands.
-const TOPICS: [&str; 2] = ["writers", "notation"];
+const TOPICS: [&str; 3] = ["writers", "formula", "notation"];
 
 /// How a command is called.
 pub fn usage(name: &str) -> Option<&'static str> {
@@ -302,7 +350,7 @@ mod tests {
             assert!(OVERVIEW.contains(command.name), "{}", command.name);
             let text = of(command.name).expect("a text");
             assert!(
-                text.lines().all(|line| line.len() <= 80),
+                text.lines().all(|line| line.chars().count() <= 80),
                 "{}",
                 command.name
             );
@@ -328,6 +376,23 @@ mod tests {
                 .split(|part: char| !part.is_ascii_alphanumeric())
                 .any(|word| word == name);
             assert!(is_there, "{name}");
+        }
+    }
+
+    #[test]
+    fn the_formulas_are_formulas() {
+        let text = of("formula").expect("a text");
+        let (_, shown) = text.split_once("\n\n  ").expect("formulas");
+        let (shown, _) = shown.split_once('\n').expect("a line");
+        for formula in shown.split("    ").filter(|formula| !formula.is_empty()) {
+            assert!(crate::expression::parse(formula).is_ok(), "{formula}");
+        }
+        for (name, step) in crate::expression::FUNCTIONS {
+            let is_told = |word: &str| text.split_whitespace().any(|other| other == word);
+            assert!(
+                is_told(name) && is_told(step.name().expect("a name")),
+                "{name}"
+            );
         }
     }
 

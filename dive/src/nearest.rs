@@ -2,6 +2,10 @@
 
 /// The name nearest to a word: the same but for capitals, or a letter or two away.
 pub fn nearest<'a>(word: &str, names: impl Iterator<Item = &'a str>) -> Option<&'a str> {
+    // No name is so long that it could be near.
+    if word.len() > 60 {
+        return None;
+    }
     let small = word.to_lowercase();
     let most = if word.chars().count() > 4 { 2 } else { 1 };
     names

@@ -64,7 +64,9 @@ impl Source {
         })?;
         let parsed = match kind_of(&written) {
             Notation::Steps => notation::parse(&written),
-            Notation::Formula => expression::parse(&written).map_err(|wrong| in_a_file(wrong, &written)),
+            Notation::Formula => {
+                expression::parse(&written).map_err(|wrong| in_a_file(wrong, &written))
+            }
             Notation::Either => return Err(Failure::Refused(could_be_either(name))),
         };
         Source::of_text(name, written, parsed)

@@ -306,7 +306,7 @@ mod tests {
         is_refused(
             "Dup, push 3, Mul, Flip, Reciprocal, Sub",
             2.0,
-            &["the term -x^(-1), and"],
+            &["the term -1 x^(-1), and"],
         );
         is_refused(
             "Dup, Dup, Dup, Sub, Sin, Add, Flip, Cos, Add",

@@ -52,8 +52,7 @@ pub fn too_long(start: Span) -> Fault {
 }
 
 pub fn too_deep(span: Span) -> Fault {
-    let message = format!(
-        "this lies inside more than {MOST_OPEN} parentheses, powers and minus signs"
-    );
+    let message =
+        format!("this lies inside more than {MOST_OPEN} parentheses, powers and minus signs");
     Fault::new(Kind::Deep, span, message)
 }

@@ -49,7 +49,11 @@ fn raised(sign: char) -> Option<usize> {
 
 /// Of a word that is neither x nor a function.
 pub fn of_name(word: &str) -> String {
-    format!("there is no `{}` in a formula; {}", short(word), meant_by_name(word))
+    format!(
+        "there is no `{}` in a formula; {}",
+        short(word),
+        meant_by_name(word)
+    )
 }
 
 fn meant_by_name(word: &str) -> String {
@@ -57,6 +61,8 @@ fn meant_by_name(word: &str) -> String {
         "e" => return "e^x is written exp(x), and e itself exp(1)".into(),
         "pi" | "Pi" | "PI" => return "is 3.141592653589793 meant?".into(),
         "log" => return "is `ln`, `log2` or `log10` meant?".into(),
+        "X" => return "is `x` meant?".into(),
+        letter if letter.len() == 1 => return "the only letter in it is x".into(),
         "tan" => return "tan(x) is sin(x)/cos(x)".into(),
         "abs" => return "the magnitude of x is sqrt(x^2) where it is run".into(),
         _ => {}
@@ -65,7 +71,6 @@ fn meant_by_name(word: &str) -> String {
     let meant = joined(word, names()).or_else(|| nearest(word, names().chain(["x"])).map(quoted));
     match meant {
         Some(meant) => format!("is {meant} meant?"),
-        None if word.len() == 1 => "the only letter in it is x".into(),
         None => "`dive help formula` tells what there is".into(),
     }
 }

@@ -15,7 +15,7 @@ pub enum Notation {
 pub fn kind_of(text: &str) -> Notation {
     let words = notation::words(text);
     let is_step = |word: &&str| matches!(*word, "{" | "}") || notation::starts_step(word);
-    if words.is_empty() || words.iter().any(|word| is_step(word)) {
+    if words.is_empty() || words.iter().any(is_step) {
         Notation::Steps
     } else if words.iter().all(|word| numbers::parse(word).is_ok()) {
         Notation::Either

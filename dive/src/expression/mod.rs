@@ -3,8 +3,14 @@
 mod fault;
 mod hints;
 mod kind;
+#[cfg(test)]
+mod meaning;
 mod parse;
+#[cfg(test)]
+mod printed;
 mod steps;
+#[cfg(test)]
+mod strange;
 #[cfg(test)]
 mod table;
 mod tokens;

@@ -275,7 +275,9 @@ fn missing(token: Token) -> String {
     match token {
         Token::End => format!("something is missing here: {wanted}"),
         Token::Close => format!("before this ) something is missing: {wanted}"),
-        Token::Plus => format!("before this + something is missing: {wanted}; a number has no + before it"),
+        Token::Plus => {
+            format!("before this + something is missing: {wanted}; a number has no + before it")
+        }
         Token::Times => format!("before this something is missing: {wanted}; a power is written ^"),
         _ => format!("before this something is missing: {wanted}"),
     }

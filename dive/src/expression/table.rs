@@ -136,7 +136,12 @@ fn every_case_comes_out_as_the_table_says() {
             (!is_same).then(|| format!("line {line}: {formula}\n  {found}\n"))
         })
         .collect();
-    assert!(wrong.is_empty(), "{} differ:\n{}", wrong.len(), wrong.concat());
+    assert!(
+        wrong.is_empty(),
+        "{} differ:\n{}",
+        wrong.len(),
+        wrong.concat()
+    );
 }
 
 #[test]

@@ -4,8 +4,7 @@ use uplink::Primitive;
 
 use super::{
     fault::{Fault, Kind},
-    hints,
-    FUNCTIONS,
+    hints, FUNCTIONS,
 };
 use crate::notation::Span;
 

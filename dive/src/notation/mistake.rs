@@ -13,7 +13,12 @@ impl Span {
     pub fn shown(self, text: &str) -> String {
         let first = self.column.saturating_sub(1).saturating_sub(NEAR);
         let shown = |c: char| if c.is_control() { ' ' } else { c };
-        let mut line: String = self.line_of(text).skip(first).map(shown).take(2 * NEAR).collect();
+        let mut line: String = self
+            .line_of(text)
+            .skip(first)
+            .map(shown)
+            .take(2 * NEAR)
+            .collect();
         line.truncate(line.trim_end().len());
         let number = self.line.to_string();
         let blank = " ".repeat(number.len());
