@@ -23,3 +23,40 @@ pub fn kind_of(text: &str) -> Notation {
         Notation::Formula
     }
 }
+
+#[cfg(test)]
+mod tests {
+    use super::*;
+
+    #[test]
+    fn every_list_in_words_is_steps() {
+        for list in crate::stored::lists() {
+            let text = uplink::decode_list(&list).map(|list| notation::text(&list));
+            let text = text.unwrap_or_default();
+            if notation::parse(&text).is_ok() {
+                assert_eq!(kind_of(&text), Notation::Steps, "{text}");
+            }
+        }
+    }
+
+    #[test]
+    fn no_formula_is_steps() {
+        let cases = [
+            ("x", Notation::Formula),
+            ("60 x - 6 x^2", Notation::Formula),
+            ("sin(x)", Notation::Formula),
+            ("(3)", Notation::Formula),
+            ("3 + 4", Notation::Formula),
+            ("3", Notation::Either),
+            ("-3 4", Notation::Either),
+            ("E", Notation::Either),
+            ("push 3", Notation::Steps),
+            ("x Sin", Notation::Steps),
+            ("{x}", Notation::Steps),
+            ("# x", Notation::Steps),
+        ];
+        for (text, expected) in cases {
+            assert_eq!(kind_of(text), expected, "{text}");
+        }
+    }
+}
