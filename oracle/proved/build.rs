@@ -11,7 +11,12 @@ fn main() {
     let out = PathBuf::from(env::var_os("OUT_DIR").expect("cargo sets it"));
     let root = here.ancestors().nth(2).expect("it lies in oracle/proved");
     println!("cargo:rerun-if-changed=build.rs");
-    for part in ["crates.txt", "crates", "tools/native_archive"] {
+    for part in [
+        "crates.txt",
+        "crates",
+        "tools/native_archive",
+        "tools/module.py",
+    ] {
         println!("cargo:rerun-if-changed={}", root.join(part).display());
     }
     if let Err(message) = take_archive(root, &out.join("libuplink.a")) {
