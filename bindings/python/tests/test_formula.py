@@ -79,6 +79,21 @@ class Bad(unittest.TestCase):
                 Formula(**arguments)
         with self.assertRaises(ValueError):
             Formula(steps=[10**400])
+        with self.assertRaisesRegex(Mistake, "in step 1, counted from 0: what starts here is never closed"):
+            Formula(steps=["Dup", "On {"])
+
+    def test_what_is_no_sum(self):
+        for data in ("x", None, 3, [1]):
+            with self.assertRaises(TypeError):
+                uplink.Sum(data, False)
+        for data in (b"x", bytes(32), b"\1" + bytes(3) + b"\1" + bytes(27), b"\4" + bytes(31), bytes(DEPTH.sum()) * 100, bytes(DEPTH.sum()) * 2):
+            found = uplink.Sum(data, False)
+            for ask in (found.derivative, found.integral, found.formula, lambda: found.value(1)):
+                with self.assertRaises(Refused):
+                    ask()
+        for data in (b"x", bytes(32), b"\1" + bytes(3) + b"\1" + bytes(27), bytes(DEPTH.sum()) * 100):
+            with self.assertRaises(Refused):
+                repr(uplink.Sum(data, False))
 
     def test_what_is_no_list(self):
         for data, sentence in ((b"x", "1 bytes are no whole number of 24"), (b"\x63" + bytes(23), "Record 0 has kind 99"), (bytes(DEPTH)[:-1] + b"\1", "Byte 23 of record 8"),

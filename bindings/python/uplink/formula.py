@@ -7,7 +7,7 @@ import sys
 from typing import Any, Callable, Iterable, List, NamedTuple, NoReturn, Optional, SupportsFloat, Tuple, Union, overload
 
 from . import library, notation, steps as step_notation
-from .errors import Refused, TooLong
+from .errors import Mistake, Refused, TooLong
 from .records import COMPLEX, REAL, RECORD_BYTES, Record, encode, fault_of
 
 Number = Union[int, float]
@@ -37,12 +37,16 @@ class Entry(NamedTuple):
 
 
 def entries_of(data: bytes) -> Tuple[Entry, ...]:
-    """The entries of a sum, as they lie inside one another; no sum nests deeper than 3."""
+    """The entries of a sum, as they lie inside one another."""
     found: List[Entry] = []
     at = 0
+    if len(data) % ENTRY.size or len(data) > library.SUM_BYTES:
+        raise Refused(11)
     while at < len(data):
         kind, inside, number, re, im = ENTRY.unpack_from(data, at)
         end = at + 32 + 32 * inside
+        if not 1 <= kind <= len(KINDS) or end > len(data):
+            raise Refused(11)
         name = KINDS[kind - 1]
         found.append(Entry(name, complex(re, im) if im else re, number if name == "X" else None, number if name == "Log" else None,
                            entries_of(data[at + 32:end])))
@@ -60,8 +64,8 @@ class Sum:
     __slots__ = ("_data", "complex", "pairs")
 
     def __init__(self, data: bytes, is_complex: bool, pairs: int = 0) -> None:
-        self._data = data
-        self.complex: bool = is_complex
+        self._data = checked_bytes(data, "a sum's bytes")
+        self.complex: bool = bool(is_complex)
         """Whether a complex step was met in reading."""
         self.pairs: int = pairs
         """How many pairs of terms were multiplied in reading."""
@@ -267,11 +271,15 @@ def a_text(text: object, what: str) -> str:
     return text
 
 
+def checked_bytes(data: object, what: str) -> builtins.bytes:
+    if not isinstance(data, (builtins.bytes, bytearray, memoryview)):
+        raise TypeError("%s are bytes, not %s" % (what, shown(data)))
+    return builtins.bytes(data)
+
+
 def checked_list(data: object) -> builtins.bytes:
     """Bytes that keep the rules of lists."""
-    if not isinstance(data, (builtins.bytes, bytearray, memoryview)):
-        raise TypeError("a list's bytes are bytes, not %s" % shown(data))
-    copy = builtins.bytes(data)
+    copy = checked_bytes(data, "a list's bytes")
     fault = fault_of(copy)
     if fault:
         raise Refused(fault.number, 0, None, fault.sentence)
@@ -287,7 +295,7 @@ def records_of_steps(given: object) -> List[Record]:
     records: List[Record] = []
     for place, step in enumerate(given):
         if isinstance(step, str):
-            records += step_notation.parse(step)
+            records += records_of_step(step, place)
         elif isinstance(step, complex):
             records.append(Record(COMPLEX, re=step.real, im=step.imag))
         else:
@@ -297,6 +305,13 @@ def records_of_steps(given: object) -> List[Record]:
     if fault:
         raise Refused(fault.number, 0, None, fault.sentence)
     return records
+
+
+def records_of_step(step: str, place: int) -> List[Record]:
+    try:
+        return step_notation.parse(step)
+    except Mistake as mistake:
+        raise Mistake(mistake.text, mistake.span, mistake.kind, "in step %d, counted from 0: %s" % (place, mistake.message)) from None
 
 
 def not_steps(given: object) -> NoReturn:

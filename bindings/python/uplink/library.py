@@ -117,7 +117,7 @@ def functions() -> ctypes.CDLL:
             function = getattr(library, "uplink_" + name)
             function.argtypes, function.restype = arguments, ctypes.c_uint64
     except (OSError, AttributeError) as error:
-        raise NoLibrary("%s can't be loaded (%s). Remove it, so that it is built anew" % (path, error)) from None
+        raise NoLibrary("%s can't be loaded (%s). Remove it, so that it is built anew, or set XDG_CACHE_HOME to another folder" % (path, error)) from None
     return library
 
 
