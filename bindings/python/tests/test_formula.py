@@ -182,5 +182,5 @@ class Arrays(unittest.TestCase):
 def load_tests(loader, tests, pattern):
     for module in (uplink, uplink.errors, uplink.formula, uplink.numbers):
         tests.addTests(doctest.DocTestSuite(module))
-    tests.addTests(doctest.DocFileSuite(os.path.join(ROOT, "bindings", "python", "README.md"), module_relative=False))
+    tests.addTests(doctest.DocFileSuite(os.path.join(ROOT, "bindings", "python", "README.md"), module_relative=False, optionflags=doctest.ELLIPSIS))
     return tests

@@ -111,6 +111,22 @@ class Stored(unittest.TestCase):
         self.answered(["runs.txt"], {"run": run})
         self.answered(["values.txt"], {"value": value})
 
+    def test_sums_print_as_formulas_that_read_back(self):
+        sums = set()
+        for keyword, words in lines("lists.txt"):
+            if keyword == "list":
+                given = data_of(words, 24)
+            elif keyword == "read" and words[0] == "0":
+                sums.add(Formula(bytes=given).sum())
+        same = 0
+        for found in sums:
+            try:
+                same += bytes(Formula(str(found)).sum()) == bytes(found)
+            except ValueError:
+                pass  # not every sum has a formula, and not every formula is read
+        self.assertGreater(same, 300)
+        self.assertEqual(str(Formula("1 - x^0.5 - 1/(1 + x) + ln(x)").sum()), "1 - x^0.5 - 1/(1 + x) + ln(x)")
+
     def test_every_list_reads_back_from_its_steps(self):
         count = 0
         for keyword, words in lines("lists.txt", "limits.txt"):

@@ -2,11 +2,10 @@
 from __future__ import annotations
 
 import builtins
-import struct
 import sys
 from typing import Any, Callable, Iterable, List, NamedTuple, NoReturn, Optional, SupportsFloat, Tuple, Union, overload
 
-from . import library, notation, steps as step_notation
+from . import library, notation, printed, steps as step_notation
 from .errors import Mistake, Refused, TooLong
 from .records import COMPLEX, REAL, RECORD_BYTES, Record, encode, fault_of
 
@@ -16,7 +15,6 @@ Step = Union[str, int, float, complex]
 MOST_STEPS_READ = 10_000_000
 """A list of more steps is read only with long=True."""
 
-ENTRY = struct.Struct("<B3xIddd")
 KINDS = ("X", "Div", "Log", "Exp", "Sin", "Cos", "SinH", "CosH")
 
 
@@ -39,18 +37,10 @@ class Entry(NamedTuple):
 def entries_of(data: bytes) -> Tuple[Entry, ...]:
     """The entries of a sum, as they lie inside one another."""
     found: List[Entry] = []
-    at = 0
-    if len(data) % ENTRY.size or len(data) > library.SUM_BYTES:
-        raise Refused(11)
-    while at < len(data):
-        kind, inside, number, re, im = ENTRY.unpack_from(data, at)
-        end = at + 32 + 32 * inside
-        if not 1 <= kind <= len(KINDS) or end > len(data):
-            raise Refused(11)
+    for kind, number, re, im, inside in printed.level(data):
         name = KINDS[kind - 1]
-        found.append(Entry(name, complex(re, im) if im else re, number if name == "X" else None, number if name == "Log" else None,
-                           entries_of(data[at + 32:end])))
-        at = end
+        power, base = number if name == "X" else None, number if name == "Log" else None
+        found.append(Entry(name, complex(re, im) if im else re, power, base, entries_of(inside)))
     return tuple(found)
 
 
@@ -89,6 +79,14 @@ class Sum:
 
     def __repr__(self) -> str:
         return "Sum(%s)" % ", ".join(map(repr, self.entries))
+
+    def __str__(self) -> str:
+        """The sum as a formula, as `dive` prints it.
+
+        >>> print(Formula('60 x - 6 x^2 + sin(2 x)').sum().derivative())
+        60 - 12 x + 2 cos(2 x)
+        """
+        return printed.formula(self._data)
 
     def derivative(self) -> "Sum":
         """The derivative of the sum.
