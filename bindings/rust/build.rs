@@ -93,7 +93,10 @@ impl Target {
     fn asked() -> Result<Self, String> {
         let (host, triple) = (variable("HOST")?, variable("TARGET")?);
         let processor = variable("CARGO_CFG_TARGET_ARCH")?;
-        if !triple.contains("linux") || !["x86_64", "aarch64"].contains(&processor.as_str()) {
+        let is_usual = variable("CARGO_CFG_TARGET_POINTER_WIDTH")? == "64"
+            && variable("CARGO_CFG_TARGET_ENDIAN")? == "little";
+        let is_known = ["x86_64", "aarch64"].contains(&processor.as_str());
+        if !triple.contains("linux") || !is_known || !is_usual {
             return Err(format!(
                 "the proved library is there for Linux on x86-64 and Arm, not for {triple}."
             ));

@@ -3,7 +3,9 @@ import array
 import decimal
 import doctest
 import fractions
+import itertools
 import os
+import pickle
 import sys
 import types
 import unittest
@@ -43,7 +45,7 @@ class Taken(unittest.TestCase):
     def test_texts_steps_and_bytes(self):
         same = [Formula(steps="Dup push 60 Mul # depth\nFlip, push 2, Pow, push 6, Mul, Sub"), Formula(bytes=bytearray(bytes(DEPTH))),
                 Formula(steps=["Dup, push 60, Mul", "Flip", 2, "Pow", 6.0, "Mul", "Sub"]), Formula(bytes=memoryview(bytes(DEPTH))), Formula(steps=DEPTH.steps()),
-                eval(repr(DEPTH))]
+                eval(repr(DEPTH)), pickle.loads(pickle.dumps(DEPTH))]
         for formula in same:
             self.assertEqual((formula, hash(formula)), (DEPTH, hash(DEPTH)))
         self.assertNotEqual(DEPTH, Formula("60 x"))
@@ -102,8 +104,18 @@ class Bad(unittest.TestCase):
                 Formula(bytes=data)
             self.assertEqual(raised.exception.number, 11)
             self.assertIn(sentence, str(raised.exception))
-        with self.assertRaises(Refused):
-            Formula(steps=["Dup"] * 2049)
+        for steps in (["Dup"] * 2049, itertools.count()):
+            with self.assertRaises(Refused):
+                Formula(steps=steps)
+
+    def test_of_a_long_line_what_matters_is_shown(self):
+        for text in ("x + " * 500 + "y", "y" + " + x" * 500, "x +" + " " * 500 + "y" * 500, "1" * 100000 + ".." + "1" * 100000):
+            with self.assertRaises(Mistake) as raised:
+                Formula(text)
+            _, shown, mark = str(raised.exception).split("\n")
+            self.assertLess(len(shown), 140)
+            self.assertEqual(shown[mark.index("^")], text[raised.exception.column - 1])
+            self.assertLessEqual(len(mark), len(shown))
 
     def test_what_is_no_x(self):
         for x in (None, "3", b"3", 1j, object(), Strange(), {1: 2}, {1}, ["3"], [1, None], [[1]], len):

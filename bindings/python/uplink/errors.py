@@ -54,6 +54,10 @@ REFUSALS = (
 )
 
 
+# So many characters of a line are shown at most, and so many of them before the mark.
+WIDEST, NEAR = 120, 60
+
+
 class Refused(ValueError):
     """The library's answer where there is no result: one of eighteen refusals.
 
@@ -109,10 +113,8 @@ class Mistake(ValueError):
     def __init__(self, text: str, span: "Span", kind: str, message: str) -> None:
         self.text, self.span, self.kind, self.message = text, span, kind, message
         self.line, self.column, self.width = span
-        lines = text.lstrip("\ufeff").split("\n")
-        shown = (lines[self.line - 1] if self.line <= len(lines) else "").replace("\t", " ").replace("\r", " ").rstrip()
         number = str(self.line)
-        mark = " " * (self.column - 1) + "^" * max(self.width, 1)
+        shown, mark = marked(text, span)
         super().__init__("line %d, column %d: %s\n  %s | %s\n  %s | %s" % (self.line, self.column, message, number, shown, " " * len(number), mark))
 
     def __reduce__(self) -> Tuple[Any, ...]:
@@ -125,6 +127,17 @@ class Span(NamedTuple):
     line: int
     column: int
     width: int
+
+
+def marked(text: str, span: Span) -> Tuple[str, str]:
+    """The line that a stretch stands on, and the mark below it; of a long line what is near the mark."""
+    lines = (text[1:] if text.startswith("\ufeff") else text).split("\n")
+    line = (lines[span.line - 1] if span.line <= len(lines) else "").replace("\t", " ").replace("\r", " ")
+    start = max(0, span.column - 1 - NEAR)
+    front = ".. " if start else ""
+    behind = " .." if len(line.rstrip()) > start + WIDEST else ""
+    width = max(1, min(span.width, WIDEST - (span.column - 1 - start)))
+    return front + line[start:start + WIDEST].rstrip() + behind, " " * (len(front) + span.column - 1 - start) + "^" * width
 
 
 class TooLong(ValueError):

@@ -7,7 +7,7 @@ from typing import Any, Callable, Iterable, List, NamedTuple, NoReturn, Optional
 
 from . import library, notation, printed, steps as step_notation
 from .errors import Mistake, Refused, TooLong
-from .records import COMPLEX, REAL, RECORD_BYTES, Record, encode, fault_of
+from .records import COMPLEX, MOST_RECORDS, REAL, RECORD_BYTES, Record, encode, fault_of
 
 Number = Union[int, float]
 Step = Union[str, int, float, complex]
@@ -292,6 +292,8 @@ def records_of_steps(given: object) -> List[Record]:
         not_steps(given)
     records: List[Record] = []
     for place, step in enumerate(given):
+        if len(records) > MOST_RECORDS:
+            break
         if isinstance(step, str):
             records += records_of_step(step, place)
         elif isinstance(step, complex):

@@ -68,12 +68,12 @@ def fault_of(data: bytes) -> Optional[Fault]:
     if len(data) % RECORD_BYTES:
         return bad("%d bytes are no whole number of 24: %d are left over; a record has 24 bytes." % (len(data), len(data) % RECORD_BYTES))
     count = len(data) // RECORD_BYTES
+    if count > MOST_RECORDS:
+        return bad("Of records there are %d, and at most %d are taken." % (count, MOST_RECORDS))
     for place in range(count):
         found = fault_of_record(data[place * RECORD_BYTES:(place + 1) * RECORD_BYTES], place)
         if found:
             return found
-    if count > MOST_RECORDS:
-        return bad("Of records there are %d, and at most %d are taken." % (count, MOST_RECORDS))
     return fault_of_shape(list(decode(data)))
 
 
