@@ -59,6 +59,7 @@ class Taken(unittest.TestCase):
         self.assertEqual(found.entries[2].inside[0], uplink.Entry("X", 2.0, 1.0))
         self.assertFalse(found.complex)
         self.assertTrue(Formula(steps="push 0 + 1i, Mul").sum().complex)
+        self.assertEqual([Formula(text).sum().pairs for text in ("x x", "x^3", "(x + 1)^3", "(x + 1)^63")], [1, 2, 10, 4030])
 
     def test_the_two_writers(self):
         swell = Formula("x^2 + sin(x)")

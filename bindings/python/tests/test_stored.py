@@ -75,7 +75,7 @@ class Stored(unittest.TestCase):
         if number:
             self.assertEqual(found, int(words[1]))
         else:
-            self.assertEqual((found.complex, bytes(found)), (words[2] == "1", data_of(words[3:], 32)))
+            self.assertEqual((found.complex, found.pairs, bytes(found)), (words[2] == "1", int(words[3]), data_of(words[4:], 32)))
 
     def test_lists(self):
         wanted = {keyword: self.made(keyword, lambda given: Formula(bytes=given), 24)

@@ -58,7 +58,7 @@ class Sum:
         self.complex: bool = bool(is_complex)
         """Whether a complex step was met in reading."""
         self.pairs: int = pairs
-        """How many pairs of terms were multiplied in reading."""
+        """How many pairs of outermost terms the products and whole powers of the formula multiplied in reading."""
 
     @property
     def entries(self) -> Tuple[Entry, ...]:

@@ -157,12 +157,12 @@ fn every_stored_sum_with_a_formula_comes_back() {
         *counts.entry(lack).or_default() += 1;
     }
     let expected = [
-        (None, 995),
-        (Some(Lack::Imaginary), 1532),
+        (None, 1016),
+        (Some(Lack::Imaginary), 1533),
         (Some(Lack::Function), 495),
         (Some(Lack::Coefficient), 405),
         (Some(Lack::Argument), 52),
-        (Some(Lack::Power), 32),
+        (Some(Lack::Power), 33),
         (Some(Lack::Zero), 175),
     ];
     assert_eq!(counts, BTreeMap::from(expected));
