@@ -23,7 +23,7 @@ ghost use Rattle.modifiers.specs.Reading.{insideOf};
 ghost use Rattle.stack.specs.Steps.{leafStep};
 ghost use Rattle.stack.specs.Contract.Arena.{arena, arenaIn, arenaOut, working, places};
 ghost use Rattle.stack.specs.Contract.Stacked.{Stacked};
-ghost use Rattle.stack.specs.Contract.Agree.{Ready, Does};
+ghost use Rattle.stack.specs.Contract.Agree.{Ready, Does, envOf};
 ghost use Rattle.stack.specs.Contract.Acting.{handledBy};
 ghost use Rattle.reading.specs.Contract.After.{after};
 ghost use Rattle.reading.specs.Contract.Quick.{isQuick, hasNodes};
@@ -77,6 +77,18 @@ pub fn counted(r: Record, handled: usize) -> usize
         return handled;
     }
     stack::leaf::count(handled, stack::leaf::counts(r))
+}
+
+// A state of its four parts.
+pub fn env_of(used: usize, handled: usize, complex: bool, pairs: u64) -> AlgebraEnv
+    ensures { λ r. ⌜ r ≡ envOf used handled complex pairs ⌝ }
+{
+    AlgebraEnv {
+        used,
+        handled,
+        pairs,
+        complex,
+    }
 }
 
 // A refusal at a place.

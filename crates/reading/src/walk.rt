@@ -44,19 +44,23 @@ pub fn walk(
     ensures { λ r. ⌜ Does (arenaIn kinds insides numbers sizes) (arenaOut kinds insides numbers sizes) v env r (λ st. walkOf (now (list .entry)) from to (places - v) st) ⌝ }
 {
     let mut at = from;
-    let mut cur = env;
+    let mut used = env.used;
+    let mut handled = env.handled;
+    let mut complex = env.complex;
+    let mut pairs = env.pairs;
     while at < to {
         let r = formats::record::record_at(list, at);
         let next = at + 1 + r.inside as usize;
         if crate::turn::is_quick(r.kind) {
-            let used = cur.used;
-            let handled = cur.handled;
-            let stepped = stack::leaf::leaf(r, kinds, insides, numbers, sizes, v, used, handled);
-            let done = crate::turn::finish(r, at, stepped, cur);
-            let Ran::Went(after) = done else {
-                return done;
-            };
-            cur = after;
+            match stack::leaf::leaf(r, kinds, insides, numbers, sizes, v, used, handled) {
+                Stepped::Stopped(q, b) => return Ran::Stopped(q, at, b),
+                Stepped::Went(then, more) => {
+                    used = then;
+                    pairs = stack::state::capped_sum(pairs, more);
+                }
+            }
+            handled = crate::turn::counted(r, handled);
+            complex = complex | stack::leaf::flags(r);
             at = next;
             continue;
         }
@@ -64,14 +68,19 @@ pub fn walk(
             at = at + 1;
             continue;
         }
-        let ran = step(list, at, r, kinds, insides, numbers, sizes, v, cur);
-        let Ran::Went(then) = ran else {
-            return ran;
-        };
-        cur = then;
+        let cur = crate::turn::env_of(used, handled, complex, pairs);
+        match step(list, at, r, kinds, insides, numbers, sizes, v, cur) {
+            Ran::Stopped(q, place, b) => return Ran::Stopped(q, place, b),
+            Ran::Went(then) => {
+                used = then.used;
+                handled = then.handled;
+                complex = then.complex;
+                pairs = then.pairs;
+            }
+        }
         at = next;
     }
-    Ran::Went(cur)
+    Ran::Went(crate::turn::env_of(used, handled, complex, pairs))
 }
 
 // Runs one record that has no nodes inside.
@@ -158,21 +167,23 @@ fn around(
 {
     let low = v - held;
     let ran = walk(list, p.from, p.to, kinds, insides, numbers, sizes, low, env);
-    let Ran::Went(cur) = ran else {
-        return ran;
-    };
-    let back = modifiers::lend::put_back(held, kinds, insides, numbers, sizes, low, cur);
-    walk(
-        list,
-        p.again,
-        p.until,
-        kinds,
-        insides,
-        numbers,
-        sizes,
-        v,
-        back,
-    )
+    match ran {
+        Ran::Stopped(q, place, b) => Ran::Stopped(q, place, b),
+        Ran::Went(cur) => {
+            let back = modifiers::lend::put_back(held, kinds, insides, numbers, sizes, low, cur);
+            walk(
+                list,
+                p.again,
+                p.until,
+                kinds,
+                insides,
+                numbers,
+                sizes,
+                v,
+                back,
+            )
+        }
+    }
 }
 
 // Fork: as many sums as the body that takes most asks for are held to the end.

@@ -30,8 +30,8 @@ pub const MOST: u64 = 18446744073709551615;
 pub struct AlgebraEnv {
     pub used: usize,
     pub handled: usize,
-    pub complex: bool,
     pub pairs: u64,
+    pub complex: bool,
 }
 
 // What came of running records: the state then, or a refusal, its place, and whether what was read so far counts as handled.

@@ -452,8 +452,12 @@ does-told {a} {b} {v} {env} {f = f} e d = subst (λ x. Does a b v env x f) e d
 pub does-back : {a b : Arena} {v : ℕ} {env : AlgebraEnv} {r r′ : Ran} {f : State → Walked} → r ≡ r′ → Does a b v env r′ f → Does a b v env r f
 does-back {a} {b} {v} {env} {f = f} e d = subst (λ x. Does a b v env x f) (sym e) d
 
-pub rounds-back : {a b : Arena} {v m : ℕ} {env : AlgebraEnv} {r r′ : Ran} {s : List ℕ} {p : Plan} → r ≡ r′ → Rounds a b v m env r′ s p → Rounds a b v m env r s p
-rounds-back {a} {b} {v} {m} {env} {s = s} {p = p} e d = subst (λ x. Rounds a b v m env x s p) (sym e) d
+-- the state, put together of its parts
+pub ready-as : {a : Arena} {v : ℕ} {env env′ : AlgebraEnv} → env ≡ env′ → Ready a v env′ → Ready a v env
+ready-as {a} {v} e y = subst (λ x. Ready a v x) (sym e) y
+
+pub does-as : {a b : Arena} {v : ℕ} {env env′ : AlgebraEnv} {r : Ran} {f : State → Walked} → env ≡ env′ → Does a b v env r f → Does a b v env′ r f
+does-as {a} {b} {v} {r = r} {f} e d = subst (λ x. Does a b v x r f) e d
 
 pub forks-back : {a b : Arena} {v m k : ℕ} {env : AlgebraEnv} {r r′ : Ran} {s : List ℕ} {at from to : ℕ} → r ≡ r′ → Forks a b v m k env r′ s at from to → Forks a b v m k env r s at from to
 forks-back {a} {b} {v} {m} {k} {env} {s = s} {at} {from} {to} e d = subst (λ x. Forks a b v m k env x s at from to) (sym e) d

@@ -5,13 +5,14 @@ use Prim.Native.Nat.{_+_, _-_, _*_, _≤_, max}
 use mathlib.Core.Bool.{Bool, true, false}
 use mathlib.Core.Path.{refl, sym, ap, _∙_}
 use Rattle.formats.specs.Names.{kindOf}
-use Rattle.reading.proofs.turn.Leaf.{prepared, leaf-after, quick-inside}
+use Rattle.reading.proofs.turn.Leaf.{prepared, leaf-stopped, leaf-went, quick-inside}
 use Rattle.formats.specs.Tree.{forest, height, count}
 use Rattle.formats.specs.Contract.Walk.{Stretch}
 use Rattle.formats.specs.declared.record.Record.{Record}
 use Rattle.reading.specs.Contract.Runs.{OneBody}
 use Rattle.reading.proofs.walk.Flat.{descended, bodies-inside, nothing-else}
-use Rattle.stack.specs.Contract.Agree.{Ready}
+use Rattle.stack.specs.Contract.Agree.{Ready, envOf}
+use Rattle.stack.specs.declared.state.Ran.the-variants.{Went}
 use Rattle.modifiers.specs.Contract.Walks.{walkOf}
 use Rattle.modifiers.specs.Reading.{runners}
 use Rattle.modifiers.specs.Contract.Plans.{modified}
@@ -19,7 +20,7 @@ use Rattle.modifiers.proofs.Runs.{walk-none}
 use Rattle.modifiers.proofs.hold.Moves.{begins-is}
 use Rattle.reading.proofs.walk.Laws.{Going, Forking, going-start, going-ready, going-step, going-stop, going-end, round-stop, round-ready}
 use Rattle.reading.proofs.walk.Laws.{round-held, round-back, round-end, plan-stop, plan-round, plan-end, fork-stop, fork-many, fork-end, forking-begin, forking-ready}
-use Rattle.reading.proofs.walk.Laws.{forking-done, turn-room, turn-body, turn-lend-stop, turn-ready, turn-walk-stop, turn-next, does-told, does-back, rounds-back}
+use Rattle.reading.proofs.walk.Laws.{forking-done, turn-room, turn-body, turn-lend-stop, turn-ready, turn-walk-stop, turn-next, does-told, does-back, ready-as, does-as}
 use Rattle.reading.proofs.walk.Laws.{began-few, used-told, halt-does, halt-asks, step-leaf, step-bodies, bodily-of, keeps, Turn, turn, going-same}
 use Rattle.reading.proofs.walk.Laws.{never}
 use Rattle.cells.specs.Contract.Book.{book}
@@ -60,8 +61,11 @@ use Rattle.modifiers.proofs.lend.lend_deepest.Reads as lend-deepest-reads
 use Rattle.modifiers.proofs.lend.put_back.Reads as put-back-reads
 use Rattle.reading.proofs.turn.read_leaf.Reads as read-leaf-reads
 use Rattle.reading.proofs.turn.is_quick.Reads as is-quick-reads
-use Rattle.reading.proofs.turn.finish.Reads as finish-reads
+use Rattle.reading.proofs.turn.counted.Reads as counted-reads
+use Rattle.reading.proofs.turn.env_of.Reads as env-of-reads
 use Rattle.stack.proofs.leaf.leaf.Reads as leaf-reads
+use Rattle.stack.proofs.leaf.flags.Reads as flags-reads
+use Rattle.stack.proofs.state.capped_sum.Reads as capped-sum-reads
 use Rattle.reading.proofs.turn.refuse.Reads as refuse-reads
 use Rattle.reading.proofs.walk.wide.Reads as wide-reads
 use Rattle.formats.proofs.record.count_nodes.Reads as count-nodes-reads
@@ -175,10 +179,16 @@ walk-claims t = (
   is-quick-reads.Learnt,
   leaf-reads.Asked,
   leaf-reads.Learnt,
-  finish-reads.Asked,
-  finish-reads.Learnt,
+  capped-sum-reads.Asked,
+  capped-sum-reads.Learnt,
+  counted-reads.Asked,
+  counted-reads.Learnt,
+  flags-reads.Asked,
+  flags-reads.Learnt,
   has-nodes-reads.Asked,
   has-nodes-reads.Learnt,
+  env-of-reads.Asked,
+  env-of-reads.Learnt,
   step-below t,
   step.Post,
 )
@@ -199,15 +209,15 @@ around-walk-requires t c κs =
 around-enum-known-ran : (t : ℕ) → around-lts.Need-enum-known-ran (around-claims t) (around-at t) around.Post
 around-enum-known-ran t c = search needs
 
-around-enum-told : (t : ℕ) → around-lts.Need-enum-told (around-claims t) (around-at t) around.Post
-around-enum-told t c = search needs
+around-enum-known-ran-2 : (t : ℕ) → around-lts.Need-enum-known-ran-2 (around-claims t) (around-at t) around.Post
+around-enum-known-ran-2 t c = search needs
 
 around-returns : (t : ℕ) → around-lts.Need-returns (around-claims t) (around-at t) around.Post
 around-returns t c =
-    let after-walk = c .before .before .before .before .before .before .before .before .before in
+    let after-walk = c .before .before .before .before .before .before .before .before .before .before in
     let start = after-walk .before .before .before .before .before .before .before .before .before in
     let args = start .args in
-    rounds-back (c .enum-told .given .1) (round-stop (args .list .now) (args .p) (start .pre .1 .0) (does-told (c .enum-told .given .1) (after-walk .walk .ensures)))
+    round-stop (args .list .now) (args .p) (start .pre .1 .0) (does-told (c .before .ran .given .1) (after-walk .walk .ensures))
 
 around-put-back-requires : (t : ℕ) → around-lts.Need-put-back-requires (around-claims t) (around-at t) around.Post
 around-put-back-requires t c κs =
@@ -215,7 +225,7 @@ around-put-back-requires t c κs =
     let after-walk = after-ran .before .before .before .before .before .before .before .before .before in
     let start = after-walk .before .before .before .before .before .before .before .before .before in
     let args = start .args in
-    let does = does-told (after-ran .ran .given .1) (after-walk .walk .ensures) in
+    let does = does-told (after-ran .ran2 .given .1) (after-walk .walk .ensures) in
     let held = round-held (args .list .now) (args .p) (start .pre .1 .0) does in
     (round-ready (args .list .now) (args .p) (start .pre .1 .0) does, held .0, held .1)
 
@@ -228,7 +238,7 @@ around-walk-requires-2 t c κs =
     let args = start .args in (
       omega (arith, start .pre .0),
       (
-        round-back (args .list .now) (args .p) (start .pre .1 .0) (does-told (after-ran .ran .given .1) (after-walk .walk .ensures))
+        round-back (args .list .now) (args .p) (start .pre .1 .0) (does-told (after-ran .ran2 .given .1) (after-walk .walk .ensures))
             (after-put-back .put-back .ensures),
         (true, start .pre .1 .1 .then, λ e. start .pre .1 .1 .then-one),
       ),
@@ -242,7 +252,7 @@ around-returns-2 t c =
     let after-walk = after-ran .before .before .before .before .before .before .before .before .before in
     let start = after-walk .before .before .before .before .before .before .before .before .before in
     let args = start .args in
-    round-end (args .list .now) (args .p) (start .pre .1 .0) (does-told (after-ran .ran .given .1) (after-walk .walk .ensures)) (after-put-back .put-back .ensures) (after-walk2 .walk2 .ensures)
+    round-end (args .list .now) (args .p) (start .pre .1 .0) (does-told (after-ran .ran2 .given .1) (after-walk .walk .ensures)) (after-put-back .put-back .ensures) (after-walk2 .walk2 .ensures)
 
 fork-add-from : (t : ℕ) → fork-lts.Need-add-from (fork-claims t) (fork-at t) fork.Post
 fork-add-from t c =
@@ -591,13 +601,13 @@ step-returns-2 t c =
     step-leaf (args .at) (args .r) fs refl nothing (after-read-leaf .read-leaf .ensures)
 
 abbrev walk-Inv-loop : walk-lts.InvT-loop
-walk-Inv-loop list from to kinds₀ insides₀ numbers₀ sizes₀ v at₀ cur₀ kinds insides numbers sizes at cur =
-    ((b : Bool) × Stretch list at to b (height (forest list from to)) × OneBody list at to b) × Ready (of (book kinds insides numbers) sizes) v cur
-    × Going (of (book kinds₀ insides₀ numbers₀) sizes₀) (of (book kinds insides numbers) sizes) v cur₀ cur
+walk-Inv-loop list from to kinds₀ insides₀ numbers₀ sizes₀ v at₀ used₀ handled₀ complex₀ pairs₀ kinds insides numbers sizes at used handled complex pairs =
+    ((b : Bool) × Stretch list at to b (height (forest list from to)) × OneBody list at to b) × Ready (of (book kinds insides numbers) sizes) v (envOf used handled complex pairs)
+    × Going (of (book kinds₀ insides₀ numbers₀) sizes₀) (of (book kinds insides numbers) sizes) v (envOf used₀ handled₀ complex₀ pairs₀) (envOf used handled complex pairs)
     (λ st. walkOf list from to (1152 - v) st) (λ st. walkOf list at to (1152 - v) st)
 
 abbrev walk-μ-loop : walk-lts.MeasureT-loop
-walk-μ-loop list from to kinds₀ insides₀ numbers₀ sizes₀ v at₀ cur₀ kinds insides numbers sizes at cur =
+walk-μ-loop list from to kinds₀ insides₀ numbers₀ sizes₀ v at₀ used₀ handled₀ complex₀ pairs₀ kinds insides numbers sizes at used handled complex pairs =
     to - at
 
 walk-loop-holds : (t : ℕ) → walk-lts.Need-loop-holds (walk-claims t) (walk-at t) walk.Post walk-Inv-loop walk-μ-loop
@@ -637,19 +647,12 @@ walk-leaf-requires t c κs =
     let at-loop = c .before .before .before .before .before .before .before .before .before in
     prepared (at-loop .loop .inv .1)
 
-walk-finish-requires : (t : ℕ) → walk-lts.Need-finish-requires (walk-claims t) (walk-at t) walk.Post walk-Inv-loop walk-μ-loop
-walk-finish-requires t c κs = search needs
-
-walk-enum-known-done : (t : ℕ) → walk-lts.Need-enum-known-done (walk-claims t) (walk-at t) walk.Post walk-Inv-loop walk-μ-loop
-walk-enum-known-done t c = search needs
-
-walk-enum-told : (t : ℕ) → walk-lts.Need-enum-told (walk-claims t) (walk-at t) walk.Post walk-Inv-loop walk-μ-loop
-walk-enum-told t c = search needs
+walk-enum-known-q : (t : ℕ) → walk-lts.Need-enum-known-q (walk-claims t) (walk-at t) walk.Post walk-Inv-loop walk-μ-loop
+walk-enum-known-q t c = search needs
 
 walk-returns : (t : ℕ) → walk-lts.Need-returns (walk-claims t) (walk-at t) walk.Post walk-Inv-loop walk-μ-loop
 walk-returns t c =
-    let after-finish = c .before .before in
-    let after-leaf = after-finish .before .before .before .before .before .before .before .before in
+    let after-leaf = c .before .before .before .before .before .before .before .before .before .before in
     let after-if1 = after-leaf .before .before .before .before .before in
     let after-is-quick = after-if1 .before in
     let after-record-at = after-is-quick .before .before in
@@ -661,18 +664,29 @@ walk-returns t c =
     let r = after-record-at .record-at .result in
     let fs = runners (place + 1) (forest list (place + 1) (place + 1 + r .inside)) in
     let plain = quick-inside (kindOf (r .kind)) (sym (after-is-quick .is-quick .ensures) ∙ after-if1 .if1 .taken) in
-    let ran = leaf-after (at-loop .loop .cur) (after-leaf .leaf .result) place r (kindOf (r .kind)) (1152 - v) (after-leaf .leaf .ensures place) in
-    let quick = step-leaf place r fs refl plain (does-back (after-finish .finish .ensures) ran) in
-    let told = c .enum-told .given .1 in
-    does-back told (going-stop _ (at-loop .loop .inv .2) (does-told told quick) (walk-turn t after-record-at .on (1152 - v)))
+    let env = envOf (at-loop .loop .used) (at-loop .loop .handled) (at-loop .loop .complex) (at-loop .loop .pairs) in
+    let stopped = leaf-stopped env _ place r (kindOf (r .kind)) (1152 - v) (after-leaf .leaf .ensures place) (c .before .q .given .1) in
+    going-stop _ (at-loop .loop .inv .2) (step-leaf place r fs refl plain stopped) (walk-turn t after-record-at .on (1152 - v))
+
+walk-enum-known-then : (t : ℕ) → walk-lts.Need-enum-known-then (walk-claims t) (walk-at t) walk.Post walk-Inv-loop walk-μ-loop
+walk-enum-known-then t c = search needs
+
+walk-capped-sum-requires : (t : ℕ) → walk-lts.Need-capped-sum-requires (walk-claims t) (walk-at t) walk.Post walk-Inv-loop walk-μ-loop
+walk-capped-sum-requires t c κs = search needs
+
+walk-counted-requires : (t : ℕ) → walk-lts.Need-counted-requires (walk-claims t) (walk-at t) walk.Post walk-Inv-loop walk-μ-loop
+walk-counted-requires t c κs = search needs
+
+walk-flags-requires : (t : ℕ) → walk-lts.Need-flags-requires (walk-claims t) (walk-at t) walk.Post walk-Inv-loop walk-μ-loop
+walk-flags-requires t c κs = search needs
 
 walk-loop-less : (t : ℕ) → walk-lts.Need-loop-less (walk-claims t) (walk-at t) walk.Post walk-Inv-loop walk-μ-loop
 walk-loop-less t c = omega arith
 
 walk-loop-again : (t : ℕ) → walk-lts.Need-loop-again (walk-claims t) (walk-at t) walk.Post walk-Inv-loop walk-μ-loop
 walk-loop-again t c =
-    let after-finish = c .before .before .before in
-    let after-leaf = after-finish .before .before .before .before .before .before .before .before in
+    let after-then = c .before .before .before .before in
+    let after-leaf = after-then .before .before .before .before .before .before .before .before .before in
     let after-if1 = after-leaf .before .before .before .before .before in
     let after-is-quick = after-if1 .before in
     let after-record-at = after-is-quick .before .before in
@@ -684,10 +698,11 @@ walk-loop-again t c =
     let r = after-record-at .record-at .result in
     let fs = runners (place + 1) (forest list (place + 1) (place + 1 + r .inside)) in
     let plain = quick-inside (kindOf (r .kind)) (sym (after-is-quick .is-quick .ensures) ∙ after-if1 .if1 .taken) in
-    let ran = leaf-after (at-loop .loop .cur) (after-leaf .leaf .result) place r (kindOf (r .kind)) (1152 - v) (after-leaf .leaf .ensures place) in
-    let quick = step-leaf place r fs refl plain (does-back (after-finish .finish .ensures) ran) in
+    let env = envOf (at-loop .loop .used) (at-loop .loop .handled) (at-loop .loop .complex) (at-loop .loop .pairs) in
+    let went = leaf-went env _ place r (kindOf (r .kind)) (1152 - v) (after-leaf .leaf .ensures place) (after-then .then .given .1) (c .before .counted .ensures) (c .flags .ensures)
+    (c .before .before .capped-sum .ensures) in
     let turned = walk-turn t after-record-at in
-    let gone = going-step (at-loop .loop .inv .2) (does-told (c .before .done .given .1) quick) (turned .on (1152 - v)) in
+    let gone = going-step (at-loop .loop .inv .2) (step-leaf place r fs refl plain went) (turned .on (1152 - v)) in
     ((at-loop .loop .inv .0 .0, turned .rest, turned .one), going-ready (start .pre .1 .0) gone, gone)
 
 walk-has-nodes-requires : (t : ℕ) → walk-lts.Need-has-nodes-requires (walk-claims t) (walk-at t) walk.Post walk-Inv-loop walk-μ-loop
@@ -714,30 +729,35 @@ walk-loop-again-2 t c =
     let gone = going-same (at-loop .loop .inv .2) (behind .1 (1152 - args .v)) in
     ((false, behind .0, λ e. absurd (never e)), at-loop .loop .inv .1, gone)
 
+walk-env-of-requires : (t : ℕ) → walk-lts.Need-env-of-requires (walk-claims t) (walk-at t) walk.Post walk-Inv-loop walk-μ-loop
+walk-env-of-requires t c κs = search needs
+
 walk-step-requires : (t : ℕ) → walk-lts.Need-step-requires (walk-claims t) (walk-at t) walk.Post walk-Inv-loop walk-μ-loop
 walk-step-requires t c κs =
-    let after-if2 = c .before .before .before .before in
+    let after-env-of = c .before .before .before .before in
+    let after-if2 = after-env-of .before in
     let after-has-nodes = after-if2 .before in
     let after-record-at = after-has-nodes .before .before .before .before in
     let at-loop = after-record-at .before .before in
     let start = at-loop .before .before .before .before .before in
     let turned = walk-turn t after-record-at in
-    (omega (arith, start .pre .0, turned .low), (at-loop .loop .inv .1, turned .inside, sym (after-has-nodes .has-nodes .ensures) ∙ after-if2 .if2 .left))
+    (omega (arith, start .pre .0, turned .low), (ready-as (after-env-of .env-of .ensures) (at-loop .loop .inv .1), turned .inside, sym (after-has-nodes .has-nodes .ensures) ∙ after-if2 .if2 .left))
 
-walk-enum-known-ran : (t : ℕ) → walk-lts.Need-enum-known-ran (walk-claims t) (walk-at t) walk.Post walk-Inv-loop walk-μ-loop
-walk-enum-known-ran t c = search needs
-
-walk-enum-told-2 : (t : ℕ) → walk-lts.Need-enum-told-2 (walk-claims t) (walk-at t) walk.Post walk-Inv-loop walk-μ-loop
-walk-enum-told-2 t c = search needs
+walk-enum-known-q-2 : (t : ℕ) → walk-lts.Need-enum-known-q-2 (walk-claims t) (walk-at t) walk.Post walk-Inv-loop walk-μ-loop
+walk-enum-known-q-2 t c = search needs
 
 walk-returns-2 : (t : ℕ) → walk-lts.Need-returns-2 (walk-claims t) (walk-at t) walk.Post walk-Inv-loop walk-μ-loop
 walk-returns-2 t c =
-    let after-step = c .before .before .before .before .before .before .before .before .before in
-    let after-record-at = after-step .before .before .before .before .before .before .before .before .before .before in
+    let after-step = c .before .before .before .before .before .before .before .before .before .before in
+    let after-env-of = after-step .before .before .before .before .before in
+    let after-record-at = after-env-of .before .before .before .before .before .before in
     let at-loop = after-record-at .before .before in
     let start = at-loop .before .before .before .before .before in
-    let told = c .enum-told2 .given .1 in
-    does-back told (going-stop _ (at-loop .loop .inv .2) (does-told told (after-step .step .ensures)) (walk-turn t after-record-at .on (1152 - start .args .v)))
+    let stepped = does-as (after-env-of .env-of .ensures) (does-told (c .before .q2 .given .1) (after-step .step .ensures)) in
+    going-stop _ (at-loop .loop .inv .2) stepped (walk-turn t after-record-at .on (1152 - start .args .v))
+
+walk-enum-known-then-2 : (t : ℕ) → walk-lts.Need-enum-known-then-2 (walk-claims t) (walk-at t) walk.Post walk-Inv-loop walk-μ-loop
+walk-enum-known-then-2 t c = search needs
 
 walk-loop-less-3 : (t : ℕ) → walk-lts.Need-loop-less-3 (walk-claims t) (walk-at t) walk.Post walk-Inv-loop walk-μ-loop
 walk-loop-less-3 t c = omega arith
@@ -745,18 +765,24 @@ walk-loop-less-3 t c = omega arith
 walk-loop-again-3 : (t : ℕ) → walk-lts.Need-loop-again-3 (walk-claims t) (walk-at t) walk.Post walk-Inv-loop walk-μ-loop
 walk-loop-again-3 t c =
     let after-step = c .before .before .before .before .before .before .before .before .before .before in
-    let after-record-at = after-step .before .before .before .before .before .before .before .before .before .before in
+    let after-env-of = after-step .before .before .before .before .before in
+    let after-record-at = after-env-of .before .before .before .before .before .before in
     let at-loop = after-record-at .before .before in
     let start = at-loop .before .before .before .before .before in
     let turned = walk-turn t after-record-at in
-    let gone = going-step (at-loop .loop .inv .2) (does-told (c .before .ran .given .1) (after-step .step .ensures)) (turned .on (1152 - start .args .v)) in
+    let stepped = does-as (after-env-of .env-of .ensures) (does-told (c .before .then2 .given .1) (after-step .step .ensures)) in
+    let gone = going-step (at-loop .loop .inv .2) stepped (turned .on (1152 - start .args .v)) in
     ((at-loop .loop .inv .0 .0, turned .rest, turned .one), going-ready (start .pre .1 .0) gone, gone)
+
+walk-env-of-requires-2 : (t : ℕ) → walk-lts.Need-env-of-requires-2 (walk-claims t) (walk-at t) walk.Post walk-Inv-loop walk-μ-loop
+walk-env-of-requires-2 t c κs = search needs
 
 walk-returns-3 : (t : ℕ) → walk-lts.Need-returns-3 (walk-claims t) (walk-at t) walk.Post walk-Inv-loop walk-μ-loop
 walk-returns-3 t c =
-    let start = c .before .before .before .before .before .before in
-    let args = start .args in
-    going-end (c .before .loop .inv .2) (λ st. walk-none (args .list .now) (c .before .loop .at) (args .to) (1152 - args .v) st (omega arith))
+    let at-loop = c .before .before in
+    let args = at-loop .before .before .before .before .before .args in
+    does-back (ap Went (c .env-of2 .ensures))
+    (going-end (at-loop .loop .inv .2) (λ st. walk-none (args .list .now) (at-loop .loop .at) (args .to) (1152 - args .v) st (omega arith)))
 
 with-bodies-plan-of-requires : (t : ℕ) → with-bodies-lts.Need-plan-of-requires (with-bodies-claims t) (with-bodies-at t) with-bodies.Post
 with-bodies-plan-of-requires t c κs =
@@ -813,14 +839,14 @@ pub +around+fork+fork-each+modify+step+walk+with-bodies-spec : {M : Type 1} → 
     (around-sub-low t)
     (around-walk-requires t)
     (around-enum-known-ran t)
-    (around-enum-told t)
+    (around-enum-known-ran-2 t)
+    (around-put-back-requires t)
+    (around-walk-requires-2 t)
     (λ c. around-returns t c .kept .long .cells .kinds)
     (λ c. around-returns t c .kept .long .cells .insides)
     (λ c. around-returns t c .kept .long .cells .numbers)
     (λ c. around-returns t c .kept .long .sizes)
     (around-returns t)
-    (around-put-back-requires t)
-    (around-walk-requires-2 t)
     (λ c. around-returns-2 t c .kept .long .cells .kinds)
     (λ c. around-returns-2 t c .kept .long .cells .insides)
     (λ c. around-returns-2 t c .kept .long .cells .numbers)
@@ -934,30 +960,34 @@ pub +around+fork+fork-each+modify+step+walk+with-bodies-spec : {M : Type 1} → 
     (walk-add-next-2 t)
     (walk-is-quick-requires t)
     (walk-leaf-requires t)
-    (walk-finish-requires t)
-    (walk-enum-known-done t)
-    (walk-enum-told t)
+    (walk-enum-known-q t)
     (λ c. walk-returns t c .kept .long .cells .kinds)
     (λ c. walk-returns t c .kept .long .cells .insides)
     (λ c. walk-returns t c .kept .long .cells .numbers)
     (λ c. walk-returns t c .kept .long .sizes)
     (walk-returns t)
+    (walk-enum-known-then t)
+    (walk-capped-sum-requires t)
+    (walk-counted-requires t)
+    (walk-flags-requires t)
     (walk-loop-less t)
     (walk-loop-again t)
     (walk-has-nodes-requires t)
     (walk-add-at t)
     (walk-loop-less-2 t)
     (walk-loop-again-2 t)
+    (walk-env-of-requires t)
     (walk-step-requires t)
-    (walk-enum-known-ran t)
-    (walk-enum-told-2 t)
+    (walk-enum-known-q-2 t)
     (λ c. walk-returns-2 t c .kept .long .cells .kinds)
     (λ c. walk-returns-2 t c .kept .long .cells .insides)
     (λ c. walk-returns-2 t c .kept .long .cells .numbers)
     (λ c. walk-returns-2 t c .kept .long .sizes)
     (walk-returns-2 t)
+    (walk-enum-known-then-2 t)
     (walk-loop-less-3 t)
     (walk-loop-again-3 t)
+    (walk-env-of-requires-2 t)
     (λ c. walk-returns-3 t c .kept .long .cells .kinds)
     (λ c. walk-returns-3 t c .kept .long .cells .insides)
     (λ c. walk-returns-3 t c .kept .long .cells .numbers)
