@@ -89,7 +89,8 @@ fn invert_read(
     out: &mut [u8],
 ) -> Answer
     requires { ⌜ (n ≤ sumEntries) × Held (lent kinds insides numbers) working (working + n) sumLevels ⌝ }
-    ensures { λ r. ⌜ OfOne (entering kinds insides numbers) working (working + n) sumLevels (λ s. (pairs : ℕ) → Gives recordsIn (inverseOf (done s complex handled pairs)) (now (out .entry)) (now (out .exit)) r) ⌝ }
+    ensures { λ r. ⌜ OfOne (entering kinds insides numbers) working (working + n) sumLevels
+        (λ s. (pairs : ℕ) → Gives recordsIn (inverseOf (done s complex handled pairs)) (now (out .entry)) (now (out .exit)) r) ⌝ }
 {
     if !handled {
         return Answer::Refused(Refusal::NotHandled, 0);
@@ -109,7 +110,8 @@ fn make(
     out: &mut [u8],
 ) -> Answer
     requires { ⌜ Source (lent kinds insides numbers) working n 0 × Room (lent kinds insides numbers) (0 + (sumEntries + sumEntries)) ⌝ }
-    ensures { λ r. ⌜ OfOne (entering kinds insides numbers) working (working + n) sumLevels (λ s. (pairs : ℕ) → Gives (roomBy w) (madeBy w (done s complex handled pairs)) (now (out .entry)) (now (out .exit)) r) ⌝ }
+    ensures { λ r. ⌜ OfOne (entering kinds insides numbers) working (working + n) sumLevels
+        (λ s. (pairs : ℕ) → Gives (roomBy w) (madeBy w (done s complex handled pairs)) (now (out .entry)) (now (out .exit)) r) ⌝ }
 {
     match w {
         Wanted::Sum => crate::answer::put_out(kinds, insides, numbers, WORKING, n, out),

@@ -226,7 +226,8 @@ fn form_uncounted(
     m: usize,
     w: usize,
 ) -> Formed
-    requires { ⌜ Uncounted p × (1 ≤ n) × (1 ≤ m) × Source (lent kinds insides numbers) i n w × Source (lent kinds insides numbers) j m w × Room (lent kinds insides numbers) (w + (sumEntries + sumEntries)) ⌝ }
+    requires { ⌜ Uncounted p × (1 ≤ n) × (1 ≤ m) × Source (lent kinds insides numbers) i n w × Source (lent kinds insides numbers) j m w
+        × Room (lent kinds insides numbers) (w + (sumEntries + sumEntries)) ⌝ }
     ensures { λ r. ⌜ Kept (entering kinds insides numbers) (leaving kinds insides numbers) w (w + (sumEntries + sumEntries)) ⌝ }
     ensures { λ r. ⌜ OfTwo (entering kinds insides numbers) i (i + n) j (j + m) sumLevels (λ b a. Agrees r (leaving kinds insides numbers) w (ofTwo p b a)) ⌝ }
 {
