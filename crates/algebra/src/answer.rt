@@ -16,21 +16,21 @@ use sums::order::Formed;
 use writing::draft::Wrote;
 
 // What an entry answers: so many entries or records written, or a refusal with its place.
-#[derive(Drop)]
+#[derive(Clone, Copy)]
 pub enum Answer {
     Done(usize),
     Refused(Refusal, usize),
 }
 
 // Which of the two writers writes a list: the Rust's, or the one whose lists mean what the sum says.
-#[derive(Drop)]
+#[derive(Clone, Copy)]
 pub enum Writer {
     AsRust,
     Faithful,
 }
 
 // Document 01's number, place, count and complex flag, and the pairs that reading multiplied.
-#[derive(Drop)]
+#[derive(Clone, Copy)]
 pub struct Numbers {
     pub number: u64,
     pub place: usize,

@@ -1,4 +1,6 @@
 // The entries. None asks anything of its caller: every byte list gets a result or one refusal, and a refusal changes no output byte.
+#![tactic(auto)]
+
 pub mod answer;
 pub mod lists;
 
@@ -22,7 +24,7 @@ use values::ValueAnswer;
 use values::powers::Quick;
 
 // What `read` answers: a sum of so many entries, with the complex flag and the pairs multiplied, or a refusal with its place.
-#[derive(Drop)]
+#[derive(Clone, Copy)]
 pub enum ReadAnswer {
     Sum(usize, bool, u64),
     Refused(Refusal, usize),

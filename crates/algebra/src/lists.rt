@@ -22,7 +22,7 @@ use reading::env::AlgebraData;
 use stack::slots::{ARENA, SMALL_ARENA, WORKING};
 
 // What is made of the sum that a list stands for.
-#[derive(Drop)]
+#[derive(Clone, Copy)]
 pub enum Wanted {
     Sum,
     Derivative(Writer),

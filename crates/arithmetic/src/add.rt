@@ -21,7 +21,7 @@ use sums::order::Formed;
 use sums::tree::Merge;
 
 // The coefficient of a sum that is a constant.
-#[derive(Drop)]
+#[derive(Clone, Copy)]
 pub enum Constant {
     Is(Complex),
     Other,

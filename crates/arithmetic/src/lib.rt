@@ -1,4 +1,6 @@
 // The arithmetic of terms: what becomes of two terms by their kinds, and of a coefficient on its way into another sum.
+#![tactic(auto)]
+
 pub mod add;
 pub mod multiply;
 
@@ -9,7 +11,7 @@ ghost use Rattle.arithmetic.specs.Outcomes.{product_code, quotient_code};
 use numbers::complex::Complex;
 
 // What becomes of a coefficient on its way into another sum.
-#[derive(Drop)]
+#[derive(Clone, Copy)]
 pub enum Change {
     Keep,
     Negate,

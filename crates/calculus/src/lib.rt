@@ -1,5 +1,7 @@
 // The derivative and the integral of a sum: definitions, laws, what both ask of one entry, and in the modules the code over a book of three arrays. The sum lies
 // apart from twice the places of a sum from w on: the result is formed in the first SUM_ENTRIES of them, the others are to work in, and no other place is written.
+#![tactic(auto)]
+
 pub mod derivative;
 pub mod integral;
 
@@ -11,7 +13,7 @@ use numbers::complex::Complex;
 use sums::tree::Merge;
 
 // The natural logarithm of a base, where it is known.
-#[derive(Drop)]
+#[derive(Clone, Copy)]
 pub enum Ln {
     Is(f64),
     Other,

@@ -1,5 +1,7 @@
 // One entry of a sum and its numbers as bits, and the book that sums lie in, three arrays: kinds, inside counts, and number bits, three words a place: the number's,
 // re's and im's. Only `load` and `store` say what a cell means (and `find_power` in sums, which reads the number's word alone); the others move cells as they are.
+#![tactic(auto)]
+
 ghost use Rattle.std.specs.Prelude.{◌+◌, ◌≤◌, ◌≡◌};
 ghost use Rattle.cells.specs.Contract.Book.{lent, entering, leaving, at, Room, Plain};
 ghost use Rattle.cells.specs.Contract.Moves.{Apart, Put, Moved, Copied, Inserted};
@@ -7,7 +9,7 @@ ghost use Rattle.cells.specs.Contract.Moves.{Apart, Put, Moved, Copied, Inserted
 use numbers::complex::Complex;
 
 // A term (its kind, how many entries lie inside it, its power or base) and its coefficient.
-#[derive(Drop)]
+#[derive(Clone, Copy)]
 pub struct Entry {
     pub kind: u8,
     pub inside: u8,

@@ -10,7 +10,7 @@ ghost use Rattle.formats.specs.Contract.Walk.{Walkable};
 use limits::{RECORD_BYTES, Refusal};
 
 // What a record is.
-#[derive(Drop)]
+#[derive(Clone, Copy)]
 pub enum Kind {
     RealPush,
     ComplexPush,
@@ -28,14 +28,14 @@ pub enum Kind {
 }
 
 // What a kind byte stands for.
-#[derive(Drop)]
+#[derive(Clone, Copy)]
 pub enum KindFound {
     Known(Kind),
     Unknown,
 }
 
 // What the code of a primitive stands for. Max, SinH, CosH and Root are only written.
-#[derive(Drop)]
+#[derive(Clone, Copy)]
 pub enum Primitive {
     Identity,
     Pop,
@@ -69,7 +69,7 @@ pub enum Primitive {
 }
 
 // What the code of a modifier stands for.
-#[derive(Drop)]
+#[derive(Clone, Copy)]
 pub enum Modifier {
     Dip,
     Gap,
@@ -81,7 +81,7 @@ pub enum Modifier {
     Unlisted,
 }
 
-#[derive(Drop)]
+#[derive(Clone, Copy)]
 pub struct Record {
     pub kind: u8,
     pub code: u8,
@@ -93,13 +93,13 @@ pub struct Record {
 }
 
 // Whether a stretch of records is well-formed, and how many of it stand one inside the other.
-#[derive(Drop)]
+#[derive(Clone, Copy)]
 pub enum Shape {
     Bad,
     Tall(usize),
 }
 
-#[derive(Drop)]
+#[derive(Clone, Copy)]
 pub enum Verdict {
     Good,
     Refused(Refusal),

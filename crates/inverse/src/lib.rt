@@ -1,4 +1,6 @@
 // The list that undoes a sum, the Rust's algebraic_inverse: definitions, laws, and the code over a sum that lies in a book of three arrays.
+#![tactic(auto)]
+
 ghost use Rattle.std.specs.Prelude.{◌+◌, ◌*◌, ◌≤◌, length, Bool, [], ◌∷◌, ◌≡◌};
 ghost use Rattle.cells.specs.Contract.Book.{lent, entering};
 ghost use Rattle.formats.specs.Tree.{end};
@@ -18,7 +20,7 @@ use numbers::complex::Complex;
 use writing::draft::{Draft, Said, Wrote};
 
 // What a sum has besides x to the 0, 1 and 2: nothing, one power of x with its coefficient, or too much to be undone.
-#[derive(Drop)]
+#[derive(Clone, Copy)]
 pub enum Others {
     Nothing,
     Power(f64, Complex),

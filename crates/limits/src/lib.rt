@@ -1,4 +1,6 @@
 // Document 01's limits and refusals by name. Nothing else in the code gives a limit or a refusal its number.
+#![tactic(auto)]
+
 ghost use Rattle.limits.specs.Refusals.{refusal_no};
 ghost use Rattle.std.specs.Prelude.{◌≡◌};
 
@@ -39,7 +41,7 @@ pub const HANDLED_NEEDED: usize = 2;
 pub const LAST_REPLACED: u64 = 9;
 
 // What a refusal is called; refusal_no gives its number.
-#[derive(Drop)]
+#[derive(Clone, Copy)]
 pub enum Refusal {
     TooManyVariables,
     NotSupported,

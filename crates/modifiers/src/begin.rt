@@ -13,7 +13,7 @@ use formats::record::Modifier;
 use stack::state::AlgebraEnv;
 
 // What a modifier does with what it takes off the stack.
-#[derive(Drop)]
+#[derive(Clone, Copy)]
 enum Manner {
     Drops,
     Copies,

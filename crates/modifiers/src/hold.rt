@@ -14,7 +14,7 @@ use stack::slots::{Deep, WORKING};
 use stack::state::AlgebraEnv;
 
 // The state in which a body begins, with how many cells are held for its modifier; or a refusal.
-#[derive(Drop)]
+#[derive(Clone, Copy)]
 pub enum Begun {
     Held(AlgebraEnv, usize),
     Halted(Refusal, usize, bool),

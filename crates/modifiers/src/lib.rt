@@ -1,5 +1,7 @@
 // What modifiers do to the stack around their bodies: definitions, laws, and what is asked of a list alone (how many bodies there are, what they take, and in which
 // order they run); in the modules what is taken off the stack and held while a body runs, what is lent of it, and what each does before its first body.
+#![tactic(auto)]
+
 pub mod begin;
 pub mod hold;
 pub mod lend;
@@ -20,7 +22,7 @@ use formats::record::{Kind, KindFound, Modifier, Record};
 use limits::Refusal;
 
 // What a record has inside that is run: nothing, nodes that are run in turn, or a modifier's bodies.
-#[derive(Drop)]
+#[derive(Clone, Copy)]
 pub enum Inside {
     Nothing,
     Nodes,
@@ -99,7 +101,7 @@ pub fn place_of(list: &[u8], from: usize, to: usize, i: usize) -> usize
 }
 
 // How many bodies a modifier has.
-#[derive(Drop)]
+#[derive(Clone, Copy)]
 enum Way {
     One,
     Two,
@@ -108,7 +110,7 @@ enum Way {
 }
 
 // What is done with a modifier.
-#[derive(Drop)]
+#[derive(Clone, Copy)]
 pub enum Use {
     Refused(Refusal),
     Bodies,
@@ -117,7 +119,7 @@ pub enum Use {
 
 // The stretch that is run while sums are held (from, to), the stretch that is run when they are back (again, until), and the arguments of the first body in
 // the list.
-#[derive(Drop)]
+#[derive(Clone, Copy)]
 pub struct Plan {
     pub from: usize,
     pub to: usize,

@@ -5,7 +5,7 @@ ghost use Rattle.numbers.specs.Complex.Arith.{complex, zero, one, imaginary, plu
 use crate::Ordering;
 
 // A coefficient: re + im * i.
-#[derive(Drop)]
+#[derive(Clone, Copy)]
 pub struct Complex {
     pub re: f64,
     pub im: f64,

@@ -1,4 +1,6 @@
 // What the algebra asks of binary64 numbers, and the constants that it uses.
+#![tactic(auto)]
+
 pub mod complex;
 pub mod radical;
 
@@ -13,7 +15,7 @@ ghost use Rattle.std.specs.Prelude.{◌≡◌};
 use limits::HIGHEST_POWER;
 
 // How one value lies to another.
-#[derive(Drop)]
+#[derive(Clone, Copy)]
 pub enum Ordering {
     Less,
     Equal,
@@ -21,7 +23,7 @@ pub enum Ordering {
 }
 
 // The whole number from 0 to HIGHEST_POWER that a number is, if it is one.
-#[derive(Drop)]
+#[derive(Clone, Copy)]
 pub enum SmallWhole {
     Is(u64),
     Other,

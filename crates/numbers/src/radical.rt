@@ -14,7 +14,7 @@ const LEADING: u64 = 0x10000000000000;
 const ROOT_DIGITS: u64 = 53;
 
 // A whole number, and what is left when its square is taken away.
-#[derive(Drop)]
+#[derive(Clone, Copy)]
 pub struct Rooted {
     pub root: u64,
     pub rem: u64,
@@ -95,7 +95,7 @@ fn guess(digits: u64, odd: u64) -> u64
 }
 
 // What comes of trying a guess.
-#[derive(Drop)]
+#[derive(Clone, Copy)]
 pub enum Trial {
     Found(Rooted),
     Wrong,
@@ -188,7 +188,7 @@ fn whole_root(digits: u64, odd: u64) -> Rooted
 }
 
 // A number as 53 digits times a power of two.
-#[derive(Drop)]
+#[derive(Clone, Copy)]
 pub struct Scaled {
     pub digits: u64,
     pub power: u64,

@@ -30,14 +30,14 @@ use sums::order::Formed;
 use sums::tree::Merge;
 
 // The real number that a constant is, if it is one.
-#[derive(Drop)]
+#[derive(Clone, Copy)]
 pub enum Real {
     Is(f64),
     Other,
 }
 
 // What was formed, and how many pairs of outermost terms were multiplied for it. Where it is refused the number says nothing.
-#[derive(Drop)]
+#[derive(Clone, Copy)]
 pub struct Raised {
     pub formed: Formed,
     pub pairs: u64,

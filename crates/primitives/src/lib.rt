@@ -1,5 +1,7 @@
 // What each primitive forms of the one or two sums that it takes, as defined and in code. The sums lie in a book of three arrays; the result is formed in the
 // SUM_ENTRIES places from w on, the SUM_ENTRIES behind them are working places, and no other place is written.
+#![tactic(auto)]
+
 ghost use Rattle.std.specs.Prelude.{◌+◌, ◌≤◌};
 ghost use Rattle.arithmetic.specs.Add.Contract.Operands.{Operand, Source};
 ghost use Rattle.arithmetic.specs.Adding.{neg_sum, add_sums};

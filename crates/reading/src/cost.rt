@@ -13,13 +13,13 @@ use limits::{LIST_LEVELS, Refusal};
 use modifiers::Inside;
 
 // So many steps, or a refusal, which is at place 0.
-#[derive(Drop)]
+#[derive(Clone, Copy)]
 pub enum CostAnswer {
     Steps(u64),
     Refused(Refusal),
 }
 
-#[derive(Drop)]
+#[derive(Clone, Copy)]
 pub struct CostNumbers {
     pub number: u64,
     pub place: u64,

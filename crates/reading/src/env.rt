@@ -19,7 +19,7 @@ use stack::state::{AlgebraEnv, Ran};
 
 // What reading gives: a sum of so many entries, with the complex flag, whether what was read counts as handled and the pairs multiplied; or a refusal with its place, and
 // whether it counts as handled.
-#[derive(Drop)]
+#[derive(Clone, Copy)]
 pub enum AlgebraData {
     Sum(usize, bool, bool, u64),
     Refused(Refusal, usize, bool),

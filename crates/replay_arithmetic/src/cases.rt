@@ -16,7 +16,7 @@ pub const SECOND: usize = 3 * SUM_ENTRIES;
 pub const FOUR_SUMS: usize = 4 * SUM_ENTRIES;
 
 // The head of a case.
-#[derive(Drop)]
+#[derive(Clone, Copy)]
 pub struct Case {
     pub code: u8,
     pub n: usize,

@@ -1,4 +1,6 @@
 // Replays stored answers of arithmetic on sums: standard input has operands and results in hex, and each operation has to give what is stored.
+#![tactic(auto)]
+
 ghost use Rattle.std.specs.Prelude.{◌+◌, ◌*◌, ◌≤◌, length};
 ghost use Rattle.limits.specs.Limits.{entry_bytes, sum_entries};
 

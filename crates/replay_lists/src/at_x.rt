@@ -4,14 +4,14 @@ use crate::count::COUNTS;
 use crate::text::Number;
 
 // Where a sum's value is asked for, and what is answered; numbers as their bits.
-#[derive(Drop)]
+#[derive(Clone, Copy)]
 struct Asked {
     x: u64,
     number: u64,
     value: u64,
 }
 
-#[derive(Drop)]
+#[derive(Clone, Copy)]
 enum Stored {
     Answer(Asked),
     Broken,

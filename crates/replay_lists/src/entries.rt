@@ -5,7 +5,7 @@ use algebra::answer::Numbers;
 use limits::LIST_RECORDS;
 
 // What a line is: an input, an answer of an entry, or something else. An answer of a writer begins with the flag that was handed over, and so does that of `read` to what `write` wrote.
-#[derive(Drop)]
+#[derive(Clone, Copy)]
 pub enum Keyword {
     List,
     Sum,
@@ -29,7 +29,7 @@ pub enum Keyword {
 }
 
 // Number, place, how many records or entries were written, the complex flag, 0 or 1, and the pairs that reading multiplied.
-#[derive(Drop)]
+#[derive(Clone, Copy)]
 pub struct Answer {
     pub number: u64,
     pub place: u64,

@@ -12,7 +12,7 @@ const RECORD: usize = 24;
 const ENTRY: usize = 32;
 
 // The input that the answers are about, and how many bytes it has.
-#[derive(Drop)]
+#[derive(Clone, Copy)]
 pub enum Held {
     Nothing,
     List(usize),
@@ -20,14 +20,14 @@ pub enum Held {
 }
 
 // How far the lines went, and what is held there.
-#[derive(Drop)]
+#[derive(Clone, Copy)]
 pub struct Reached {
     pub at: usize,
     pub held: Held,
 }
 
 // An answer and how many bytes are written.
-#[derive(Drop)]
+#[derive(Clone, Copy)]
 enum Stored {
     Answer(Answer, usize),
     Broken,

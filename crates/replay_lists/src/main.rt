@@ -1,5 +1,7 @@
 // Replays stored answers: lists and sums, each with the answers of the entries, in the form that vectors/README.md describes. `text` reads it, `count` counts what
 // agrees.
+#![tactic(auto)]
+
 mod at_x;
 mod calls;
 pub mod count;

@@ -4,7 +4,7 @@ use crate::count::COUNTS;
 use crate::text::{Number, Numbers};
 
 // Where a list is run, and what the run answers; numbers as their bits.
-#[derive(Drop)]
+#[derive(Clone, Copy)]
 struct Run {
     x: u64,
     number: u64,
@@ -14,7 +14,7 @@ struct Run {
     peak: u64,
 }
 
-#[derive(Drop)]
+#[derive(Clone, Copy)]
 enum Stored {
     Answer(Run),
     Broken,

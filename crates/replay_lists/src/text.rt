@@ -2,28 +2,28 @@
 ghost use Rattle.std.specs.Prelude.{◌≡◌, ◌+◌, ◌≤◌, length};
 
 // A number of a line, and where in the line it ends.
-#[derive(Drop)]
+#[derive(Clone, Copy)]
 pub enum Number {
     Found(u64, usize),
     Missing,
 }
 
 // Two numbers of a line, and where in the line the second ends.
-#[derive(Drop)]
+#[derive(Clone, Copy)]
 pub enum Numbers {
     Both(u64, u64, usize),
     Missing,
 }
 
 // The bytes that hex stands for: how many.
-#[derive(Drop)]
+#[derive(Clone, Copy)]
 pub enum Decoded {
     Bytes(usize),
     Broken,
 }
 
 // A byte, and where its two digits end; where there are none it is 0, and ends where it starts.
-#[derive(Drop)]
+#[derive(Clone, Copy)]
 struct Pair {
     byte: u8,
     next: usize,

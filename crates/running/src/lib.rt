@@ -1,4 +1,6 @@
 // What the runner does with each record and what the run of a list is, with their laws; which work, and which way, a record asks for.
+#![tactic(auto)]
+
 pub mod act;
 pub mod run;
 
@@ -16,7 +18,7 @@ use formats::record::{Kind, KindFound, Primitive};
 use limits::Refusal;
 
 // What a primitive leaves in place of what it takes, named from the top; or why it is refused. One value is a value formed.
-#[derive(Drop)]
+#[derive(Clone, Copy)]
 pub enum Left {
     Nothing,
     One(f64),
@@ -26,7 +28,7 @@ pub enum Left {
 }
 
 // The primitives that take one value.
-#[derive(Drop)]
+#[derive(Clone, Copy)]
 pub enum Single {
     Identity,
     Pop,
@@ -38,7 +40,7 @@ pub enum Single {
 }
 
 // The primitives that take two values.
-#[derive(Drop)]
+#[derive(Clone, Copy)]
 pub enum Pair {
     Flip,
     Add,
@@ -50,7 +52,7 @@ pub enum Pair {
 }
 
 // What is done with a primitive.
-#[derive(Drop)]
+#[derive(Clone, Copy)]
 pub enum Work {
     OfOne(Single),
     OfTwo(Pair),
@@ -58,7 +60,7 @@ pub enum Work {
 }
 
 // What a record does by itself.
-#[derive(Drop)]
+#[derive(Clone, Copy)]
 pub enum Deed {
     Pushes,
     Works,
@@ -66,7 +68,7 @@ pub enum Deed {
 }
 
 // How a record is run: by itself, by what is inside it, or as a modifier.
-#[derive(Drop)]
+#[derive(Clone, Copy)]
 pub enum Way {
     Acts(Deed),
     Runs,
@@ -74,34 +76,34 @@ pub enum Way {
 }
 
 // So many values are on the stack, or the step is refused.
-#[derive(Drop)]
+#[derive(Clone, Copy)]
 pub enum Did {
     Went(usize),
     Stop(Refusal),
 }
 
 // The values on the stack, the records run, and the most values on the stack and held.
-#[derive(Drop)]
+#[derive(Clone, Copy)]
 pub struct State {
     pub n: usize,
     pub steps: usize,
     pub peak: usize,
 }
 
-#[derive(Drop)]
+#[derive(Clone, Copy)]
 pub enum Ran {
     Done(State),
     Refused(Refusal, usize),
 }
 
 // A value with the steps and the peak, or a refusal with its place.
-#[derive(Drop)]
+#[derive(Clone, Copy)]
 pub enum RunAnswer {
     Value(f64, usize, usize),
     Refused(Refusal, usize),
 }
 
-#[derive(Drop)]
+#[derive(Clone, Copy)]
 pub struct RunNumbers {
     pub number: u64,
     pub place: usize,

@@ -22,7 +22,7 @@ pub const ARENA: usize = WORKING + STACK_ENTRIES;
 pub const SMALL_ARENA: usize = WORKING + SUM_ENTRIES + SUM_ENTRIES;
 
 // Where the top sums begin, if there are as many.
-#[derive(Drop)]
+#[derive(Clone, Copy)]
 pub enum Deep {
     From(usize),
     Short,

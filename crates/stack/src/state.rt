@@ -22,7 +22,7 @@ pub const MOST: u64 = 18446744073709551615;
 
 // The state beside the arena: the cells that the stack takes up to, how many primitives were handled, counted to HANDLED_NEEDED, whether a complex number was met, and how
 // many pairs of outermost terms were multiplied, counted to MOST.
-#[derive(Drop)]
+#[derive(Clone, Copy)]
 pub struct AlgebraEnv {
     pub used: usize,
     pub handled: usize,
@@ -31,14 +31,14 @@ pub struct AlgebraEnv {
 }
 
 // What came of running records: the state then, or a refusal, its place, and whether what was read so far counts as handled.
-#[derive(Drop)]
+#[derive(Clone, Copy)]
 pub enum Ran {
     Went(AlgebraEnv),
     Stopped(Refusal, usize, bool),
 }
 
 // What a step answers: the cells that the stack takes then and the pairs that it multiplied, or a refusal with whether what was read so far counts as handled.
-#[derive(Drop)]
+#[derive(Clone, Copy)]
 pub enum Stepped {
     Went(usize, u64),
     Stopped(Refusal, bool),

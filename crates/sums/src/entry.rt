@@ -2,7 +2,7 @@
 use limits::Refusal;
 
 // What handing over bytes gives: a sum of so many entries, or a refusal.
-#[derive(Drop)]
+#[derive(Clone, Copy)]
 pub enum Taken {
     Sum(usize),
     Refused(Refusal),

@@ -19,14 +19,14 @@ use limits::Refusal;
 use numbers::Ordering;
 
 // A sum was formed and has so many entries, insides counted; or it was refused.
-#[derive(Drop)]
+#[derive(Clone, Copy)]
 pub enum Formed {
     Done(usize),
     Refused(Refusal),
 }
 
 // Where a term stands in a sum, or before which cell it belongs.
-#[derive(Drop)]
+#[derive(Clone, Copy)]
 pub enum Found {
     Same(usize),
     Before(usize),

@@ -22,7 +22,7 @@ pub const SINH: u8 = 7;
 pub const COSH: u8 = 8;
 
 // How a coefficient goes into the map: added to what the key has, taken from it, or stored in its place.
-#[derive(Drop)]
+#[derive(Clone, Copy)]
 pub enum Merge {
     Add,
     Take,

@@ -1,4 +1,6 @@
 // The thirteen entries as C functions: each returns the number, and writes place and counts into `answer`. A slice is passed as a pointer and a length.
+#![tactic(auto)]
+
 ghost use Rattle.uplink.specs.Told.{Told, Valued, Ran, with_pairs, with_count, with_cost};
 ghost use Rattle.std.specs.Prelude.{eqb, not, []};
 ghost use Rattle.algebra.specs.Replies as entry;

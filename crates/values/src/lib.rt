@@ -1,4 +1,6 @@
 // The value of a sum at x, straight from its terms. No list is written: the outermost terms are met once, in rising power, and what is found in them is judged at the end.
+#![tactic(auto)]
+
 pub mod powers;
 
 ghost use Rattle.std.specs.Prelude.{◌≡◌, [], ◌+◌, ◌-◌, ◌≤◌, ◌<◌};
@@ -17,13 +19,13 @@ use numbers::complex::Complex;
 use sums::tree::X;
 
 // A value, or a refusal; everything is at place 0.
-#[derive(Drop)]
+#[derive(Clone, Copy)]
 pub enum ValueAnswer {
     Value(f64),
     Refused(Refusal),
 }
 
-#[derive(Drop)]
+#[derive(Clone, Copy)]
 pub struct ValueNumbers {
     pub number: u64,
     pub place: usize,
@@ -33,7 +35,7 @@ pub struct ValueNumbers {
 
 // What was found in the terms so far, side by side: whether each is a whole power, and real; whether there was one, and the sum of them; and the last power of x
 // that was formed, with its exponent.
-#[derive(Drop)]
+#[derive(Clone, Copy)]
 struct Found {
     pub whole: bool,
     pub real: bool,

@@ -14,14 +14,14 @@ use sums::tree::X;
 const POWER: u64 = X as u64;
 
 // What was found in a sum of powers, or that the bytes are something else.
-#[derive(Drop)]
+#[derive(Clone, Copy)]
 enum Met {
     Powers(Found),
     Other,
 }
 
 // The value, or that the bytes are something else.
-#[derive(Drop)]
+#[derive(Clone, Copy)]
 pub enum Quick {
     Answer(ValueAnswer),
     Other,

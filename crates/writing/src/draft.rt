@@ -15,21 +15,21 @@ use limits::{RECORD_BYTES, Refusal};
 use numbers::complex::Complex;
 
 // The places of the buffer that the list so far takes: from the first up to the end.
-#[derive(Drop)]
+#[derive(Clone, Copy)]
 pub struct Draft {
     pub from: usize,
     pub end: usize,
 }
 
 // What comes of saying a number: the list so far, or a refusal.
-#[derive(Drop)]
+#[derive(Clone, Copy)]
 pub enum Said {
     Done(Draft),
     Refused(Refusal),
 }
 
 // What comes of a whole list: so many records written, or a refusal.
-#[derive(Drop)]
+#[derive(Clone, Copy)]
 pub enum Wrote {
     List(usize),
     Refused(Refusal),

@@ -1,6 +1,8 @@
 // The list that a sum is written as, the Rust's expr_to_node: definitions, laws, and the code, in one pass over a sum that lies in a book of three arrays. The list so
 // far is a draft in a buffer: a term is written at its end, and an On goes round all of it where it is needed again. A function's argument is written by the same
 // loop, with a level less left.
+#![tactic(auto)]
+
 pub mod draft;
 pub mod faithful;
 
