@@ -2,7 +2,7 @@
 // Where a derivative or an integral is taken it is formed in the SUM_ENTRIES places from w on, and as many behind them are working places.
 ghost use Rattle.std.specs.Prelude.{◌≡◌, ◌+◌, ◌≤◌};
 ghost use Rattle.limits.specs.Limits.{sum_entries, sum_levels};
-ghost use Rattle.cells.specs.Contract.Book.{lent, entering, Room};
+ghost use Rattle.cells.specs.Contract.Book.{book, Room};
 ghost use Rattle.sums.specs.Contract.Lies.{Held, OfOne};
 ghost use Rattle.arithmetic.specs.Add.Contract.Operands.{Source};
 ghost use Rattle.formats.specs.Tree.{records_in};
@@ -80,8 +80,8 @@ pub fn put_out(
     n: usize,
     out: &mut [u8],
 ) -> Answer
-    requires { (n ≤ sum_entries) × Held (lent kinds insides numbers) i (i + n) sum_levels }
-    ensures { OfOne (entering kinds insides numbers) i (i + n) sum_levels (λ s. Gives entries_in (of_sum s) out.old out.new result) }
+    requires { (n ≤ sum_entries) × Held (book kinds.now insides.now numbers.now) i (i + n) sum_levels }
+    ensures { OfOne (book kinds.now insides.now numbers.now) i (i + n) sum_levels (λ s. Gives entries_in (of_sum s) out.old out.new result) }
 {
     let room = sums::bytes::count_entries(out);
     if room < n {
@@ -101,8 +101,8 @@ pub fn derive(
     w: usize,
     out: &mut [u8],
 ) -> Answer
-    requires { Source (lent kinds insides numbers) i n w × Room (lent kinds insides numbers) (w + (sum_entries + sum_entries)) }
-    ensures { OfOne (entering kinds insides numbers) i (i + n) sum_levels (λ s. Gives entries_in (derive s) out.old out.new result) }
+    requires { Source (book kinds.old insides.old numbers.old) i n w × Room (book kinds.old insides.old numbers.old) (w + (sum_entries + sum_entries)) }
+    ensures { OfOne (book kinds.old insides.old numbers.old) i (i + n) sum_levels (λ s. Gives entries_in (derive s) out.old out.new result) }
 {
     match calculus::derivative::expr_deriv(kinds, insides, numbers, i, n, w) {
         Formed::Refused(q) => Answer::Refused(q, 0),
@@ -120,8 +120,8 @@ pub fn integrate(
     w: usize,
     out: &mut [u8],
 ) -> Answer
-    requires { Source (lent kinds insides numbers) i n w × Room (lent kinds insides numbers) (w + (sum_entries + sum_entries)) }
-    ensures { OfOne (entering kinds insides numbers) i (i + n) sum_levels (λ s. Gives entries_in (integrate s) out.old out.new result) }
+    requires { Source (book kinds.old insides.old numbers.old) i n w × Room (book kinds.old insides.old numbers.old) (w + (sum_entries + sum_entries)) }
+    ensures { OfOne (book kinds.old insides.old numbers.old) i (i + n) sum_levels (λ s. Gives entries_in (integrate s) out.old out.new result) }
 {
     match calculus::integral::expr_integral(kinds, insides, numbers, i, n, w) {
         Formed::Refused(q) => Answer::Refused(q, 0),
@@ -140,8 +140,8 @@ fn list_by(
     complex: bool,
     out: &mut [u8],
 ) -> Wrote
-    requires { (n ≤ sum_entries) × Held (lent kinds insides numbers) i (i + n) sum_levels }
-    ensures { OfOne (entering kinds insides numbers) i (i + n) sum_levels (λ s. Answered out.old out.new result (list_by writer complex s)) }
+    requires { (n ≤ sum_entries) × Held (book kinds.now insides.now numbers.now) i (i + n) sum_levels }
+    ensures { OfOne (book kinds.now insides.now numbers.now) i (i + n) sum_levels (λ s. Answered out.old out.new result (list_by writer complex s)) }
 {
     match writer {
         Writer::AsRust => writing::expr_to_node(kinds, insides, numbers, i, n, complex, out),
@@ -162,8 +162,8 @@ pub fn write_sum(
     complex: bool,
     out: &mut [u8],
 ) -> Answer
-    requires { (n ≤ sum_entries) × Held (lent kinds insides numbers) i (i + n) sum_levels }
-    ensures { OfOne (entering kinds insides numbers) i (i + n) sum_levels (λ s. Gives records_in (write_by writer complex s) out.old out.new result) }
+    requires { (n ≤ sum_entries) × Held (book kinds.now insides.now numbers.now) i (i + n) sum_levels }
+    ensures { OfOne (book kinds.now insides.now numbers.now) i (i + n) sum_levels (λ s. Gives records_in (write_by writer complex s) out.old out.new result) }
 {
     let wrote = list_by(writer, kinds, insides, numbers, i, n, complex, out);
     answer_of(wrote)
@@ -181,8 +181,8 @@ pub fn derive_and_write(
     complex: bool,
     out: &mut [u8],
 ) -> Answer
-    requires { Source (lent kinds insides numbers) i n w × Room (lent kinds insides numbers) (w + (sum_entries + sum_entries)) }
-    ensures { OfOne (entering kinds insides numbers) i (i + n) sum_levels (λ s. Gives records_in (derive_and_write_by writer complex s) out.old out.new result) }
+    requires { Source (book kinds.old insides.old numbers.old) i n w × Room (book kinds.old insides.old numbers.old) (w + (sum_entries + sum_entries)) }
+    ensures { OfOne (book kinds.old insides.old numbers.old) i (i + n) sum_levels (λ s. Gives records_in (derive_and_write_by writer complex s) out.old out.new result) }
 {
     match calculus::derivative::expr_deriv(kinds, insides, numbers, i, n, w) {
         Formed::Refused(q) => Answer::Refused(q, 0),
@@ -202,8 +202,8 @@ pub fn integrate_and_write(
     complex: bool,
     out: &mut [u8],
 ) -> Answer
-    requires { Source (lent kinds insides numbers) i n w × Room (lent kinds insides numbers) (w + (sum_entries + sum_entries)) }
-    ensures { OfOne (entering kinds insides numbers) i (i + n) sum_levels (λ s. Gives records_in (integrate_and_write_by writer complex s) out.old out.new result) }
+    requires { Source (book kinds.old insides.old numbers.old) i n w × Room (book kinds.old insides.old numbers.old) (w + (sum_entries + sum_entries)) }
+    ensures { OfOne (book kinds.old insides.old numbers.old) i (i + n) sum_levels (λ s. Gives records_in (integrate_and_write_by writer complex s) out.old out.new result) }
 {
     match calculus::integral::expr_integral(kinds, insides, numbers, i, n, w) {
         Formed::Refused(q) => Answer::Refused(q, 0),
@@ -221,8 +221,8 @@ pub fn invert(
     complex: bool,
     out: &mut [u8],
 ) -> Answer
-    requires { (n ≤ sum_entries) × Held (lent kinds insides numbers) i (i + n) sum_levels }
-    ensures { OfOne (entering kinds insides numbers) i (i + n) sum_levels (λ s. Gives records_in (invert complex s) out.old out.new result) }
+    requires { (n ≤ sum_entries) × Held (book kinds.now insides.now numbers.now) i (i + n) sum_levels }
+    ensures { OfOne (book kinds.now insides.now numbers.now) i (i + n) sum_levels (λ s. Gives records_in (invert complex s) out.old out.new result) }
 {
     let wrote = inverse::algebraic_inverse(kinds, insides, numbers, i, n, complex, out);
     answer_of(wrote)

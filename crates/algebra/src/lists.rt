@@ -6,7 +6,7 @@ ghost use Rattle.algebra.specs.Contract.Lists.{list_held, made_by, room_by, Make
 ghost use Rattle.algebra.specs.Entries.{inverse_of};
 ghost use Rattle.algebra.specs.Reading.{read_list, flagged};
 ghost use Rattle.arithmetic.specs.Add.Contract.Operands.{Source};
-ghost use Rattle.cells.specs.Contract.Book.{lent, entering, leaving, Room};
+ghost use Rattle.cells.specs.Contract.Book.{book, Room};
 ghost use Rattle.formats.specs.Tree.{records_in};
 ghost use Rattle.limits.specs.Limits.{sum_entries, sum_levels};
 ghost use Rattle.modifiers.specs.Reading.{Read, done, refused_at};
@@ -39,8 +39,8 @@ fn read_sum(
     sizes: &mut [u8],
     top: usize,
 ) -> AlgebraData
-    requires { Reaches (arena kinds insides numbers sizes) top }
-    ensures { DataAs result (leaving kinds insides numbers) (list_held (places - top) list.now) }
+    requires { Reaches (arena kinds.old insides.old numbers.old sizes.old) top }
+    ensures { DataAs result (book kinds.new insides.new numbers.new) (list_held (places - top) list.now) }
 {
     match formats::rules::check(list) {
         Verdict::Refused(q) => AlgebraData::Refused(q, 0, false),
@@ -85,8 +85,8 @@ fn invert_read(
     handled: bool,
     out: &mut [u8],
 ) -> Answer
-    requires { (n ≤ sum_entries) × Held (lent kinds insides numbers) working (working + n) sum_levels }
-    ensures { OfOne (entering kinds insides numbers) working (working + n) sum_levels
+    requires { (n ≤ sum_entries) × Held (book kinds.now insides.now numbers.now) working (working + n) sum_levels }
+    ensures { OfOne (book kinds.now insides.now numbers.now) working (working + n) sum_levels
         (λ s. (pairs : ℕ) → Gives records_in (inverse_of (done s complex handled pairs)) out.old out.new result) }
 {
     if !handled {
@@ -106,8 +106,8 @@ fn make(
     handled: bool,
     out: &mut [u8],
 ) -> Answer
-    requires { Source (lent kinds insides numbers) working n 0 × Room (lent kinds insides numbers) (0 + (sum_entries + sum_entries)) }
-    ensures { OfOne (entering kinds insides numbers) working (working + n) sum_levels
+    requires { Source (book kinds.old insides.old numbers.old) working n 0 × Room (book kinds.old insides.old numbers.old) (0 + (sum_entries + sum_entries)) }
+    ensures { OfOne (book kinds.old insides.old numbers.old) working (working + n) sum_levels
         (λ s. (pairs : ℕ) → Gives (room_by w) (made_by w (done s complex handled pairs)) out.old out.new result) }
 {
     match w {
@@ -151,8 +151,8 @@ fn make_of(
     numbers: &mut [[u64; 3]],
     out: &mut [u8],
 ) -> ReadAnswer
-    requires { (x : Read) × DataAs got (lent kinds insides numbers) x }
-    ensures { (x : Read) → DataAs got (entering kinds insides numbers) x → Makes w x out.old out.new result }
+    requires { (x : Read) × DataAs got (book kinds.old insides.old numbers.old) x }
+    ensures { (x : Read) → DataAs got (book kinds.old insides.old numbers.old) x → Makes w x out.old out.new result }
 {
     match got {
         AlgebraData::Refused(q, at, handled) => flagged(false, 0, refuse(w, q, at, handled)),

@@ -3,7 +3,7 @@
 ghost use Rattle.std.specs.Prelude.{◌≡◌, ◌+◌};
 ghost use Rattle.limits.specs.Limits.{sum_entries, sum_levels};
 ghost use Rattle.numbers.specs.Signs.{zero64};
-ghost use Rattle.cells.specs.Contract.Book.{lent, entering, leaving, Room};
+ghost use Rattle.cells.specs.Contract.Book.{book, Room};
 ghost use Rattle.cells.specs.Contract.Moves.{Apart, Kept};
 ghost use Rattle.sums.specs.Tree.Kinds.{X};
 ghost use Rattle.sums.specs.Tree.Sums.{none};
@@ -42,8 +42,8 @@ pub fn as_constant(
     i: usize,
     n: usize,
 ) -> Constant
-    requires { Held (lent kinds insides numbers) i (i + n) sum_levels }
-    ensures { OfOne (entering kinds insides numbers) i (i + n) sum_levels (λ s. result ≡ constant_of (as_constant s)) }
+    requires { Held (book kinds.now insides.now numbers.now) i (i + n) sum_levels }
+    ensures { OfOne (book kinds.now insides.now numbers.now) i (i + n) sum_levels (λ s. result ≡ constant_of (as_constant s)) }
 {
     if n != 1 {
         return Constant::Other;
@@ -59,8 +59,8 @@ pub fn as_constant(
 
 // Whether the sum of n cells from i on is one term, and that x, whatever its coefficient.
 pub fn is_x(kinds: &[u8], insides: &[u8], numbers: &[[u64; 3]], i: usize, n: usize) -> bool
-    requires { Held (lent kinds insides numbers) i (i + n) sum_levels }
-    ensures { OfOne (entering kinds insides numbers) i (i + n) sum_levels (λ s. result ≡ is_x s) }
+    requires { Held (book kinds.now insides.now numbers.now) i (i + n) sum_levels }
+    ensures { OfOne (book kinds.now insides.now numbers.now) i (i + n) sum_levels (λ s. result ≡ is_x s) }
 {
     if n != 1 {
         return false;
@@ -71,8 +71,8 @@ pub fn is_x(kinds: &[u8], insides: &[u8], numbers: &[[u64; 3]], i: usize, n: usi
 
 // Whether any of the n cells from i on, at whatever level, is a power of x other than 0 and 1.
 pub fn is_complex(kinds: &[u8], insides: &[u8], numbers: &[[u64; 3]], i: usize, n: usize) -> bool
-    requires { Held (lent kinds insides numbers) i (i + n) sum_levels }
-    ensures { OfOne (entering kinds insides numbers) i (i + n) sum_levels (λ s. result ≡ is_complex s) }
+    requires { Held (book kinds.now insides.now numbers.now) i (i + n) sum_levels }
+    ensures { OfOne (book kinds.now insides.now numbers.now) i (i + n) sum_levels (λ s. result ≡ is_complex s) }
 {
     let end = i + n;
     let mut k = i;
@@ -97,10 +97,10 @@ pub fn put_term(
     p: usize,
     n: usize,
 ) -> Formed
-    requires good_head { GoodHead x × Held (lent kinds insides numbers) i (i + x.inside) sum_levels × Apart i x.inside p (p + sum_entries) }
-    requires growing { Growing (lent kinds insides numbers) p n }
-    ensures kept { Kept (entering kinds insides numbers) (leaving kinds insides numbers) p (p + sum_entries) }
-    ensures of_two { OfTwo (entering kinds insides numbers) p (p + n) i (i + x.inside) sum_levels (λ s t. Agrees result (leaving kinds insides numbers) p (formed how x t s)) }
+    requires good_head { GoodHead x × Held (book kinds.old insides.old numbers.old) i (i + x.inside) sum_levels × Apart i x.inside p (p + sum_entries) }
+    requires growing { Growing (book kinds.old insides.old numbers.old) p n }
+    ensures kept { Kept (book kinds.old insides.old numbers.old) (book kinds.new insides.new numbers.new) p (p + sum_entries) }
+    ensures of_two { OfTwo (book kinds.old insides.old numbers.old) p (p + n) i (i + x.inside) sum_levels (λ s t. Agrees result (book kinds.new insides.new numbers.new) p (formed how x t s)) }
 {
     if x.kind == sums::tree::X {
         return sums::map::put_power(kinds, insides, numbers, how, x.num, x.coef, p, n);
@@ -117,9 +117,9 @@ pub fn alone(
     i: usize,
     p: usize,
 ) -> Formed
-    requires { GoodHead x × Held (lent kinds insides numbers) i (i + x.inside) sum_levels × Apart i x.inside p (p + sum_entries) × Room (lent kinds insides numbers) (p + sum_entries) }
-    ensures kept { Kept (entering kinds insides numbers) (leaving kinds insides numbers) p (p + sum_entries) }
-    ensures of_one { OfOne (entering kinds insides numbers) i (i + x.inside) sum_levels (λ t. Agrees result (leaving kinds insides numbers) p (formed Merge.Store x t none)) }
+    requires { GoodHead x × Held (book kinds.old insides.old numbers.old) i (i + x.inside) sum_levels × Apart i x.inside p (p + sum_entries) × Room (book kinds.old insides.old numbers.old) (p + sum_entries) }
+    ensures kept { Kept (book kinds.old insides.old numbers.old) (book kinds.new insides.new numbers.new) p (p + sum_entries) }
+    ensures of_one { OfOne (book kinds.old insides.old numbers.old) i (i + x.inside) sum_levels (λ t. Agrees result (book kinds.new insides.new numbers.new) p (formed Merge.Store x t none)) }
 {
     sums::map::put_block(kinds, insides, numbers, Merge::Store, x, i, p, 0)
 }
@@ -132,9 +132,9 @@ pub fn constant_sum(
     c: Complex,
     p: usize,
 ) -> Formed
-    requires { Room (lent kinds insides numbers) (p + sum_entries) }
-    ensures kept { Kept (entering kinds insides numbers) (leaving kinds insides numbers) p (p + sum_entries) }
-    ensures agrees { Agrees result (leaving kinds insides numbers) p (alone X zero64 none c) }
+    requires { Room (book kinds.old insides.old numbers.old) (p + sum_entries) }
+    ensures kept { Kept (book kinds.old insides.old numbers.old) (book kinds.new insides.new numbers.new) p (p + sum_entries) }
+    ensures agrees { Agrees result (book kinds.new insides.new numbers.new) p (alone X zero64 none c) }
 {
     sums::map::put_power(kinds, insides, numbers, Merge::Store, 0.0, c, p, 0)
 }
@@ -150,9 +150,9 @@ pub fn add_each(
     p: usize,
     n: usize,
 ) -> Formed
-    requires { Operand (lent kinds insides numbers) j m p × Growing (lent kinds insides numbers) p n }
-    ensures kept { Kept (entering kinds insides numbers) (leaving kinds insides numbers) p (p + sum_entries) }
-    ensures of_two { OfTwo (entering kinds insides numbers) p (p + n) j (j + m) sum_levels (λ s t. Agrees result (leaving kinds insides numbers) p (add_each how s t)) }
+    requires { Operand (book kinds.old insides.old numbers.old) j m p × Growing (book kinds.old insides.old numbers.old) p n }
+    ensures kept { Kept (book kinds.old insides.old numbers.old) (book kinds.new insides.new numbers.new) p (p + sum_entries) }
+    ensures of_two { OfTwo (book kinds.old insides.old numbers.old) p (p + n) j (j + m) sum_levels (λ s t. Agrees result (book kinds.new insides.new numbers.new) p (add_each how s t)) }
 {
     let end = j + m;
     let mut q = j;
@@ -186,9 +186,9 @@ pub fn expr_add(
     m: usize,
     p: usize,
 ) -> Formed
-    requires { Operand (lent kinds insides numbers) i n p × Operand (lent kinds insides numbers) j m p × Room (lent kinds insides numbers) (p + sum_entries) }
-    ensures kept { Kept (entering kinds insides numbers) (leaving kinds insides numbers) p (p + sum_entries) }
-    ensures of_two { OfTwo (entering kinds insides numbers) i (i + n) j (j + m) sum_levels (λ s t. Agrees result (leaving kinds insides numbers) p (add_each how s t)) }
+    requires { Operand (book kinds.old insides.old numbers.old) i n p × Operand (book kinds.old insides.old numbers.old) j m p × Room (book kinds.old insides.old numbers.old) (p + sum_entries) }
+    ensures kept { Kept (book kinds.old insides.old numbers.old) (book kinds.new insides.new numbers.new) p (p + sum_entries) }
+    ensures of_two { OfTwo (book kinds.old insides.old numbers.old) i (i + n) j (j + m) sum_levels (λ s t. Agrees result (book kinds.new insides.new numbers.new) p (add_each how s t)) }
 {
     cells::copy_within(kinds, insides, numbers, i, n, p);
     add_each(kinds, insides, numbers, how, j, m, p, n)
@@ -196,9 +196,9 @@ pub fn expr_add(
 
 // The coefficient of every outermost entry of the sum of n cells from p on is negated.
 fn neg_each(kinds: &mut [u8], insides: &mut [u8], numbers: &mut [[u64; 3]], p: usize, n: usize)
-    requires { Held (lent kinds insides numbers) p (p + n) sum_levels }
-    ensures kept { Kept (entering kinds insides numbers) (leaving kinds insides numbers) p (p + n) }
-    ensures of_one { OfOne (entering kinds insides numbers) p (p + n) sum_levels (λ s. Lies (leaving kinds insides numbers) p (p + n) sum_levels (neg_sum s)) }
+    requires { Held (book kinds.old insides.old numbers.old) p (p + n) sum_levels }
+    ensures kept { Kept (book kinds.old insides.old numbers.old) (book kinds.new insides.new numbers.new) p (p + n) }
+    ensures of_one { OfOne (book kinds.old insides.old numbers.old) p (p + n) sum_levels (λ s. Lies (book kinds.new insides.new numbers.new) p (p + n) sum_levels (neg_sum s)) }
 {
     let end = p + n;
     let mut k = p;
@@ -224,9 +224,9 @@ pub fn expr_neg(
     n: usize,
     p: usize,
 )
-    requires { Operand (lent kinds insides numbers) i n p × Room (lent kinds insides numbers) (p + sum_entries) }
-    ensures kept { Kept (entering kinds insides numbers) (leaving kinds insides numbers) p (p + sum_entries) }
-    ensures of_one { OfOne (entering kinds insides numbers) i (i + n) sum_levels (λ s. Lies (leaving kinds insides numbers) p (p + n) sum_levels (neg_sum s)) }
+    requires { Operand (book kinds.old insides.old numbers.old) i n p × Room (book kinds.old insides.old numbers.old) (p + sum_entries) }
+    ensures kept { Kept (book kinds.old insides.old numbers.old) (book kinds.new insides.new numbers.new) p (p + sum_entries) }
+    ensures of_one { OfOne (book kinds.old insides.old numbers.old) i (i + n) sum_levels (λ s. Lies (book kinds.new insides.new numbers.new) p (p + n) sum_levels (neg_sum s)) }
 {
     cells::copy_within(kinds, insides, numbers, i, n, p);
     neg_each(kinds, insides, numbers, p, n);

@@ -2,7 +2,7 @@
 // book, apart from each other.
 ghost use Rattle.std.specs.Prelude.{◌≡◌, ◌+◌, ◌-◌, ◌≤◌, ◌<◌};
 ghost use Rattle.limits.specs.Limits.{sum_entries, sum_levels};
-ghost use Rattle.cells.specs.Contract.Book.{lent, entering, leaving, Room};
+ghost use Rattle.cells.specs.Contract.Book.{book, Room};
 ghost use Rattle.cells.specs.Contract.Moves.{Kept};
 ghost use Rattle.sums.specs.Tree.Sums.{none, size};
 ghost use Rattle.sums.specs.Tree.Map.{and_then_sum, each_into};
@@ -120,8 +120,8 @@ fn side_by_side(
     insides: &mut [u8],
     numbers: &mut [[u64; 3]],
 )
-    requires { Fits (lent from_kinds from_insides from_numbers) (lent kinds insides numbers) i a j b }
-    ensures { Beside (entering from_kinds from_insides from_numbers) (leaving kinds insides numbers) i a j b }
+    requires { Fits (book from_kinds.now from_insides.now from_numbers.now) (book kinds.old insides.old numbers.old) i a j b }
+    ensures { Beside (book from_kinds.now from_insides.now from_numbers.now) (book kinds.new insides.new numbers.new) i a j b }
 {
     cells::copy_in(
         from_kinds,
@@ -161,11 +161,11 @@ fn put_div(
     p: usize,
     n: usize,
 ) -> Formed
-    requires inner { Inner (lent other_kinds other_insides other_numbers) k }
-    requires growing { Growing (lent kinds insides numbers) p n }
-    ensures kept { Kept (entering kinds insides numbers) (leaving kinds insides numbers) p (p + sum_entries) }
-    ensures of_inner { OfInner (entering other_kinds other_insides other_numbers) k (entering kinds insides numbers) p n
-        (λ w s. Agrees result (leaving kinds insides numbers) p (div_into k coef w s)) }
+    requires inner { Inner (book other_kinds.old other_insides.old other_numbers.old) k }
+    requires growing { Growing (book kinds.old insides.old numbers.old) p n }
+    ensures kept { Kept (book kinds.old insides.old numbers.old) (book kinds.new insides.new numbers.new) p (p + sum_entries) }
+    ensures of_inner { OfInner (book other_kinds.old other_insides.old other_numbers.old) k (book kinds.old insides.old numbers.old) p n
+        (λ w s. Agrees result (book kinds.new insides.new numbers.new) p (div_into k coef w s)) }
 {
     let head = Entry {
         kind: sums::tree::DIV,
@@ -228,9 +228,9 @@ fn div_mul(
     n: usize,
     left: usize,
 ) -> Formed
-    requires { (0 < a) × (0 < b) × Sums (lent kinds insides numbers) i a j b p left × Growing (lent kinds insides numbers) p n }
-    ensures kept { Kept (entering kinds insides numbers) (leaving kinds insides numbers) p (p + sum_entries) }
-    ensures of_three { OfThree (entering kinds insides numbers) i a left j b left p n (λ t v s. Agrees result (leaving kinds insides numbers) p
+    requires { (0 < a) × (0 < b) × Sums (book kinds.old insides.old numbers.old) i a j b p left × Growing (book kinds.old insides.old numbers.old) p n }
+    ensures kept { Kept (book kinds.old insides.old numbers.old) (book kinds.new insides.new numbers.new) p (p + sum_entries) }
+    ensures of_three { OfThree (book kinds.old insides.old numbers.old) i a left j b left p n (λ t v s. Agrees result (book kinds.new insides.new numbers.new) p
         (and_then_sum (mul_into t v none) (λ w. div_into (size w) coef w s))) }
 {
     let mut other_kinds = [0u8; FOUR_SUMS];
@@ -289,10 +289,10 @@ fn term_mul(
     n: usize,
     left: usize,
 ) -> Formed
-    requires { Pair (lent kinds insides numbers) x i y j p left × Growing (lent kinds insides numbers) p n }
-    ensures kept { Kept (entering kinds insides numbers) (leaving kinds insides numbers) p (p + sum_entries) }
-    ensures of_three { OfThree (entering kinds insides numbers) i x.inside left j y.inside left p n
-        (λ t v s. Agrees result (leaving kinds insides numbers) p (mul_term x (λ u. mul_into t u none) y v s)) }
+    requires { Pair (book kinds.old insides.old numbers.old) x i y j p left × Growing (book kinds.old insides.old numbers.old) p n }
+    ensures kept { Kept (book kinds.old insides.old numbers.old) (book kinds.new insides.new numbers.new) p (p + sum_entries) }
+    ensures of_three { OfThree (book kinds.old insides.old numbers.old) i x.inside left j y.inside left p n
+        (λ t v s. Agrees result (book kinds.new insides.new numbers.new) p (mul_term x (λ u. mul_into t u none) y v s)) }
 {
     let code = crate::product_code(x.kind, y.kind);
     let c = x.coef.mul(y.coef);
@@ -328,10 +328,10 @@ fn mul_row(
     n: usize,
     left: usize,
 ) -> Formed
-    requires { Row (lent kinds insides numbers) x i j m p left × Growing (lent kinds insides numbers) p n }
-    ensures kept { Kept (entering kinds insides numbers) (leaving kinds insides numbers) p (p + sum_entries) }
-    ensures of_three { OfThree (entering kinds insides numbers) i x.inside (left - 1) j m left p n
-        (λ t v s. Agrees result (leaving kinds insides numbers) p (each_into (mul_term x (λ u. mul_into t u none)) s v)) }
+    requires { Row (book kinds.old insides.old numbers.old) x i j m p left × Growing (book kinds.old insides.old numbers.old) p n }
+    ensures kept { Kept (book kinds.old insides.old numbers.old) (book kinds.new insides.new numbers.new) p (p + sum_entries) }
+    ensures of_three { OfThree (book kinds.old insides.old numbers.old) i x.inside (left - 1) j m left p n
+        (λ t v s. Agrees result (book kinds.new insides.new numbers.new) p (each_into (mul_term x (λ u. mul_into t u none)) s v)) }
 {
     let end = j + m;
     let mut q = j;
@@ -360,9 +360,9 @@ fn expr_mul(
     p: usize,
     left: usize,
 ) -> Formed
-    requires { Sums (lent kinds insides numbers) i n j m p left × Room (lent kinds insides numbers) (p + sum_entries) }
-    ensures kept { Kept (entering kinds insides numbers) (leaving kinds insides numbers) p (p + sum_entries) }
-    ensures of_two { OfTwo (entering kinds insides numbers) i (i + n) j (j + m) left (λ s t. Agrees result (leaving kinds insides numbers) p (mul_into s t none)) }
+    requires { Sums (book kinds.old insides.old numbers.old) i n j m p left × Room (book kinds.old insides.old numbers.old) (p + sum_entries) }
+    ensures kept { Kept (book kinds.old insides.old numbers.old) (book kinds.new insides.new numbers.new) p (p + sum_entries) }
+    ensures of_two { OfTwo (book kinds.old insides.old numbers.old) i (i + n) j (j + m) left (λ s t. Agrees result (book kinds.new insides.new numbers.new) p (mul_into s t none)) }
 {
     let end = i + n;
     let mut q = i;
@@ -389,10 +389,10 @@ fn power_row(
     p: usize,
     n: usize,
 ) -> Formed
-    requires { PowerOperand (lent kinds insides numbers) j m p × PowersGrow (lent kinds insides numbers) p n }
-    ensures kept { Kept (entering kinds insides numbers) (leaving kinds insides numbers) p (p + sum_entries) × FormedPowers result (leaving kinds insides numbers) p }
-    ensures of_two { OfTwo (entering kinds insides numbers) p (p + n) j (j + m) sum_levels
-        (λ s v. Agrees result (leaving kinds insides numbers) p (each_into (power_into x) s v)) }
+    requires { PowerOperand (book kinds.old insides.old numbers.old) j m p × PowersGrow (book kinds.old insides.old numbers.old) p n }
+    ensures kept { Kept (book kinds.old insides.old numbers.old) (book kinds.new insides.new numbers.new) p (p + sum_entries) × FormedPowers result (book kinds.new insides.new numbers.new) p }
+    ensures of_two { OfTwo (book kinds.old insides.old numbers.old) p (p + n) j (j + m) sum_levels
+        (λ s v. Agrees result (book kinds.new insides.new numbers.new) p (each_into (power_into x) s v)) }
 {
     let end = j + m;
     let mut q = j;
@@ -421,9 +421,9 @@ fn mul_powers(
     m: usize,
     p: usize,
 ) -> Formed
-    requires { PowerOperand (lent kinds insides numbers) i n p × PowerOperand (lent kinds insides numbers) j m p × Room (lent kinds insides numbers) (p + sum_entries) }
-    ensures kept { Kept (entering kinds insides numbers) (leaving kinds insides numbers) p (p + sum_entries) }
-    ensures of_two { OfTwo (entering kinds insides numbers) i (i + n) j (j + m) sum_levels (λ s t. Agrees result (leaving kinds insides numbers) p (product s t)) }
+    requires { PowerOperand (book kinds.old insides.old numbers.old) i n p × PowerOperand (book kinds.old insides.old numbers.old) j m p × Room (book kinds.old insides.old numbers.old) (p + sum_entries) }
+    ensures kept { Kept (book kinds.old insides.old numbers.old) (book kinds.new insides.new numbers.new) p (p + sum_entries) }
+    ensures of_two { OfTwo (book kinds.old insides.old numbers.old) i (i + n) j (j + m) sum_levels (λ s t. Agrees result (book kinds.new insides.new numbers.new) p (product s t)) }
 {
     let end = i + n;
     let mut q = i;
@@ -450,9 +450,9 @@ fn mul_some(
     m: usize,
     p: usize,
 ) -> Formed
-    requires { Operand (lent kinds insides numbers) i n p × Operand (lent kinds insides numbers) j m p × Room (lent kinds insides numbers) (p + sum_entries) }
-    ensures kept { Kept (entering kinds insides numbers) (leaving kinds insides numbers) p (p + sum_entries) }
-    ensures of_two { OfTwo (entering kinds insides numbers) i (i + n) j (j + m) sum_levels (λ s t. Agrees result (leaving kinds insides numbers) p (product s t)) }
+    requires { Operand (book kinds.old insides.old numbers.old) i n p × Operand (book kinds.old insides.old numbers.old) j m p × Room (book kinds.old insides.old numbers.old) (p + sum_entries) }
+    ensures kept { Kept (book kinds.old insides.old numbers.old) (book kinds.new insides.new numbers.new) p (p + sum_entries) }
+    ensures of_two { OfTwo (book kinds.old insides.old numbers.old) i (i + n) j (j + m) sum_levels (λ s t. Agrees result (book kinds.new insides.new numbers.new) p (product s t)) }
 {
     if sums::order::all_powers(kinds, i, n) & sums::order::all_powers(kinds, j, m) {
         return mul_powers(kinds, insides, numbers, i, n, j, m, p);
@@ -472,9 +472,9 @@ fn mul_one(
     j: usize,
     p: usize,
 ) -> Formed
-    requires { Operand (lent kinds insides numbers) i 1 p × Operand (lent kinds insides numbers) j 1 p × Room (lent kinds insides numbers) (p + sum_entries) }
-    ensures kept { Kept (entering kinds insides numbers) (leaving kinds insides numbers) p (p + sum_entries) }
-    ensures of_two { OfTwo (entering kinds insides numbers) i (i + 1) j (j + 1) sum_levels (λ s t. Agrees result (leaving kinds insides numbers) p (product s t)) }
+    requires { Operand (book kinds.old insides.old numbers.old) i 1 p × Operand (book kinds.old insides.old numbers.old) j 1 p × Room (book kinds.old insides.old numbers.old) (p + sum_entries) }
+    ensures kept { Kept (book kinds.old insides.old numbers.old) (book kinds.new insides.new numbers.new) p (p + sum_entries) }
+    ensures of_two { OfTwo (book kinds.old insides.old numbers.old) i (i + 1) j (j + 1) sum_levels (λ s t. Agrees result (book kinds.new insides.new numbers.new) p (product s t)) }
 {
     let x = cells::load(kinds, insides, numbers, i);
     let y = cells::load(kinds, insides, numbers, j);
@@ -498,9 +498,9 @@ pub fn mul(
     m: usize,
     p: usize,
 ) -> Formed
-    requires { Operand (lent kinds insides numbers) i n p × Operand (lent kinds insides numbers) j m p × Room (lent kinds insides numbers) (p + sum_entries) }
-    ensures kept { Kept (entering kinds insides numbers) (leaving kinds insides numbers) p (p + sum_entries) }
-    ensures of_two { OfTwo (entering kinds insides numbers) i (i + n) j (j + m) sum_levels (λ s t. Agrees result (leaving kinds insides numbers) p (product s t)) }
+    requires { Operand (book kinds.old insides.old numbers.old) i n p × Operand (book kinds.old insides.old numbers.old) j m p × Room (book kinds.old insides.old numbers.old) (p + sum_entries) }
+    ensures kept { Kept (book kinds.old insides.old numbers.old) (book kinds.new insides.new numbers.new) p (p + sum_entries) }
+    ensures of_two { OfTwo (book kinds.old insides.old numbers.old) i (i + n) j (j + m) sum_levels (λ s t. Agrees result (book kinds.new insides.new numbers.new) p (product s t)) }
 {
     if (n == 1) & (m == 1) {
         return mul_one(kinds, insides, numbers, i, j, p);

@@ -1,7 +1,7 @@
 // The derivative of a sum, one outermost entry a step.
 ghost use Rattle.std.specs.Prelude.{◌≡◌, ◌+◌, ◌≤◌};
 ghost use Rattle.limits.specs.Limits.{sum_entries, sum_levels};
-ghost use Rattle.cells.specs.Contract.Book.{lent, entering, leaving, Room};
+ghost use Rattle.cells.specs.Contract.Book.{book, Room};
 ghost use Rattle.cells.specs.Contract.Moves.{Kept};
 ghost use Rattle.sums.specs.Tree.Kinds.{Log};
 ghost use Rattle.sums.specs.Tree.Sums.{none};
@@ -34,8 +34,8 @@ fn prime_step(acc: Complex, p: f64, c: Complex) -> Constant
 
 // The constant that the derivative of the sum of n cells from i on is, if it is one.
 fn prime_of(kinds: &[u8], insides: &[u8], numbers: &[[u64; 3]], i: usize, n: usize) -> Constant
-    requires { Held (lent kinds insides numbers) i (i + n) sum_levels }
-    ensures { OfOne (entering kinds insides numbers) i (i + n) sum_levels (λ s. result ≡ constant_of (prime s)) }
+    requires { Held (book kinds.now insides.now numbers.now) i (i + n) sum_levels }
+    ensures { OfOne (book kinds.now insides.now numbers.now) i (i + n) sum_levels (λ s. result ≡ constant_of (prime s)) }
 {
     let end = i + n;
     let mut q = i;
@@ -63,9 +63,9 @@ fn derive_x(
     w: usize,
     len: usize,
 ) -> Formed
-    requires { Growing (lent kinds insides numbers) w len }
-    ensures kept { Kept (entering kinds insides numbers) (leaving kinds insides numbers) w (w + sum_entries) }
-    ensures of_one { OfOne (entering kinds insides numbers) w (w + len) sum_levels (λ s. Agrees result (leaving kinds insides numbers) w (derive_x x s)) }
+    requires { Growing (book kinds.old insides.old numbers.old) w len }
+    ensures kept { Kept (book kinds.old insides.old numbers.old) (book kinds.new insides.new numbers.new) w (w + sum_entries) }
+    ensures of_one { OfOne (book kinds.old insides.old numbers.old) w (w + len) sum_levels (λ s. Agrees result (book kinds.new insides.new numbers.new) w (derive_x x s)) }
 {
     if crate::vanishes(x.num, x.coef) {
         return Formed::Done(len);
@@ -84,8 +84,8 @@ fn derive_wave(
     w: usize,
     len: usize,
 ) -> Formed
-    requires { Ready (lent kinds insides numbers) x i w len × (1 ≤ x.inside) }
-    ensures { Into (entering kinds insides numbers) (leaving kinds insides numbers) x i w len sum_entries result derive_wave }
+    requires { Ready (book kinds.old insides.old numbers.old) x i w len × (1 ≤ x.inside) }
+    ensures { Into (book kinds.old insides.old numbers.old) (book kinds.new insides.new numbers.new) x i w len sum_entries result derive_wave }
 {
     let Constant::Is(d) = prime_of(kinds, insides, numbers, i, x.inside as usize) else {
         return Formed::Refused(Refusal::TooComplex);
@@ -111,8 +111,8 @@ fn derive_exp(
     w: usize,
     len: usize,
 ) -> Formed
-    requires { Ready (lent kinds insides numbers) x i w len × (1 ≤ x.inside) }
-    ensures { Into (entering kinds insides numbers) (leaving kinds insides numbers) x i w len sum_entries result derive_exp }
+    requires { Ready (book kinds.old insides.old numbers.old) x i w len × (1 ≤ x.inside) }
+    ensures { Into (book kinds.old insides.old numbers.old) (book kinds.new insides.new numbers.new) x i w len sum_entries result derive_exp }
 {
     if !arithmetic::add::is_x(kinds, insides, numbers, i, x.inside as usize) {
         return Formed::Refused(Refusal::TooComplex);
@@ -137,8 +137,8 @@ fn derive_log(
     w: usize,
     len: usize,
 ) -> Formed
-    requires { Ready (lent kinds insides numbers) x i w len × (1 ≤ x.inside) }
-    ensures { Into (entering kinds insides numbers) (leaving kinds insides numbers) x i w len sum_entries result derive_log }
+    requires { Ready (book kinds.old insides.old numbers.old) x i w len × (1 ≤ x.inside) }
+    ensures { Into (book kinds.old insides.old numbers.old) (book kinds.new insides.new numbers.new) x i w len sum_entries result derive_log }
 {
     let Constant::Is(d) = prime_of(kinds, insides, numbers, i, x.inside as usize) else {
         return Formed::Refused(Refusal::TooComplex);
@@ -165,8 +165,8 @@ fn derive_div(
     w: usize,
     len: usize,
 ) -> Formed
-    requires { Ready (lent kinds insides numbers) x i w len × (1 ≤ x.inside) }
-    ensures { Into (entering kinds insides numbers) (leaving kinds insides numbers) x i w len (sum_entries + sum_entries) result derive_div }
+    requires { Ready (book kinds.old insides.old numbers.old) x i w len × (1 ≤ x.inside) }
+    ensures { Into (book kinds.old insides.old numbers.old) (book kinds.new insides.new numbers.new) x i w len (sum_entries + sum_entries) result derive_div }
 {
     let n = x.inside as usize;
     let c = x.coef;
@@ -195,8 +195,8 @@ fn derive_function(
     w: usize,
     len: usize,
 ) -> Formed
-    requires { Ready (lent kinds insides numbers) x i w len × (Log ≤ x.kind) }
-    ensures { Into (entering kinds insides numbers) (leaving kinds insides numbers) x i w len sum_entries result derive_into }
+    requires { Ready (book kinds.old insides.old numbers.old) x i w len × (Log ≤ x.kind) }
+    ensures { Into (book kinds.old insides.old numbers.old) (book kinds.new insides.new numbers.new) x i w len sum_entries result derive_into }
 {
     if x.kind == sums::tree::LOG {
         return derive_log(kinds, insides, numbers, x, i, w, len);
@@ -217,8 +217,8 @@ fn derive_entry(
     w: usize,
     len: usize,
 ) -> Formed
-    requires { Ready (lent kinds insides numbers) x i w len }
-    ensures { Into (entering kinds insides numbers) (leaving kinds insides numbers) x i w len (sum_entries + sum_entries) result derive_into }
+    requires { Ready (book kinds.old insides.old numbers.old) x i w len }
+    ensures { Into (book kinds.old insides.old numbers.old) (book kinds.new insides.new numbers.new) x i w len (sum_entries + sum_entries) result derive_into }
 {
     if x.kind == sums::tree::X {
         return derive_x(kinds, insides, numbers, x, w, len);
@@ -238,9 +238,9 @@ fn derive_each(
     m: usize,
     w: usize,
 ) -> Formed
-    requires { Source (lent kinds insides numbers) j m w × Room (lent kinds insides numbers) (w + (sum_entries + sum_entries)) }
-    ensures kept { Kept (entering kinds insides numbers) (leaving kinds insides numbers) w (w + (sum_entries + sum_entries)) }
-    ensures of_one { OfOne (entering kinds insides numbers) j (j + m) sum_levels (λ t. Agrees result (leaving kinds insides numbers) w (each_into derive_into none t)) }
+    requires { Source (book kinds.old insides.old numbers.old) j m w × Room (book kinds.old insides.old numbers.old) (w + (sum_entries + sum_entries)) }
+    ensures kept { Kept (book kinds.old insides.old numbers.old) (book kinds.new insides.new numbers.new) w (w + (sum_entries + sum_entries)) }
+    ensures of_one { OfOne (book kinds.old insides.old numbers.old) j (j + m) sum_levels (λ t. Agrees result (book kinds.new insides.new numbers.new) w (each_into derive_into none t)) }
 {
     let end = j + m;
     let mut q = j;
@@ -265,9 +265,9 @@ pub fn expr_deriv(
     m: usize,
     w: usize,
 ) -> Formed
-    requires { Source (lent kinds insides numbers) j m w × Room (lent kinds insides numbers) (w + (sum_entries + sum_entries)) }
-    ensures kept { Kept (entering kinds insides numbers) (leaving kinds insides numbers) w (w + (sum_entries + sum_entries)) }
-    ensures of_one { OfOne (entering kinds insides numbers) j (j + m) sum_levels (λ t. Agrees result (leaving kinds insides numbers) w (derive t)) }
+    requires { Source (book kinds.old insides.old numbers.old) j m w × Room (book kinds.old insides.old numbers.old) (w + (sum_entries + sum_entries)) }
+    ensures kept { Kept (book kinds.old insides.old numbers.old) (book kinds.new insides.new numbers.new) w (w + (sum_entries + sum_entries)) }
+    ensures of_one { OfOne (book kinds.old insides.old numbers.old) j (j + m) sum_levels (λ t. Agrees result (book kinds.new insides.new numbers.new) w (derive t)) }
 {
     match derive_each(kinds, insides, numbers, j, m, w) {
         Formed::Done(n) => {

@@ -1,7 +1,7 @@
 // The integral of a sum, one outermost entry a step. It stores and does not add: at equal keys the later number stays.
 ghost use Rattle.std.specs.Prelude.{◌≡◌, ◌+◌, ◌≤◌};
 ghost use Rattle.limits.specs.Limits.{sum_entries, sum_levels};
-ghost use Rattle.cells.specs.Contract.Book.{lent, entering, leaving, Room};
+ghost use Rattle.cells.specs.Contract.Book.{book, Room};
 ghost use Rattle.cells.specs.Contract.Moves.{Kept};
 ghost use Rattle.sums.specs.Tree.Kinds.{Sin};
 ghost use Rattle.calculus.specs.Integral.{integrate_x, integrate_into, integrate};
@@ -24,9 +24,9 @@ fn integrate_x(
     w: usize,
     len: usize,
 ) -> Formed
-    requires { Growing (lent kinds insides numbers) w len × XBehind (lent kinds insides numbers) w }
-    ensures kept { Kept (entering kinds insides numbers) (leaving kinds insides numbers) w (w + sum_entries) }
-    ensures of_one { OfOne (entering kinds insides numbers) w (w + len) sum_levels (λ s. Agrees result (leaving kinds insides numbers) w (integrate_x x s)) }
+    requires { Growing (book kinds.old insides.old numbers.old) w len × XBehind (book kinds.old insides.old numbers.old) w }
+    ensures kept { Kept (book kinds.old insides.old numbers.old) (book kinds.new insides.new numbers.new) w (w + sum_entries) }
+    ensures of_one { OfOne (book kinds.old insides.old numbers.old) w (w + len) sum_levels (λ s. Agrees result (book kinds.new insides.new numbers.new) w (integrate_x x s)) }
 {
     let p = x.num + 1.0;
     let c = x.coef;
@@ -64,8 +64,8 @@ fn integrate_wave(
     w: usize,
     len: usize,
 ) -> Formed
-    requires { Ready (lent kinds insides numbers) x i w len × XBehind (lent kinds insides numbers) w × (Sin ≤ x.kind) }
-    ensures { Into (entering kinds insides numbers) (leaving kinds insides numbers) x i w len sum_entries result integrate_into }
+    requires { Ready (book kinds.old insides.old numbers.old) x i w len × XBehind (book kinds.old insides.old numbers.old) w × (Sin ≤ x.kind) }
+    ensures { Into (book kinds.old insides.old numbers.old) (book kinds.new insides.new numbers.new) x i w len sum_entries result integrate_into }
 {
     if !arithmetic::add::is_x(kinds, insides, numbers, i, x.inside as usize) {
         return Formed::Refused(Refusal::TooComplex);
@@ -92,8 +92,8 @@ fn integrate_entry(
     w: usize,
     len: usize,
 ) -> Formed
-    requires { Ready (lent kinds insides numbers) x i w len × XBehind (lent kinds insides numbers) w }
-    ensures { Into (entering kinds insides numbers) (leaving kinds insides numbers) x i w len sum_entries result integrate_into }
+    requires { Ready (book kinds.old insides.old numbers.old) x i w len × XBehind (book kinds.old insides.old numbers.old) w }
+    ensures { Into (book kinds.old insides.old numbers.old) (book kinds.new insides.new numbers.new) x i w len sum_entries result integrate_into }
 {
     if x.kind == sums::tree::X {
         return integrate_x(kinds, insides, numbers, x, w, len);
@@ -113,9 +113,9 @@ fn integrate_each(
     m: usize,
     w: usize,
 ) -> Formed
-    requires { Source (lent kinds insides numbers) j m w × Room (lent kinds insides numbers) (w + (sum_entries + sum_entries)) × XBehind (lent kinds insides numbers) w }
-    ensures kept { Kept (entering kinds insides numbers) (leaving kinds insides numbers) w (w + sum_entries) }
-    ensures of_one { OfOne (entering kinds insides numbers) j (j + m) sum_levels (λ t. Agrees result (leaving kinds insides numbers) w (integrate t)) }
+    requires { Source (book kinds.old insides.old numbers.old) j m w × Room (book kinds.old insides.old numbers.old) (w + (sum_entries + sum_entries)) × XBehind (book kinds.old insides.old numbers.old) w }
+    ensures kept { Kept (book kinds.old insides.old numbers.old) (book kinds.new insides.new numbers.new) w (w + sum_entries) }
+    ensures of_one { OfOne (book kinds.old insides.old numbers.old) j (j + m) sum_levels (λ t. Agrees result (book kinds.new insides.new numbers.new) w (integrate t)) }
 {
     let end = j + m;
     let mut q = j;
@@ -140,9 +140,9 @@ pub fn expr_integral(
     m: usize,
     w: usize,
 ) -> Formed
-    requires { Source (lent kinds insides numbers) j m w × Room (lent kinds insides numbers) (w + (sum_entries + sum_entries)) }
-    ensures kept { Kept (entering kinds insides numbers) (leaving kinds insides numbers) w (w + (sum_entries + sum_entries)) }
-    ensures of_one { OfOne (entering kinds insides numbers) j (j + m) sum_levels (λ t. Agrees result (leaving kinds insides numbers) w (integrate t)) }
+    requires { Source (book kinds.old insides.old numbers.old) j m w × Room (book kinds.old insides.old numbers.old) (w + (sum_entries + sum_entries)) }
+    ensures kept { Kept (book kinds.old insides.old numbers.old) (book kinds.new insides.new numbers.new) w (w + (sum_entries + sum_entries)) }
+    ensures of_one { OfOne (book kinds.old insides.old numbers.old) j (j + m) sum_levels (λ t. Agrees result (book kinds.new insides.new numbers.new) w (integrate t)) }
 {
     let x = Entry {
         kind: sums::tree::X,

@@ -3,7 +3,7 @@
 #![tactic(auto)]
 
 ghost use Rattle.std.specs.Prelude.{◌+◌, ◌≤◌, ◌≡◌};
-ghost use Rattle.cells.specs.Contract.Book.{lent, entering, leaving, at, Room, Plain};
+ghost use Rattle.cells.specs.Contract.Book.{book, at, Room, Plain};
 ghost use Rattle.cells.specs.Contract.Moves.{Apart, Put, Moved, Copied, Inserted};
 
 use numbers::complex::Complex;
@@ -18,8 +18,8 @@ pub struct Entry {
 }
 
 pub fn load(kinds: &[u8], insides: &[u8], numbers: &[[u64; 3]], i: usize) -> Entry
-    requires { Room (lent kinds insides numbers) (i + 1) × Plain (at (lent kinds insides numbers) i) }
-    ensures { result ≡ at (entering kinds insides numbers) i }
+    requires { Room (book kinds.now insides.now numbers.now) (i + 1) × Plain (at (book kinds.now insides.now numbers.now) i) }
+    ensures { result ≡ at (book kinds.now insides.now numbers.now) i }
 {
     let words = numbers[i];
     let re = f64::from_bits(words[1]);
@@ -33,8 +33,8 @@ pub fn load(kinds: &[u8], insides: &[u8], numbers: &[[u64; 3]], i: usize) -> Ent
 }
 
 pub fn store(kinds: &mut [u8], insides: &mut [u8], numbers: &mut [[u64; 3]], k: usize, x: Entry)
-    requires { Room (lent kinds insides numbers) (k + 1) × Plain x }
-    ensures { Put (entering kinds insides numbers) (leaving kinds insides numbers) k x }
+    requires { Room (book kinds.old insides.old numbers.old) (k + 1) × Plain x }
+    ensures { Put (book kinds.old insides.old numbers.old) (book kinds.new insides.new numbers.new) k x }
 {
     let c = x.coef;
     let num = f64::to_bits(x.num);
@@ -54,8 +54,8 @@ pub fn open_gap(
     e: usize,
     d: usize,
 )
-    requires { (k ≤ e) × Room (lent kinds insides numbers) (e + d) }
-    ensures { Moved (entering kinds insides numbers) (leaving kinds insides numbers) k e d }
+    requires { (k ≤ e) × Room (book kinds.old insides.old numbers.old) (e + d) }
+    ensures { Moved (book kinds.old insides.old numbers.old) (book kinds.new insides.new numbers.new) k e d }
 {
     let mut j = e;
     while k < j {
@@ -78,8 +78,8 @@ pub fn copy_in(
     numbers: &mut [[u64; 3]],
     k: usize,
 )
-    requires { Room (lent from_kinds from_insides from_numbers) (i + n) × Room (lent kinds insides numbers) (k + n) }
-    ensures { Copied (entering from_kinds from_insides from_numbers) (entering kinds insides numbers) (leaving kinds insides numbers) i n k }
+    requires { Room (book from_kinds.now from_insides.now from_numbers.now) (i + n) × Room (book kinds.old insides.old numbers.old) (k + n) }
+    ensures { Copied (book from_kinds.now from_insides.now from_numbers.now) (book kinds.old insides.old numbers.old) (book kinds.new insides.new numbers.new) i n k }
 {
     let mut j = 0usize;
     while j < n {
@@ -99,8 +99,8 @@ pub fn copy_within(
     n: usize,
     k: usize,
 )
-    requires { Room (lent kinds insides numbers) (i + n) × Room (lent kinds insides numbers) (k + n) × Apart i n k k }
-    ensures { Copied (entering kinds insides numbers) (entering kinds insides numbers) (leaving kinds insides numbers) i n k }
+    requires { Room (book kinds.old insides.old numbers.old) (i + n) × Room (book kinds.old insides.old numbers.old) (k + n) × Apart i n k k }
+    ensures { Copied (book kinds.old insides.old numbers.old) (book kinds.old insides.old numbers.old) (book kinds.new insides.new numbers.new) i n k }
 {
     let mut j = 0usize;
     while j < n {
@@ -121,9 +121,9 @@ pub fn insert(
     k: usize,
     e: usize,
 )
-    requires plain { Plain x × Room (lent kinds insides numbers) (i + x.inside) × Apart i x.inside k (e + (1 + x.inside)) }
-    requires k_le_e { (k ≤ e) × Room (lent kinds insides numbers) (e + (1 + x.inside)) }
-    ensures { Inserted (entering kinds insides numbers) (entering kinds insides numbers) (leaving kinds insides numbers) i k e x }
+    requires plain { Plain x × Room (book kinds.old insides.old numbers.old) (i + x.inside) × Apart i x.inside k (e + (1 + x.inside)) }
+    requires k_le_e { (k ≤ e) × Room (book kinds.old insides.old numbers.old) (e + (1 + x.inside)) }
+    ensures { Inserted (book kinds.old insides.old numbers.old) (book kinds.old insides.old numbers.old) (book kinds.new insides.new numbers.new) i k e x }
 {
     let n = x.inside as usize;
     open_gap(kinds, insides, numbers, k, e, 1 + n);

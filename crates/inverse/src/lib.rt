@@ -2,7 +2,7 @@
 #![tactic(auto)]
 
 ghost use Rattle.std.specs.Prelude.{◌+◌, ◌*◌, ◌≤◌, length, Bool, [], ◌∷◌, ◌≡◌};
-ghost use Rattle.cells.specs.Contract.Book.{lent, entering};
+ghost use Rattle.cells.specs.Contract.Book.{book};
 ghost use Rattle.formats.specs.Tree.{end};
 ghost use Rattle.inverse.specs.Contract.Steps.{inverse_records, next_other, others_of, by_others, ReadyTo, Spelt, Told};
 ghost use Rattle.inverse.specs.Inverse.{num, act, spell, coef_of, low, others, less_constant, over_factor, unpower, is_int, of_power, simple_quadratic, root, larger};
@@ -42,8 +42,8 @@ fn coef_of(
     m: usize,
     q: f64,
 ) -> Complex
-    requires { Held (lent kinds insides numbers) j (j + m) sum_levels }
-    ensures { OfOne (entering kinds insides numbers) j (j + m) sum_levels (λ s. result ≡ coef_of q s) }
+    requires { Held (book kinds.now insides.now numbers.now) j (j + m) sum_levels }
+    ensures { OfOne (book kinds.now insides.now numbers.now) j (j + m) sum_levels (λ s. result ≡ coef_of q s) }
 {
     let end = j + m;
     let mut i = j;
@@ -86,8 +86,8 @@ fn next_other(found: Others, x: Entry) -> Others
 
 // What the sum of m cells from j on has besides x to the 0, 1 and 2.
 fn others_of(kinds: &[u8], insides: &[u8], numbers: &[[u64; 3]], j: usize, m: usize) -> Others
-    requires { Held (lent kinds insides numbers) j (j + m) sum_levels }
-    ensures { OfOne (entering kinds insides numbers) j (j + m) sum_levels (λ s. result ≡ others_of (others s)) }
+    requires { Held (book kinds.now insides.now numbers.now) j (j + m) sum_levels }
+    ensures { OfOne (book kinds.now insides.now numbers.now) j (j + m) sum_levels (λ s. result ≡ others_of (others s)) }
 {
     let end = j + m;
     let mut i = j;
@@ -318,8 +318,8 @@ pub fn algebraic_inverse(
     complex: bool,
     out: &mut [u8],
 ) -> Wrote
-    requires { Held (lent kinds insides numbers) j (j + m) sum_levels }
-    ensures { OfOne (entering kinds insides numbers) j (j + m) sum_levels (λ s. Answered out.old out.new result (inverse complex s)) }
+    requires { Held (book kinds.now insides.now numbers.now) j (j + m) sum_levels }
+    ensures { OfOne (book kinds.now insides.now numbers.now) j (j + m) sum_levels (λ s. Answered out.old out.new result (inverse complex s)) }
 {
     let a = coef_of(kinds, insides, numbers, j, m, 2.0);
     let q = coef_of(kinds, insides, numbers, j, m, 1.0);

@@ -3,7 +3,7 @@ ghost use Rattle.std.specs.Prelude.{◌≡◌, ◌-◌};
 ghost use Rattle.formats.specs.Names.{modifier_of};
 ghost use Rattle.modifiers.specs.Holding.{holding};
 ghost use Rattle.modifiers.specs.Contract.Plans.{held_by, lent_by, begin};
-ghost use Rattle.stack.specs.Contract.Arena.{arena, arena_in, arena_out, places};
+ghost use Rattle.stack.specs.Contract.Arena.{arena, places};
 ghost use Rattle.stack.specs.Contract.Agree.{Ready};
 ghost use Rattle.modifiers.specs.Contract.Begins.{Begins};
 ghost use Rattle.modifiers.specs.Contract.Manners.{manner_of};
@@ -79,8 +79,8 @@ fn hold_for(
     v: usize,
     env: AlgebraEnv,
 ) -> Begun
-    requires { Ready (arena kinds insides numbers sizes) v env }
-    ensures { Begins (arena_in kinds insides numbers sizes) (arena_out kinds insides numbers sizes) v env result (λ st f. holding at (held_by m n) (lent_by m) (places - v) st f) }
+    requires { Ready (arena kinds.old insides.old numbers.old sizes.old) v env }
+    ensures { Begins (arena kinds.old insides.old numbers.old sizes.old) (arena kinds.new insides.new numbers.new sizes.new) v env result (λ st f. holding at (held_by m n) (lent_by m) (places - v) st f) }
 {
     let k = held_by(m, n);
     let c = lent_by(m);
@@ -99,8 +99,8 @@ pub fn begin(
     v: usize,
     env: AlgebraEnv,
 ) -> Begun
-    requires { Ready (arena kinds insides numbers sizes) v env }
-    ensures { Begins (arena_in kinds insides numbers sizes) (arena_out kinds insides numbers sizes) v env result (λ st f. begin (modifier_of code) n at (places - v) st f) }
+    requires { Ready (arena kinds.old insides.old numbers.old sizes.old) v env }
+    ensures { Begins (arena kinds.old insides.old numbers.old sizes.old) (arena kinds.new insides.new numbers.new sizes.new) v env result (λ st f. begin (modifier_of code) n at (places - v) st f) }
 {
     let m = formats::record::modifier_of(code);
     match begins_by(m) {

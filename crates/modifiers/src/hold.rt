@@ -2,7 +2,7 @@
 ghost use Rattle.std.specs.Prelude.{◌≡◌, ◌+◌, ◌-◌, ◌≤◌, leb};
 ghost use Rattle.limits.specs.Limits.{handled_needed};
 ghost use Rattle.limits.specs.declared.Refusal.TheVariants.{TooManyVariables};
-ghost use Rattle.stack.specs.Contract.Arena.{arena, arena_in, arena_out, places};
+ghost use Rattle.stack.specs.Contract.Arena.{arena, places};
 ghost use Rattle.stack.specs.State.{taking};
 ghost use Rattle.stack.specs.Contract.Agree.{Ready};
 ghost use Rattle.modifiers.specs.Holding.{dropping, copying};
@@ -48,8 +48,8 @@ pub fn hold(
     v: usize,
     env: AlgebraEnv,
 ) -> Begun
-    requires { Ready (arena kinds insides numbers sizes) v env }
-    ensures { Begins (arena_in kinds insides numbers sizes) (arena_out kinds insides numbers sizes) v env result (λ st f. taking at k st f) }
+    requires { Ready (arena kinds.old insides.old numbers.old sizes.old) v env }
+    ensures { Begins (arena kinds.old insides.old numbers.old sizes.old) (arena kinds.new insides.new numbers.new sizes.new) v env result (λ st f. taking at k st f) }
 {
     let used = env.used;
     let d = stack::slots::measure(sizes, WORKING, used, k);
@@ -78,8 +78,8 @@ pub fn drop_top(
     v: usize,
     env: AlgebraEnv,
 ) -> Begun
-    requires { Ready (arena kinds insides numbers sizes) v env }
-    ensures { Begins (arena_in kinds insides numbers sizes) (arena_in kinds insides numbers sizes) v env result (λ st f. dropping at st f) }
+    requires { Ready (arena kinds.now insides.now numbers.now sizes.now) v env }
+    ensures { Begins (arena kinds.now insides.now numbers.now sizes.now) (arena kinds.now insides.now numbers.now sizes.now) v env result (λ st f. dropping at st f) }
 {
     let used = env.used;
     let d = stack::slots::measure(sizes, WORKING, used, 1);
@@ -109,8 +109,8 @@ fn copy_below(
     v: usize,
     env: AlgebraEnv,
 ) -> Begun
-    requires { Ready (arena kinds insides numbers sizes) v env × (w + d ≤ env.used) }
-    ensures { CopiesBelow (arena_in kinds insides numbers sizes) (arena_out kinds insides numbers sizes) w d at v env result }
+    requires { Ready (arena kinds.old insides.old numbers.old sizes.old) v env × (w + d ≤ env.used) }
+    ensures { CopiesBelow (arena kinds.old insides.old numbers.old sizes.old) (arena kinds.new insides.new numbers.new sizes.new) w d at v env result }
 {
     let used = env.used;
     if v < used + d {
@@ -140,8 +140,8 @@ pub fn copy_under(
     v: usize,
     env: AlgebraEnv,
 ) -> Begun
-    requires { Ready (arena kinds insides numbers sizes) v env }
-    ensures { Begins (arena_in kinds insides numbers sizes) (arena_out kinds insides numbers sizes) v env result (λ st f. copying at k (places - v) st f) }
+    requires { Ready (arena kinds.old insides.old numbers.old sizes.old) v env }
+    ensures { Begins (arena kinds.old insides.old numbers.old sizes.old) (arena kinds.new insides.new numbers.new sizes.new) v env result (λ st f. copying at k (places - v) st f) }
 {
     let used = env.used;
     let d = stack::slots::measure(sizes, WORKING, used, k);

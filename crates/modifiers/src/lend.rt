@@ -1,7 +1,7 @@
 // What is held is lent, as copies on the stack, and put back. The stack lies in the arena behind the working places; from v on lies what is held.
 ghost use Rattle.std.specs.Prelude.{◌≡◌, List, ◌+◌, ◌-◌, length};
 ghost use Rattle.sums.specs.Tree.Sums.{Sum};
-ghost use Rattle.stack.specs.Contract.Arena.{arena, arena_in, arena_out, Space, places};
+ghost use Rattle.stack.specs.Contract.Arena.{arena, Space, places};
 ghost use Rattle.stack.specs.Contract.Stacked.{Stacked};
 ghost use Rattle.stack.specs.State.{lend};
 ghost use Rattle.stack.specs.Contract.Agree.{Ready, Does};
@@ -26,10 +26,10 @@ pub fn lend_deepest(
     v: usize,
     env: AlgebraEnv,
 ) -> Ran
-    requires { Ready (arena kinds insides numbers sizes) v env × Space (arena kinds insides numbers sizes) (v + m)
-        × ((ss : List Sum) × Stacked (arena kinds insides numbers sizes) v (v + m) ss × (length ss ≡ k)) }
-    ensures { (ss : List Sum) → Stacked (arena_in kinds insides numbers sizes) v (v + m) ss → length ss ≡ k → Does (arena_in kinds insides numbers sizes)
-        (arena_out kinds insides numbers sizes) v env result (λ st. lend at (places - v) (deepest c ss) st) }
+    requires { Ready (arena kinds.old insides.old numbers.old sizes.old) v env × Space (arena kinds.old insides.old numbers.old sizes.old) (v + m)
+        × ((ss : List Sum) × Stacked (arena kinds.old insides.old numbers.old sizes.old) v (v + m) ss × (length ss ≡ k)) }
+    ensures { (ss : List Sum) → Stacked (arena kinds.old insides.old numbers.old sizes.old) v (v + m) ss → length ss ≡ k → Does (arena kinds.old insides.old numbers.old sizes.old)
+        (arena kinds.new insides.new numbers.new sizes.new) v env result (λ st. lend at (places - v) (deepest c ss) st) }
 {
     let used = env.used;
     let d = stack::slots::measure(sizes, v, v + m, crate::hold::less(k, c));
@@ -61,8 +61,8 @@ pub fn hold_and_lend(
     v: usize,
     env: AlgebraEnv,
 ) -> Begun
-    requires { Ready (arena kinds insides numbers sizes) v env }
-    ensures { Begins (arena_in kinds insides numbers sizes) (arena_out kinds insides numbers sizes) v env result (λ st f. holding at k c (places - v) st f) }
+    requires { Ready (arena kinds.old insides.old numbers.old sizes.old) v env }
+    ensures { Begins (arena kinds.old insides.old numbers.old sizes.old) (arena kinds.new insides.new numbers.new sizes.new) v env result (λ st f. holding at k c (places - v) st f) }
 {
     let h = crate::hold::hold(k, at, kinds, insides, numbers, sizes, v, env);
     let Begun::Held(e, m) = h else {
@@ -86,8 +86,8 @@ pub fn put_back(
     v: usize,
     env: AlgebraEnv,
 ) -> AlgebraEnv
-    requires { Ready (arena kinds insides numbers sizes) v env × Space (arena kinds insides numbers sizes) (v + m) × ((ss : List Sum) × Stacked (arena kinds insides numbers sizes) v (v + m) ss) }
-    ensures { PutsBack (arena_in kinds insides numbers sizes) (arena_out kinds insides numbers sizes) v m env result }
+    requires { Ready (arena kinds.old insides.old numbers.old sizes.old) v env × Space (arena kinds.old insides.old numbers.old sizes.old) (v + m) × ((ss : List Sum) × Stacked (arena kinds.old insides.old numbers.old sizes.old) v (v + m) ss) }
+    ensures { PutsBack (arena kinds.old insides.old numbers.old sizes.old) (arena kinds.new insides.new numbers.new sizes.new) v m env result }
 {
     let used = env.used;
     stack::slots::sink(kinds, insides, numbers, sizes, v, used, m);

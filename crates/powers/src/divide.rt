@@ -2,7 +2,7 @@
 // places, and no other place is written: operands lie apart from all of these and stay as they are.
 ghost use Rattle.std.specs.Prelude.{◌≡◌, List, ℕ, ◌+◌, ◌≤◌, Float};
 ghost use Rattle.limits.specs.Limits.{sum_entries, sum_levels};
-ghost use Rattle.cells.specs.Contract.Book.{book, lent, entering, leaving, Room};
+ghost use Rattle.cells.specs.Contract.Book.{book, Room};
 ghost use Rattle.cells.specs.Contract.Moves.{Kept};
 ghost use Rattle.sums.specs.Tree.Kinds.{X, CosH};
 ghost use Rattle.sums.specs.Tree.Sums.{Sum, none};
@@ -49,9 +49,9 @@ fn times_x(
     m: usize,
     p: usize,
 ) -> Formed
-    requires { Operand (lent kinds insides numbers) j m p × Room (lent kinds insides numbers) (p + sum_entries) }
-    ensures kept { Kept (entering kinds insides numbers) (leaving kinds insides numbers) p (p + sum_entries) }
-    ensures of_one { OfOne (entering kinds insides numbers) j (j + m) sum_levels (λ t. Agrees result (leaving kinds insides numbers) p (product (x_to power) t)) }
+    requires { Operand (book kinds.old insides.old numbers.old) j m p × Room (book kinds.old insides.old numbers.old) (p + sum_entries) }
+    ensures kept { Kept (book kinds.old insides.old numbers.old) (book kinds.new insides.new numbers.new) p (p + sum_entries) }
+    ensures of_one { OfOne (book kinds.old insides.old numbers.old) j (j + m) sum_levels (λ t. Agrees result (book kinds.new insides.new numbers.new) p (product (x_to power) t)) }
 {
     if !all_x(kinds, insides, j, m) {
         return Formed::Refused(Refusal::TooComplex);
@@ -93,9 +93,9 @@ fn over_div(
     w: usize,
     n: usize,
 ) -> Formed
-    requires { Source (lent kinds insides numbers) j m w × Working (lent kinds insides numbers) w n }
-    ensures kept { Kept (entering kinds insides numbers) (leaving kinds insides numbers) w (w + (sum_entries + sum_entries)) }
-    ensures of_two { OfTwo (entering kinds insides numbers) w (w + n) j (j + m) sum_levels (λ s v. Agrees result (leaving kinds insides numbers) w (over_div x c s v)) }
+    requires { Source (book kinds.old insides.old numbers.old) j m w × Working (book kinds.old insides.old numbers.old) w n }
+    ensures kept { Kept (book kinds.old insides.old numbers.old) (book kinds.new insides.new numbers.new) w (w + (sum_entries + sum_entries)) }
+    ensures of_two { OfTwo (book kinds.old insides.old numbers.old) w (w + n) j (j + m) sum_levels (λ s v. Agrees result (book kinds.new insides.new numbers.new) w (over_div x c s v)) }
 {
     if arithmetic::add::is_one(x) {
         return arithmetic::add::add_each(kinds, insides, numbers, Change::Times(c), j, m, w, n);
@@ -120,9 +120,9 @@ fn over_other(
     w: usize,
     n: usize,
 ) -> Formed
-    requires { By (lent kinds insides numbers) y j w × Working (lent kinds insides numbers) w n }
-    ensures kept { Kept (entering kinds insides numbers) (leaving kinds insides numbers) w (w + (sum_entries + sum_entries)) }
-    ensures of_divisor { OfDivisor (entering kinds insides numbers) w (w + n) y j (λ s v. Agrees result (leaving kinds insides numbers) w (over_other y c s v)) }
+    requires { By (book kinds.old insides.old numbers.old) y j w × Working (book kinds.old insides.old numbers.old) w n }
+    ensures kept { Kept (book kinds.old insides.old numbers.old) (book kinds.new insides.new numbers.new) w (w + (sum_entries + sum_entries)) }
+    ensures of_divisor { OfDivisor (book kinds.old insides.old numbers.old) w (w + n) y j (λ s v. Agrees result (book kinds.new insides.new numbers.new) w (over_other y c s v)) }
 {
     let p = w + SUM_ENTRIES;
     let head = Entry {
@@ -152,8 +152,8 @@ fn can_div_term(
     j: usize,
 ) -> bool
     requires le_kind { (X ≤ x.kind) × (x.kind ≤ CosH) × (X ≤ y.kind) × (y.kind ≤ CosH) }
-    requires held { Held (lent kinds insides numbers) i (i + x.inside) sum_levels × Held (lent kinds insides numbers) j (j + y.inside) sum_levels }
-    ensures { OfTwo (entering kinds insides numbers) i (i + x.inside) j (j + y.inside) sum_levels (λ t v. result ≡ divable x t y v) }
+    requires held { Held (book kinds.now insides.now numbers.now) i (i + x.inside) sum_levels × Held (book kinds.now insides.now numbers.now) j (j + y.inside) sum_levels }
+    ensures { OfTwo (book kinds.now insides.now numbers.now) i (i + x.inside) j (j + y.inside) sum_levels (λ t v. result ≡ divable x t y v) }
 {
     let code = arithmetic::quotient_code(x.kind, y.kind);
     if code == arithmetic::X_BY_X {
@@ -181,8 +181,8 @@ fn can_div(
     y: Entry,
     j: usize,
 ) -> bool
-    requires { Held (lent kinds insides numbers) i (i + n) sum_levels × ((v : Sum) × Divisor (lent kinds insides numbers) y j v) }
-    ensures { OfDivisor (entering kinds insides numbers) i (i + n) y j (λ s v. result ≡ all_divable y v s) }
+    requires { Held (book kinds.now insides.now numbers.now) i (i + n) sum_levels × ((v : Sum) × Divisor (book kinds.now insides.now numbers.now) y j v) }
+    ensures { OfDivisor (book kinds.now insides.now numbers.now) i (i + n) y j (λ s v. result ≡ all_divable y v s) }
 {
     let end = i + n;
     let mut q = i;
@@ -220,9 +220,9 @@ fn div_term(
     w: usize,
     n: usize,
 ) -> Formed
-    requires { (X ≤ x.kind) × (x.kind ≤ CosH) × By (lent kinds insides numbers) y j w × Working (lent kinds insides numbers) w n }
-    ensures kept { Kept (entering kinds insides numbers) (leaving kinds insides numbers) w (w + (sum_entries + sum_entries)) }
-    ensures of_divisor { OfDivisor (entering kinds insides numbers) w (w + n) y j (λ s v. Agrees result (leaving kinds insides numbers) w (div_term y v x s)) }
+    requires { (X ≤ x.kind) × (x.kind ≤ CosH) × By (book kinds.old insides.old numbers.old) y j w × Working (book kinds.old insides.old numbers.old) w n }
+    ensures kept { Kept (book kinds.old insides.old numbers.old) (book kinds.new insides.new numbers.new) w (w + (sum_entries + sum_entries)) }
+    ensures of_divisor { OfDivisor (book kinds.old insides.old numbers.old) w (w + n) y j (λ s v. Agrees result (book kinds.new insides.new numbers.new) w (div_term y v x s)) }
 {
     let code = arithmetic::quotient_code(x.kind, y.kind);
     let c = x.coef.div(y.coef);
@@ -248,9 +248,9 @@ fn div_each(
     j: usize,
     w: usize,
 ) -> Formed
-    requires { Source (lent kinds insides numbers) i n w × By (lent kinds insides numbers) y j w × Room (lent kinds insides numbers) (w + (sum_entries + sum_entries)) }
-    ensures kept { Kept (entering kinds insides numbers) (leaving kinds insides numbers) w (w + (sum_entries + sum_entries)) }
-    ensures of_divisor { OfDivisor (entering kinds insides numbers) i (i + n) y j (λ s v. Agrees result (leaving kinds insides numbers) w (each_into (λ x t u. div_term y v x u) none s)) }
+    requires { Source (book kinds.old insides.old numbers.old) i n w × By (book kinds.old insides.old numbers.old) y j w × Room (book kinds.old insides.old numbers.old) (w + (sum_entries + sum_entries)) }
+    ensures kept { Kept (book kinds.old insides.old numbers.old) (book kinds.new insides.new numbers.new) w (w + (sum_entries + sum_entries)) }
+    ensures of_divisor { OfDivisor (book kinds.old insides.old numbers.old) i (i + n) y j (λ s v. Agrees result (book kinds.new insides.new numbers.new) w (each_into (λ x t u. div_term y v x u) none s)) }
 {
     let end = i + n;
     let mut q = i;
@@ -278,9 +278,9 @@ fn constant_by(
     m: usize,
     w: usize,
 ) -> Formed
-    requires { Operands (lent kinds insides numbers) i n j m w }
-    ensures kept { Kept (entering kinds insides numbers) (leaving kinds insides numbers) w (w + (sum_entries + sum_entries)) }
-    ensures of_two { OfTwo (entering kinds insides numbers) i (i + n) j (j + m) sum_levels (λ s t. Agrees result (leaving kinds insides numbers) w (div_by_several s t (at c))) }
+    requires { Operands (book kinds.old insides.old numbers.old) i n j m w }
+    ensures kept { Kept (book kinds.old insides.old numbers.old) (book kinds.new insides.new numbers.new) w (w + (sum_entries + sum_entries)) }
+    ensures of_two { OfTwo (book kinds.old insides.old numbers.old) i (i + n) j (j + m) sum_levels (λ s t. Agrees result (book kinds.new insides.new numbers.new) w (div_by_several s t (at c))) }
 {
     let zero = c.is_zero();
     let one = c.is_one();
@@ -311,9 +311,9 @@ fn by_several(
     m: usize,
     w: usize,
 ) -> Formed
-    requires { Operands (lent kinds insides numbers) i n j m w }
-    ensures kept { Kept (entering kinds insides numbers) (leaving kinds insides numbers) w (w + (sum_entries + sum_entries)) }
-    ensures of_two { OfTwo (entering kinds insides numbers) i (i + n) j (j + m) sum_levels (λ s t. Agrees result (leaving kinds insides numbers) w (div_by_several s t (as_constant s))) }
+    requires { Operands (book kinds.old insides.old numbers.old) i n j m w }
+    ensures kept { Kept (book kinds.old insides.old numbers.old) (book kinds.new insides.new numbers.new) w (w + (sum_entries + sum_entries)) }
+    ensures of_two { OfTwo (book kinds.old insides.old numbers.old) i (i + n) j (j + m) sum_levels (λ s t. Agrees result (book kinds.new insides.new numbers.new) w (div_by_several s t (as_constant s))) }
 {
     match arithmetic::add::as_constant(kinds, insides, numbers, i, n) {
         Constant::Is(c) => constant_by(kinds, insides, numbers, c, i, n, j, m, w),
@@ -332,9 +332,9 @@ pub fn div(
     m: usize,
     w: usize,
 ) -> Formed
-    requires { Operands (lent kinds insides numbers) i n j m w }
-    ensures kept { Kept (entering kinds insides numbers) (leaving kinds insides numbers) w (w + (sum_entries + sum_entries)) }
-    ensures of_two { OfTwo (entering kinds insides numbers) i (i + n) j (j + m) sum_levels (λ s t. Agrees result (leaving kinds insides numbers) w (quotient s t)) }
+    requires { Operands (book kinds.old insides.old numbers.old) i n j m w }
+    ensures kept { Kept (book kinds.old insides.old numbers.old) (book kinds.new insides.new numbers.new) w (w + (sum_entries + sum_entries)) }
+    ensures of_two { OfTwo (book kinds.old insides.old numbers.old) i (i + n) j (j + m) sum_levels (λ s t. Agrees result (book kinds.new insides.new numbers.new) w (quotient s t)) }
 {
     let y = cells::load(kinds, insides, numbers, j);
     if 1 + y.inside as usize != m {
@@ -355,9 +355,9 @@ pub fn recip(
     n: usize,
     w: usize,
 ) -> Formed
-    requires { (1 ≤ n) × Source (lent kinds insides numbers) i n w × Room (lent kinds insides numbers) (w + (sum_entries + sum_entries)) }
-    ensures kept { Kept (entering kinds insides numbers) (leaving kinds insides numbers) w (w + (sum_entries + sum_entries)) }
-    ensures of_one { OfOne (entering kinds insides numbers) i (i + n) sum_levels (λ s. Agrees result (leaving kinds insides numbers) w (reciprocal s)) }
+    requires { (1 ≤ n) × Source (book kinds.old insides.old numbers.old) i n w × Room (book kinds.old insides.old numbers.old) (w + (sum_entries + sum_entries)) }
+    ensures kept { Kept (book kinds.old insides.old numbers.old) (book kinds.new insides.new numbers.new) w (w + (sum_entries + sum_entries)) }
+    ensures of_one { OfOne (book kinds.old insides.old numbers.old) i (i + n) sum_levels (λ s. Agrees result (book kinds.new insides.new numbers.new) w (reciprocal s)) }
 {
     let y = cells::load(kinds, insides, numbers, i);
     if 1 + y.inside as usize != n {

@@ -6,7 +6,7 @@ ghost use Rattle.limits.specs.Limits.{sum_entries, sum_levels, highest_power};
 ghost use Rattle.numbers.specs.Numbers.{small_whole};
 ghost use Rattle.numbers.specs.Complex.Arith.{real, one};
 ghost use Rattle.cells.specs.declared.Entry.{Entry};
-ghost use Rattle.cells.specs.Contract.Book.{lent, entering, leaving, Room};
+ghost use Rattle.cells.specs.Contract.Book.{book, Room};
 ghost use Rattle.cells.specs.Contract.Moves.{Apart, Kept};
 ghost use Rattle.sums.specs.Tree.Sums.{Sum, entry, size, len};
 ghost use Rattle.sums.specs.Tree.Kinds.{X};
@@ -51,8 +51,8 @@ fn counted(formed: Formed, pairs: u64) -> Raised
 
 // Whether the sum of n cells from i on is one term, an X or a Div of such a sum: then each cell's inside is all that follows.
 pub fn can_root(kinds: &[u8], insides: &[u8], numbers: &[[u64; 3]], i: usize, n: usize) -> bool
-    requires { Held (lent kinds insides numbers) i (i + n) sum_levels }
-    ensures { OfOne (entering kinds insides numbers) i (i + n) sum_levels (λ s. result ≡ rootable s) }
+    requires { Held (book kinds.now insides.now numbers.now) i (i + n) sum_levels }
+    ensures { OfOne (book kinds.now insides.now numbers.now) i (i + n) sum_levels (λ s. result ≡ rootable s) }
 {
     let end = i + n;
     let mut k = i;
@@ -74,8 +74,8 @@ pub fn can_root(kinds: &[u8], insides: &[u8], numbers: &[[u64; 3]], i: usize, n:
 
 // Whether the first coefficient of the sum of n cells from i on is 1, and that of its inside, all the way down.
 pub fn unit_coefs(kinds: &[u8], insides: &[u8], numbers: &[[u64; 3]], i: usize, n: usize) -> bool
-    requires { Held (lent kinds insides numbers) i (i + n) sum_levels }
-    ensures { OfOne (entering kinds insides numbers) i (i + n) sum_levels (λ s. result ≡ unit_coefs s) }
+    requires { Held (book kinds.now insides.now numbers.now) i (i + n) sum_levels }
+    ensures { OfOne (book kinds.now insides.now numbers.now) i (i + n) sum_levels (λ s. result ≡ unit_coefs s) }
 {
     let mut end = i + n;
     let mut k = i;
@@ -133,9 +133,9 @@ fn root_each(
     p: usize,
     n: usize,
 ) -> Formed
-    requires { (finite e ≡ true) × ((s : Sum) × Rooting (lent kinds insides numbers) p n s) }
-    ensures kept { Kept (entering kinds insides numbers) (leaving kinds insides numbers) p (p + n) }
-    ensures agrees { (s : Sum) → Rooting (entering kinds insides numbers) p n s → Agrees result (leaving kinds insides numbers) p (rooted e s) }
+    requires { (finite e ≡ true) × ((s : Sum) × Rooting (book kinds.old insides.old numbers.old) p n s) }
+    ensures kept { Kept (book kinds.old insides.old numbers.old) (book kinds.new insides.new numbers.new) p (p + n) }
+    ensures agrees { (s : Sum) → Rooting (book kinds.old insides.old numbers.old) p n s → Agrees result (book kinds.new insides.new numbers.new) p (rooted e s) }
 {
     let end = p + n;
     let mut k = p;
@@ -160,9 +160,9 @@ pub fn root(
     n: usize,
     p: usize,
 ) -> Formed
-    requires { (finite e ≡ true) × ((s : Sum) × Rooting (lent kinds insides numbers) i n s) × Apart i n p (p + sum_entries) × Room (lent kinds insides numbers) (p + sum_entries) }
-    ensures kept { Kept (entering kinds insides numbers) (leaving kinds insides numbers) p (p + sum_entries) }
-    ensures agrees { (s : Sum) → Rooting (entering kinds insides numbers) i n s → Agrees result (leaving kinds insides numbers) p (rooted e s) }
+    requires { (finite e ≡ true) × ((s : Sum) × Rooting (book kinds.old insides.old numbers.old) i n s) × Apart i n p (p + sum_entries) × Room (book kinds.old insides.old numbers.old) (p + sum_entries) }
+    ensures kept { Kept (book kinds.old insides.old numbers.old) (book kinds.new insides.new numbers.new) p (p + sum_entries) }
+    ensures agrees { (s : Sum) → Rooting (book kinds.old insides.old numbers.old) i n s → Agrees result (book kinds.new insides.new numbers.new) p (rooted e s) }
 {
     cells::copy_within(kinds, insides, numbers, i, n, p);
     root_each(kinds, insides, numbers, e, p, n)
@@ -200,10 +200,10 @@ fn multiply(
     n: usize,
     w: usize,
 ) -> Raised
-    requires { (0 < times) × (times < highest_power) × Source (lent kinds insides numbers) i n w × Room (lent kinds insides numbers) (w + (sum_entries + sum_entries)) }
-    ensures kept { Kept (entering kinds insides numbers) (leaving kinds insides numbers) w (w + (sum_entries + sum_entries)) }
-    ensures of_one { OfOne (entering kinds insides numbers) i (i + n) sum_levels (λ s. Agrees result.formed (leaving kinds insides numbers) w (raised times s s)) }
-    ensures of_one_2 { OfOne (entering kinds insides numbers) i (i + n) sum_levels (λ s. Counted result (raised_pairs times s s)) }
+    requires { (0 < times) × (times < highest_power) × Source (book kinds.old insides.old numbers.old) i n w × Room (book kinds.old insides.old numbers.old) (w + (sum_entries + sum_entries)) }
+    ensures kept { Kept (book kinds.old insides.old numbers.old) (book kinds.new insides.new numbers.new) w (w + (sum_entries + sum_entries)) }
+    ensures of_one { OfOne (book kinds.old insides.old numbers.old) i (i + n) sum_levels (λ s. Agrees result.formed (book kinds.new insides.new numbers.new) w (raised times s s)) }
+    ensures of_one_2 { OfOne (book kinds.old insides.old numbers.old) i (i + n) sum_levels (λ s. Counted result (raised_pairs times s s)) }
 {
     let terms = sums::order::count(insides, i, n);
     let flat = terms == n;
@@ -235,9 +235,9 @@ fn raise_power(
     x: Entry,
     w: usize,
 ) -> Formed
-    requires { (0 < times) × Room (lent kinds insides numbers) (w + (sum_entries + sum_entries)) }
-    ensures kept { Kept (entering kinds insides numbers) (leaving kinds insides numbers) w (w + (sum_entries + sum_entries)) }
-    ensures agrees { (j : Sum) → Agrees result (leaving kinds insides numbers) w (raised times (single X x.num j x.coef) (single X x.num j x.coef)) }
+    requires { (0 < times) × Room (book kinds.old insides.old numbers.old) (w + (sum_entries + sum_entries)) }
+    ensures kept { Kept (book kinds.old insides.old numbers.old) (book kinds.new insides.new numbers.new) w (w + (sum_entries + sum_entries)) }
+    ensures agrees { (j : Sum) → Agrees result (book kinds.new insides.new numbers.new) w (raised times (single X x.num j x.coef) (single X x.num j x.coef)) }
 {
     let mut num = x.num;
     let mut c = x.coef;
@@ -267,10 +267,10 @@ fn raise_one(
     i: usize,
     w: usize,
 ) -> Raised
-    requires { (0 < times) × (times < highest_power) × Source (lent kinds insides numbers) i 1 w × Room (lent kinds insides numbers) (w + (sum_entries + sum_entries)) }
-    ensures kept { Kept (entering kinds insides numbers) (leaving kinds insides numbers) w (w + (sum_entries + sum_entries)) }
-    ensures of_one { OfOne (entering kinds insides numbers) i (i + 1) sum_levels (λ s. Agrees result.formed (leaving kinds insides numbers) w (raised times s s)) }
-    ensures of_one_2 { OfOne (entering kinds insides numbers) i (i + 1) sum_levels (λ s. Counted result (raised_pairs times s s)) }
+    requires { (0 < times) × (times < highest_power) × Source (book kinds.old insides.old numbers.old) i 1 w × Room (book kinds.old insides.old numbers.old) (w + (sum_entries + sum_entries)) }
+    ensures kept { Kept (book kinds.old insides.old numbers.old) (book kinds.new insides.new numbers.new) w (w + (sum_entries + sum_entries)) }
+    ensures of_one { OfOne (book kinds.old insides.old numbers.old) i (i + 1) sum_levels (λ s. Agrees result.formed (book kinds.new insides.new numbers.new) w (raised times s s)) }
+    ensures of_one_2 { OfOne (book kinds.old insides.old numbers.old) i (i + 1) sum_levels (λ s. Counted result (raised_pairs times s s)) }
 {
     let x = cells::load(kinds, insides, numbers, i);
     if x.kind == sums::tree::X {
@@ -289,10 +289,10 @@ fn raise(
     n: usize,
     w: usize,
 ) -> Raised
-    requires { (times < highest_power) × Source (lent kinds insides numbers) i n w × Room (lent kinds insides numbers) (w + (sum_entries + sum_entries)) }
-    ensures kept { Kept (entering kinds insides numbers) (leaving kinds insides numbers) w (w + (sum_entries + sum_entries)) }
-    ensures of_one { OfOne (entering kinds insides numbers) i (i + n) sum_levels (λ s. Agrees result.formed (leaving kinds insides numbers) w (raised times s s)) }
-    ensures of_one_2 { OfOne (entering kinds insides numbers) i (i + n) sum_levels (λ s. Counted result (raised_pairs times s s)) }
+    requires { (times < highest_power) × Source (book kinds.old insides.old numbers.old) i n w × Room (book kinds.old insides.old numbers.old) (w + (sum_entries + sum_entries)) }
+    ensures kept { Kept (book kinds.old insides.old numbers.old) (book kinds.new insides.new numbers.new) w (w + (sum_entries + sum_entries)) }
+    ensures of_one { OfOne (book kinds.old insides.old numbers.old) i (i + n) sum_levels (λ s. Agrees result.formed (book kinds.new insides.new numbers.new) w (raised times s s)) }
+    ensures of_one_2 { OfOne (book kinds.old insides.old numbers.old) i (i + n) sum_levels (λ s. Counted result (raised_pairs times s s)) }
 {
     if times == 0 {
         cells::copy_within(kinds, insides, numbers, i, n, w);
@@ -314,10 +314,10 @@ pub fn whole_power(
     n: usize,
     w: usize,
 ) -> Raised
-    requires { Source (lent kinds insides numbers) i n w × Room (lent kinds insides numbers) (w + (sum_entries + sum_entries)) }
-    ensures kept { Kept (entering kinds insides numbers) (leaving kinds insides numbers) w (w + (sum_entries + sum_entries)) }
-    ensures of_one { OfOne (entering kinds insides numbers) i (i + n) sum_levels (λ s. Agrees result.formed (leaving kinds insides numbers) w (whole_power s (small_whole e))) }
-    ensures of_one_2 { OfOne (entering kinds insides numbers) i (i + n) sum_levels (λ s. Counted result (whole_pairs s (small_whole e))) }
+    requires { Source (book kinds.old insides.old numbers.old) i n w × Room (book kinds.old insides.old numbers.old) (w + (sum_entries + sum_entries)) }
+    ensures kept { Kept (book kinds.old insides.old numbers.old) (book kinds.new insides.new numbers.new) w (w + (sum_entries + sum_entries)) }
+    ensures of_one { OfOne (book kinds.old insides.old numbers.old) i (i + n) sum_levels (λ s. Agrees result.formed (book kinds.new insides.new numbers.new) w (whole_power s (small_whole e))) }
+    ensures of_one_2 { OfOne (book kinds.old insides.old numbers.old) i (i + n) sum_levels (λ s. Counted result (whole_pairs s (small_whole e))) }
 {
     match numbers::small_whole(e) {
         SmallWhole::Is(k) => {
@@ -349,10 +349,10 @@ pub fn power_by(
     n: usize,
     w: usize,
 ) -> Raised
-    requires { (finite e ≡ true) × Source (lent kinds insides numbers) i n w × Room (lent kinds insides numbers) (w + (sum_entries + sum_entries)) }
-    ensures kept { Kept (entering kinds insides numbers) (leaving kinds insides numbers) w (w + (sum_entries + sum_entries)) }
-    ensures of_one { OfOne (entering kinds insides numbers) i (i + n) sum_levels (λ s. Agrees result.formed (leaving kinds insides numbers) w (power s e)) }
-    ensures of_one_2 { OfOne (entering kinds insides numbers) i (i + n) sum_levels (λ s. Counted result (power_pairs s e)) }
+    requires { (finite e ≡ true) × Source (book kinds.old insides.old numbers.old) i n w × Room (book kinds.old insides.old numbers.old) (w + (sum_entries + sum_entries)) }
+    ensures kept { Kept (book kinds.old insides.old numbers.old) (book kinds.new insides.new numbers.new) w (w + (sum_entries + sum_entries)) }
+    ensures of_one { OfOne (book kinds.old insides.old numbers.old) i (i + n) sum_levels (λ s. Agrees result.formed (book kinds.new insides.new numbers.new) w (power s e)) }
+    ensures of_one_2 { OfOne (book kinds.old insides.old numbers.old) i (i + n) sum_levels (λ s. Counted result (power_pairs s e)) }
 {
     if numbers::is_whole(e) & (0.0 <= e) {
         return whole_power(kinds, insides, numbers, e, i, n, w);
@@ -405,9 +405,9 @@ pub fn over(
     n: usize,
     p: usize,
 ) -> Formed
-    requires { GoodHead (entry kind n num one) × Operand (lent kinds insides numbers) i n p × Room (lent kinds insides numbers) (p + sum_entries) }
-    ensures kept { Kept (entering kinds insides numbers) (leaving kinds insides numbers) p (p + sum_entries) }
-    ensures of_one { OfOne (entering kinds insides numbers) i (i + n) sum_levels (λ s. Agrees result (leaving kinds insides numbers) p (alone kind num s one)) }
+    requires { GoodHead (entry kind n num one) × Operand (book kinds.old insides.old numbers.old) i n p × Room (book kinds.old insides.old numbers.old) (p + sum_entries) }
+    ensures kept { Kept (book kinds.old insides.old numbers.old) (book kinds.new insides.new numbers.new) p (p + sum_entries) }
+    ensures of_one { OfOne (book kinds.old insides.old numbers.old) i (i + n) sum_levels (λ s. Agrees result (book kinds.new insides.new numbers.new) p (alone kind num s one)) }
 {
     let x = Entry {
         kind: kind,
@@ -429,10 +429,10 @@ pub fn pow(
     m: usize,
     w: usize,
 ) -> Raised
-    requires { Source (lent kinds insides numbers) i n w × Source (lent kinds insides numbers) j m w × Room (lent kinds insides numbers) (w + (sum_entries + sum_entries)) }
-    ensures kept { Kept (entering kinds insides numbers) (leaving kinds insides numbers) w (w + (sum_entries + sum_entries)) }
-    ensures of_two { OfTwo (entering kinds insides numbers) i (i + n) j (j + m) sum_levels (λ s t. Agrees result.formed (leaving kinds insides numbers) w (pow s t)) }
-    ensures of_two_2 { OfTwo (entering kinds insides numbers) i (i + n) j (j + m) sum_levels (λ s t. Counted result (pow_pairs s t)) }
+    requires { Source (book kinds.old insides.old numbers.old) i n w × Source (book kinds.old insides.old numbers.old) j m w × Room (book kinds.old insides.old numbers.old) (w + (sum_entries + sum_entries)) }
+    ensures kept { Kept (book kinds.old insides.old numbers.old) (book kinds.new insides.new numbers.new) w (w + (sum_entries + sum_entries)) }
+    ensures of_two { OfTwo (book kinds.old insides.old numbers.old) i (i + n) j (j + m) sum_levels (λ s t. Agrees result.formed (book kinds.new insides.new numbers.new) w (pow s t)) }
+    ensures of_two_2 { OfTwo (book kinds.old insides.old numbers.old) i (i + n) j (j + m) sum_levels (λ s t. Counted result (pow_pairs s t)) }
 {
     if is_euler(arithmetic::add::as_constant(kinds, insides, numbers, i, n))
         & arithmetic::add::is_x(kinds, insides, numbers, j, m)
@@ -458,9 +458,9 @@ fn number_power(
     e: f64,
     p: usize,
 ) -> Formed
-    requires { (finite base ≡ true) × (finite e ≡ true) × Room (lent kinds insides numbers) (p + sum_entries) }
-    ensures kept { Kept (entering kinds insides numbers) (leaving kinds insides numbers) p (p + sum_entries) }
-    ensures agrees { Agrees result (leaving kinds insides numbers) p (power (constant (real base)) e) }
+    requires { (finite base ≡ true) × (finite e ≡ true) × Room (book kinds.old insides.old numbers.old) (p + sum_entries) }
+    ensures kept { Kept (book kinds.old insides.old numbers.old) (book kinds.new insides.new numbers.new) p (p + sum_entries) }
+    ensures agrees { Agrees result (book kinds.new insides.new numbers.new) p (power (constant (real base)) e) }
 {
     let mut other_kinds = [0u8; THREE_SUMS];
     let mut other_insides = [0u8; THREE_SUMS];
@@ -517,9 +517,9 @@ pub fn pow_of(
     n: usize,
     p: usize,
 ) -> Formed
-    requires { (finite base ≡ true) × Operand (lent kinds insides numbers) i n p × Room (lent kinds insides numbers) (p + sum_entries) }
-    ensures kept { Kept (entering kinds insides numbers) (leaving kinds insides numbers) p (p + sum_entries) }
-    ensures of_one { OfOne (entering kinds insides numbers) i (i + n) sum_levels (λ s. Agrees result (leaving kinds insides numbers) p (pow (constant (real base)) s)) }
+    requires { (finite base ≡ true) × Operand (book kinds.old insides.old numbers.old) i n p × Room (book kinds.old insides.old numbers.old) (p + sum_entries) }
+    ensures kept { Kept (book kinds.old insides.old numbers.old) (book kinds.new insides.new numbers.new) p (p + sum_entries) }
+    ensures of_one { OfOne (book kinds.old insides.old numbers.old) i (i + n) sum_levels (λ s. Agrees result (book kinds.new insides.new numbers.new) p (pow (constant (real base)) s)) }
 {
     let c = Complex { re: base, im: 0.0 };
     if is_euler(Constant::Is(c)) & arithmetic::add::is_x(kinds, insides, numbers, i, n) {
@@ -542,9 +542,9 @@ pub fn log(
     m: usize,
     p: usize,
 ) -> Formed
-    requires { (0 < n) × Operand (lent kinds insides numbers) i n p × Held (lent kinds insides numbers) j (j + m) sum_levels × Room (lent kinds insides numbers) (p + sum_entries) }
-    ensures kept { Kept (entering kinds insides numbers) (leaving kinds insides numbers) p (p + sum_entries) }
-    ensures of_two { OfTwo (entering kinds insides numbers) i (i + n) j (j + m) sum_levels (λ s t. Agrees result (leaving kinds insides numbers) p (log s t)) }
+    requires { (0 < n) × Operand (book kinds.old insides.old numbers.old) i n p × Held (book kinds.old insides.old numbers.old) j (j + m) sum_levels × Room (book kinds.old insides.old numbers.old) (p + sum_entries) }
+    ensures kept { Kept (book kinds.old insides.old numbers.old) (book kinds.new insides.new numbers.new) p (p + sum_entries) }
+    ensures of_two { OfTwo (book kinds.old insides.old numbers.old) i (i + n) j (j + m) sum_levels (λ s t. Agrees result (book kinds.new insides.new numbers.new) p (log s t)) }
 {
     match real_of(arithmetic::add::as_constant(kinds, insides, numbers, j, m)) {
         Real::Is(base) => over(kinds, insides, numbers, sums::tree::LOG, base, i, n, p),
@@ -562,9 +562,9 @@ pub fn log_of(
     n: usize,
     p: usize,
 ) -> Formed
-    requires { (0 < n) × Operand (lent kinds insides numbers) i n p × Room (lent kinds insides numbers) (p + sum_entries) }
-    ensures kept { Kept (entering kinds insides numbers) (leaving kinds insides numbers) p (p + sum_entries) }
-    ensures of_one { OfOne (entering kinds insides numbers) i (i + n) sum_levels (λ s. Agrees result (leaving kinds insides numbers) p (log s (constant (real base)))) }
+    requires { (0 < n) × Operand (book kinds.old insides.old numbers.old) i n p × Room (book kinds.old insides.old numbers.old) (p + sum_entries) }
+    ensures kept { Kept (book kinds.old insides.old numbers.old) (book kinds.new insides.new numbers.new) p (p + sum_entries) }
+    ensures of_one { OfOne (book kinds.old insides.old numbers.old) i (i + n) sum_levels (λ s. Agrees result (book kinds.new insides.new numbers.new) p (log s (constant (real base)))) }
 {
     over(kinds, insides, numbers, sums::tree::LOG, base, i, n, p)
 }

@@ -9,7 +9,7 @@ ghost use Rattle.arithmetic.specs.Pairs.{pairs};
 ghost use Rattle.arithmetic.specs.Power.{not_sum, complex_sum};
 ghost use Rattle.arithmetic.specs.Product.{product};
 ghost use Rattle.arithmetic.specs.Singles.{constant};
-ghost use Rattle.cells.specs.Contract.Book.{lent, entering, leaving, Room};
+ghost use Rattle.cells.specs.Contract.Book.{book, Room};
 ghost use Rattle.cells.specs.Contract.Moves.{Kept};
 ghost use Rattle.limits.specs.Limits.{sum_entries, sum_levels};
 ghost use Rattle.numbers.specs.Complex.Arith.{imaginary};
@@ -37,9 +37,9 @@ fn copied(
     n: usize,
     p: usize,
 ) -> Formed
-    requires { Operand (lent kinds insides numbers) i n p × Room (lent kinds insides numbers) (p + sum_entries) }
-    ensures kept { Kept (entering kinds insides numbers) (leaving kinds insides numbers) p (p + sum_entries) }
-    ensures of_one { OfOne (entering kinds insides numbers) i (i + n) sum_levels (λ s. Agrees result (leaving kinds insides numbers) p (sum s)) }
+    requires { Operand (book kinds.old insides.old numbers.old) i n p × Room (book kinds.old insides.old numbers.old) (p + sum_entries) }
+    ensures kept { Kept (book kinds.old insides.old numbers.old) (book kinds.new insides.new numbers.new) p (p + sum_entries) }
+    ensures of_one { OfOne (book kinds.old insides.old numbers.old) i (i + n) sum_levels (λ s. Agrees result (book kinds.new insides.new numbers.new) p (sum s)) }
 {
     cells::copy_within(kinds, insides, numbers, i, n, p);
     Formed::Done(n)
@@ -54,9 +54,9 @@ fn negated(
     n: usize,
     p: usize,
 ) -> Formed
-    requires { Operand (lent kinds insides numbers) i n p × Room (lent kinds insides numbers) (p + sum_entries) }
-    ensures kept { Kept (entering kinds insides numbers) (leaving kinds insides numbers) p (p + sum_entries) }
-    ensures of_one { OfOne (entering kinds insides numbers) i (i + n) sum_levels (λ s. Agrees result (leaving kinds insides numbers) p (sum (neg_sum s))) }
+    requires { Operand (book kinds.old insides.old numbers.old) i n p × Room (book kinds.old insides.old numbers.old) (p + sum_entries) }
+    ensures kept { Kept (book kinds.old insides.old numbers.old) (book kinds.new insides.new numbers.new) p (p + sum_entries) }
+    ensures of_one { OfOne (book kinds.old insides.old numbers.old) i (i + n) sum_levels (λ s. Agrees result (book kinds.new insides.new numbers.new) p (sum (neg_sum s))) }
 {
     arithmetic::add::expr_neg(kinds, insides, numbers, i, n, p);
     Formed::Done(n)
@@ -71,9 +71,9 @@ fn not(
     n: usize,
     p: usize,
 ) -> Formed
-    requires { Operand (lent kinds insides numbers) i n p × Room (lent kinds insides numbers) (p + sum_entries) }
-    ensures kept { Kept (entering kinds insides numbers) (leaving kinds insides numbers) p (p + sum_entries) }
-    ensures of_one { OfOne (entering kinds insides numbers) i (i + n) sum_levels (λ s. Agrees result (leaving kinds insides numbers) p (not_sum s)) }
+    requires { Operand (book kinds.old insides.old numbers.old) i n p × Room (book kinds.old insides.old numbers.old) (p + sum_entries) }
+    ensures kept { Kept (book kinds.old insides.old numbers.old) (book kinds.new insides.new numbers.new) p (p + sum_entries) }
+    ensures of_one { OfOne (book kinds.old insides.old numbers.old) i (i + n) sum_levels (λ s. Agrees result (book kinds.new insides.new numbers.new) p (not_sum s)) }
 {
     let x = Entry {
         kind: sums::tree::X,
@@ -96,9 +96,9 @@ fn add_times_i(
     m: usize,
     w: usize,
 ) -> Formed
-    requires { Source (lent kinds insides numbers) i n w × Source (lent kinds insides numbers) j m w × Room (lent kinds insides numbers) (w + (sum_entries + sum_entries)) }
-    ensures kept { Kept (entering kinds insides numbers) (leaving kinds insides numbers) w (w + (sum_entries + sum_entries)) }
-    ensures of_two { OfTwo (entering kinds insides numbers) i (i + n) j (j + m) sum_levels (λ b a. Agrees result (leaving kinds insides numbers) w
+    requires { Source (book kinds.old insides.old numbers.old) i n w × Source (book kinds.old insides.old numbers.old) j m w × Room (book kinds.old insides.old numbers.old) (w + (sum_entries + sum_entries)) }
+    ensures kept { Kept (book kinds.old insides.old numbers.old) (book kinds.new insides.new numbers.new) w (w + (sum_entries + sum_entries)) }
+    ensures of_two { OfTwo (book kinds.old insides.old numbers.old) i (i + n) j (j + m) sum_levels (λ b a. Agrees result (book kinds.new insides.new numbers.new) w
         (and_then_sum (product a (constant imaginary)) (add_sums b))) }
 {
     let x = Entry {
@@ -128,9 +128,9 @@ fn complex(
     m: usize,
     w: usize,
 ) -> Formed
-    requires { Source (lent kinds insides numbers) i n w × Source (lent kinds insides numbers) j m w × Room (lent kinds insides numbers) (w + (sum_entries + sum_entries)) }
-    ensures kept { Kept (entering kinds insides numbers) (leaving kinds insides numbers) w (w + (sum_entries + sum_entries)) }
-    ensures of_two { OfTwo (entering kinds insides numbers) i (i + n) j (j + m) sum_levels (λ b a. Agrees result (leaving kinds insides numbers) w (complex_sum a b)) }
+    requires { Source (book kinds.old insides.old numbers.old) i n w × Source (book kinds.old insides.old numbers.old) j m w × Room (book kinds.old insides.old numbers.old) (w + (sum_entries + sum_entries)) }
+    ensures kept { Kept (book kinds.old insides.old numbers.old) (book kinds.new insides.new numbers.new) w (w + (sum_entries + sum_entries)) }
+    ensures of_two { OfTwo (book kinds.old insides.old numbers.old) i (i + n) j (j + m) sum_levels (λ b a. Agrees result (book kinds.new insides.new numbers.new) w (complex_sum a b)) }
 {
     let first = arithmetic::add::as_constant(kinds, insides, numbers, i, n);
     let second = arithmetic::add::as_constant(kinds, insides, numbers, j, m);
@@ -153,9 +153,9 @@ pub fn form_one(
     n: usize,
     w: usize,
 ) -> Formed
-    requires { (1 ≤ n) × Source (lent kinds insides numbers) i n w × Room (lent kinds insides numbers) (w + (sum_entries + sum_entries)) }
-    ensures kept { Kept (entering kinds insides numbers) (leaving kinds insides numbers) w (w + (sum_entries + sum_entries)) }
-    ensures of_one { OfOne (entering kinds insides numbers) i (i + n) sum_levels (λ s. Agrees result (leaving kinds insides numbers) w (of_one p s)) }
+    requires { (1 ≤ n) × Source (book kinds.old insides.old numbers.old) i n w × Room (book kinds.old insides.old numbers.old) (w + (sum_entries + sum_entries)) }
+    ensures kept { Kept (book kinds.old insides.old numbers.old) (book kinds.new insides.new numbers.new) w (w + (sum_entries + sum_entries)) }
+    ensures of_one { OfOne (book kinds.old insides.old numbers.old) i (i + n) sum_levels (λ s. Agrees result (book kinds.new insides.new numbers.new) w (of_one p s)) }
 {
     let e = numbers::e();
     match p {
@@ -204,10 +204,10 @@ fn multiplied(
     m: usize,
     w: usize,
 ) -> Raised
-    requires { Source (lent kinds insides numbers) i n w × Source (lent kinds insides numbers) j m w × Room (lent kinds insides numbers) (w + (sum_entries + sum_entries)) }
-    ensures kept { Kept (entering kinds insides numbers) (leaving kinds insides numbers) w (w + (sum_entries + sum_entries)) }
-    ensures of_two { OfTwo (entering kinds insides numbers) i (i + n) j (j + m) sum_levels (λ b a. Agrees result.formed (leaving kinds insides numbers) w (product b a)) }
-    ensures of_two_2 { OfTwo (entering kinds insides numbers) i (i + n) j (j + m) sum_levels (λ b a. Counted result (pairs b a)) }
+    requires { Source (book kinds.old insides.old numbers.old) i n w × Source (book kinds.old insides.old numbers.old) j m w × Room (book kinds.old insides.old numbers.old) (w + (sum_entries + sum_entries)) }
+    ensures kept { Kept (book kinds.old insides.old numbers.old) (book kinds.new insides.new numbers.new) w (w + (sum_entries + sum_entries)) }
+    ensures of_two { OfTwo (book kinds.old insides.old numbers.old) i (i + n) j (j + m) sum_levels (λ b a. Agrees result.formed (book kinds.new insides.new numbers.new) w (product b a)) }
+    ensures of_two_2 { OfTwo (book kinds.old insides.old numbers.old) i (i + n) j (j + m) sum_levels (λ b a. Counted result (pairs b a)) }
 {
     let pairs = sums::order::count(insides, i, n) * sums::order::count(insides, j, m);
     let formed = arithmetic::multiply::mul(kinds, insides, numbers, i, n, j, m, w);
@@ -229,10 +229,10 @@ fn form_uncounted(
     m: usize,
     w: usize,
 ) -> Formed
-    requires { Uncounted p × (1 ≤ n) × (1 ≤ m) × Source (lent kinds insides numbers) i n w × Source (lent kinds insides numbers) j m w
-        × Room (lent kinds insides numbers) (w + (sum_entries + sum_entries)) }
-    ensures kept { Kept (entering kinds insides numbers) (leaving kinds insides numbers) w (w + (sum_entries + sum_entries)) }
-    ensures of_two { OfTwo (entering kinds insides numbers) i (i + n) j (j + m) sum_levels (λ b a. Agrees result (leaving kinds insides numbers) w (of_two p b a)) }
+    requires { Uncounted p × (1 ≤ n) × (1 ≤ m) × Source (book kinds.old insides.old numbers.old) i n w × Source (book kinds.old insides.old numbers.old) j m w
+        × Room (book kinds.old insides.old numbers.old) (w + (sum_entries + sum_entries)) }
+    ensures kept { Kept (book kinds.old insides.old numbers.old) (book kinds.new insides.new numbers.new) w (w + (sum_entries + sum_entries)) }
+    ensures of_two { OfTwo (book kinds.old insides.old numbers.old) i (i + n) j (j + m) sum_levels (λ b a. Agrees result (book kinds.new insides.new numbers.new) w (of_two p b a)) }
 {
     match p {
         Primitive::Add => {
@@ -260,10 +260,10 @@ pub fn form_two(
     m: usize,
     w: usize,
 ) -> Raised
-    requires { (1 ≤ n) × (1 ≤ m) × Source (lent kinds insides numbers) i n w × Source (lent kinds insides numbers) j m w × Room (lent kinds insides numbers) (w + (sum_entries + sum_entries)) }
-    ensures kept { Kept (entering kinds insides numbers) (leaving kinds insides numbers) w (w + (sum_entries + sum_entries)) }
-    ensures of_two { OfTwo (entering kinds insides numbers) i (i + n) j (j + m) sum_levels (λ b a. Agrees result.formed (leaving kinds insides numbers) w (of_two p b a)) }
-    ensures of_two_2 { OfTwo (entering kinds insides numbers) i (i + n) j (j + m) sum_levels (λ b a. Counted result (pairs_of p b a)) }
+    requires { (1 ≤ n) × (1 ≤ m) × Source (book kinds.old insides.old numbers.old) i n w × Source (book kinds.old insides.old numbers.old) j m w × Room (book kinds.old insides.old numbers.old) (w + (sum_entries + sum_entries)) }
+    ensures kept { Kept (book kinds.old insides.old numbers.old) (book kinds.new insides.new numbers.new) w (w + (sum_entries + sum_entries)) }
+    ensures of_two { OfTwo (book kinds.old insides.old numbers.old) i (i + n) j (j + m) sum_levels (λ b a. Agrees result.formed (book kinds.new insides.new numbers.new) w (of_two p b a)) }
+    ensures of_two_2 { OfTwo (book kinds.old insides.old numbers.old) i (i + n) j (j + m) sum_levels (λ b a. Counted result (pairs_of p b a)) }
 {
     match p {
         Primitive::Mul => multiplied(kinds, insides, numbers, i, n, j, m, w),

@@ -6,8 +6,8 @@ ghost use Rattle.formats.specs.declared.record.Verdict.TheVariants.{Good};
 ghost use Rattle.stack.specs.State.{State, went};
 ghost use Rattle.modifiers.specs.Reading.{start, ended};
 ghost use Rattle.modifiers.specs.Contract.Room.{read_held};
-ghost use Rattle.cells.specs.Contract.Book.{entering, leaving};
-ghost use Rattle.stack.specs.Contract.Arena.{arena, arena_in, arena_out, Space, working, places};
+ghost use Rattle.cells.specs.Contract.Book.{book};
+ghost use Rattle.stack.specs.Contract.Arena.{arena, Space, working, places};
 ghost use Rattle.stack.specs.Contract.Agree.{Stands, Ready};
 ghost use Rattle.reading.specs.Contract.Data.{Reaches, DataAs};
 
@@ -32,9 +32,9 @@ fn begin_with_x(
     numbers: &mut [[u64; 3]],
     sizes: &mut [u8],
 ) -> AlgebraEnv
-    requires { Space (arena kinds insides numbers sizes) (working + 1) }
-    ensures { (top : ℕ) → Reaches (arena_in kinds insides numbers sizes) top → Ready (arena_out kinds insides numbers sizes) top result
-        × Stands (arena_out kinds insides numbers sizes) top result start }
+    requires { Space (arena kinds.old insides.old numbers.old sizes.old) (working + 1) }
+    ensures { (top : ℕ) → Reaches (arena kinds.old insides.old numbers.old sizes.old) top → Ready (arena kinds.new insides.new numbers.new sizes.new) top result
+        × Stands (arena kinds.new insides.new numbers.new sizes.new) top result start }
 {
     let x = Entry {
         kind: sums::tree::X,
@@ -60,8 +60,8 @@ fn last_of(
     sizes: &[u8],
     env: AlgebraEnv,
 ) -> AlgebraData
-    requires { (v : ℕ) × Ready (arena kinds insides numbers sizes) v env }
-    ensures { (v : ℕ) (st : State) → Stands (arena_in kinds insides numbers sizes) v env st → DataAs result (entering kinds insides numbers) (ended (went st)) }
+    requires { (v : ℕ) × Ready (arena kinds.now insides.now numbers.now sizes.now) v env }
+    ensures { (v : ℕ) (st : State) → Stands (arena kinds.now insides.now numbers.now sizes.now) v env st → DataAs result (book kinds.now insides.now numbers.now) (ended (went st)) }
 {
     let many = HANDLED_NEEDED <= env.handled;
     let handled = many | stack::slots::any_complex(kinds, insides, numbers, sizes, env.used);
@@ -84,8 +84,8 @@ pub fn nodes_expr(
     sizes: &mut [u8],
     top: usize,
 ) -> AlgebraData
-    requires { (verdict list.now ≡ Good) × Reaches (arena kinds insides numbers sizes) top }
-    ensures { DataAs result (leaving kinds insides numbers) (read_held (places - top) (parse list.now)) }
+    requires { (verdict list.now ≡ Good) × Reaches (arena kinds.old insides.old numbers.old sizes.old) top }
+    ensures { DataAs result (book kinds.new insides.new numbers.new) (read_held (places - top) (parse list.now)) }
 {
     let env = begin_with_x(kinds, insides, numbers, sizes);
     let n = formats::record::count_records(list);

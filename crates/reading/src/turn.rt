@@ -7,7 +7,7 @@ ghost use Rattle.formats.specs.declared.record.KindFound.TheVariants.{Known};
 ghost use Rattle.stack.specs.Stack.{any_complex};
 ghost use Rattle.modifiers.specs.Reading.{inside_of};
 ghost use Rattle.stack.specs.Steps.{leaf_step};
-ghost use Rattle.stack.specs.Contract.Arena.{arena, arena_in, arena_out, working, places};
+ghost use Rattle.stack.specs.Contract.Arena.{arena, working, places};
 ghost use Rattle.stack.specs.Contract.Stacked.{Stacked};
 ghost use Rattle.stack.specs.Contract.Agree.{Ready, Does, env_of};
 ghost use Rattle.stack.specs.Contract.Acting.{handled_by};
@@ -92,8 +92,8 @@ pub fn refuse(
     sizes: &[u8],
     env: AlgebraEnv,
 ) -> Ran
-    requires { (env.used ≤ length sizes.now) × ((ss : List Sum) × Stacked (arena kinds insides numbers sizes) working env.used ss) }
-    ensures { (ss : List Sum) → Stacked (arena_in kinds insides numbers sizes) working env.used ss → result ≡ Ran.Stopped q at (leb handled_needed env.handled || any_complex ss) }
+    requires { (env.used ≤ length sizes.now) × ((ss : List Sum) × Stacked (arena kinds.now insides.now numbers.now sizes.now) working env.used ss) }
+    ensures { (ss : List Sum) → Stacked (arena kinds.now insides.now numbers.now sizes.now) working env.used ss → result ≡ Ran.Stopped q at (leb handled_needed env.handled || any_complex ss) }
 {
     match stack::state::halt(q, kinds, insides, numbers, sizes, env.used, env.handled) {
         Stepped::Went(_, _) => Ran::Went(env),
@@ -127,8 +127,8 @@ pub fn read_leaf(
     v: usize,
     env: AlgebraEnv,
 ) -> Ran
-    requires { Ready (arena kinds insides numbers sizes) v env }
-    ensures { Does (arena_in kinds insides numbers sizes) (arena_out kinds insides numbers sizes) v env result (λ st. leaf_step at r (kind_of r.kind) (places - v) st) }
+    requires { Ready (arena kinds.old insides.old numbers.old sizes.old) v env }
+    ensures { Does (arena kinds.old insides.old numbers.old sizes.old) (arena kinds.new insides.new numbers.new sizes.new) v env result (λ st. leaf_step at r (kind_of r.kind) (places - v) st) }
 {
     let used = env.used;
     let handled = env.handled;

@@ -7,7 +7,7 @@ ghost use Rattle.modifiers.specs.declared.Use.TheVariants.{Bodies};
 ghost use Rattle.modifiers.specs.Reading.{runners, inside_of, step_of};
 ghost use Rattle.modifiers.specs.Contract.Walks.{walk_of};
 ghost use Rattle.modifiers.specs.Contract.Plans.{modified, UsedAs};
-ghost use Rattle.stack.specs.Contract.Arena.{arena, arena_in, arena_out, places};
+ghost use Rattle.stack.specs.Contract.Arena.{arena, places};
 ghost use Rattle.stack.specs.Contract.Agree.{Ready, Does};
 ghost use Rattle.reading.specs.Contract.Quick.{has_nodes};
 ghost use Rattle.reading.specs.Contract.Runs.{Keeps, OneBody, Inner, Bodily, Planned, Round, Rounds, Many, Forks};
@@ -36,8 +36,8 @@ pub fn walk(
     v: usize,
     env: AlgebraEnv,
 ) -> Ran
-    requires { Ready (arena kinds insides numbers sizes) v env × ((b : Bool) × Keeps list.now from to b × OneBody list.now from to b) }
-    ensures { Does (arena_in kinds insides numbers sizes) (arena_out kinds insides numbers sizes) v env result (λ st. walk_of list.now from to (places - v) st) }
+    requires { Ready (arena kinds.old insides.old numbers.old sizes.old) v env × ((b : Bool) × Keeps list.now from to b × OneBody list.now from to b) }
+    ensures { Does (arena kinds.old insides.old numbers.old sizes.old) (arena kinds.new insides.new numbers.new sizes.new) v env result (λ st. walk_of list.now from to (places - v) st) }
 {
     let mut at = from;
     let mut used = env.used;
@@ -92,8 +92,8 @@ fn step(
     v: usize,
     env: AlgebraEnv,
 ) -> Ran
-    requires { Ready (arena kinds insides numbers sizes) v env × Inner list.now at r × (has_nodes (inside_of (kind_of r.kind)) ≡ false) }
-    ensures { Does (arena_in kinds insides numbers sizes) (arena_out kinds insides numbers sizes) v env result
+    requires { Ready (arena kinds.old insides.old numbers.old sizes.old) v env × Inner list.now at r × (has_nodes (inside_of (kind_of r.kind)) ≡ false) }
+    ensures { Does (arena kinds.old insides.old numbers.old sizes.old) (arena kinds.new insides.new numbers.new sizes.new) v env result
         (λ st. step_of at r (runners (at + 1) (forest list.now (at + 1) (at + 1 + r.inside))) (places - v) st) }
 {
     if formats::record::is_a(r.kind, Kind::Modifier) {
@@ -115,8 +115,8 @@ fn modify(
     v: usize,
     env: AlgebraEnv,
 ) -> Ran
-    requires { Ready (arena kinds insides numbers sizes) v env × Bodily list.now (at + 1) (at + 1 + r.inside) }
-    ensures { Does (arena_in kinds insides numbers sizes) (arena_out kinds insides numbers sizes) v env result (λ st. modified list.now at r (places - v) st) }
+    requires { Ready (arena kinds.old insides.old numbers.old sizes.old) v env × Bodily list.now (at + 1) (at + 1 + r.inside) }
+    ensures { Does (arena kinds.old insides.old numbers.old sizes.old) (arena kinds.new insides.new numbers.new sizes.new) v env result (λ st. modified list.now at r (places - v) st) }
 {
     match modifiers::use_of(list, at, r) {
         Use::Refused(q) => crate::turn::refuse(q, at, kinds, insides, numbers, sizes, env),
@@ -138,8 +138,8 @@ fn with_bodies(
     v: usize,
     env: AlgebraEnv,
 ) -> Ran
-    requires { Ready (arena kinds insides numbers sizes) v env × Bodily list.now (at + 1) (at + 1 + r.inside) × UsedAs Bodies list.now at r }
-    ensures { Does (arena_in kinds insides numbers sizes) (arena_out kinds insides numbers sizes) v env result (λ st. modified list.now at r (places - v) st) }
+    requires { Ready (arena kinds.old insides.old numbers.old sizes.old) v env × Bodily list.now (at + 1) (at + 1 + r.inside) × UsedAs Bodies list.now at r }
+    ensures { Does (arena kinds.old insides.old numbers.old sizes.old) (arena kinds.new insides.new numbers.new sizes.new) v env result (λ st. modified list.now at r (places - v) st) }
 {
     let p = modifiers::plan_of(list, at, r);
     let begun = modifiers::begin::begin(r.code, p.args, at, kinds, insides, numbers, sizes, v, env);
@@ -162,8 +162,8 @@ fn around(
     v: usize,
     env: AlgebraEnv,
 ) -> Ran
-    requires { Round (arena kinds insides numbers sizes) v held env × Planned list.now p }
-    ensures { Rounds (arena_in kinds insides numbers sizes) (arena_out kinds insides numbers sizes) v held env result list.now p }
+    requires { Round (arena kinds.old insides.old numbers.old sizes.old) v held env × Planned list.now p }
+    ensures { Rounds (arena kinds.old insides.old numbers.old sizes.old) (arena kinds.new insides.new numbers.new sizes.new) v held env result list.now p }
 {
     let low = v - held;
     let ran = walk(list, p.from, p.to, kinds, insides, numbers, sizes, low, env);
@@ -191,8 +191,8 @@ fn fork(
     v: usize,
     env: AlgebraEnv,
 ) -> Ran
-    requires { Ready (arena kinds insides numbers sizes) v env × Bodily list.now (at + 1) (at + 1 + r.inside) × (modifier_of r.code ≡ Fork) }
-    ensures { Does (arena_in kinds insides numbers sizes) (arena_out kinds insides numbers sizes) v env result (λ st. modified list.now at r (places - v) st) }
+    requires { Ready (arena kinds.old insides.old numbers.old sizes.old) v env × Bodily list.now (at + 1) (at + 1 + r.inside) × (modifier_of r.code ≡ Fork) }
+    ensures { Does (arena kinds.old insides.old numbers.old sizes.old) (arena kinds.new insides.new numbers.new sizes.new) v env result (λ st. modified list.now at r (places - v) st) }
 {
     let from = at + 1;
     let to = from + r.inside as usize;
@@ -231,8 +231,8 @@ fn fork_each(
     v: usize,
     env: AlgebraEnv,
 ) -> Ran
-    requires { Ready (arena kinds insides numbers sizes) v env × Bodily list.now (at + 1) to × Many (arena kinds insides numbers sizes) v m k }
-    ensures { Forks (arena_in kinds insides numbers sizes) (arena_out kinds insides numbers sizes) v m k env result list.now at (at + 1) to }
+    requires { Ready (arena kinds.old insides.old numbers.old sizes.old) v env × Bodily list.now (at + 1) to × Many (arena kinds.old insides.old numbers.old sizes.old) v m k }
+    ensures { Forks (arena kinds.old insides.old numbers.old sizes.old) (arena kinds.new insides.new numbers.new sizes.new) v m k env result list.now at (at + 1) to }
 {
     let from = at + 1;
     let mut i = formats::record::count_nodes(list, from, to);

@@ -1,7 +1,7 @@
 // One primitive on sums that are laid out: n cells from FIRST on, and m cells from SECOND on where it takes two. The result is formed from 0 on
 // in the same book.
 ghost use Rattle.std.specs.Prelude.{◌≡◌, true, ◌+◌, ◌*◌, ◌≤◌, length};
-ghost use Rattle.cells.specs.Contract.Book.{lent, entering, Room};
+ghost use Rattle.cells.specs.Contract.Book.{book, Room};
 ghost use Rattle.replay_arithmetic.specs.Contract.Ready.{Ready};
 ghost use Rattle.limits.specs.Limits.{entry_bytes, sum_entries};
 
@@ -18,8 +18,8 @@ fn takes(code: u8, m: usize) -> bool {
 
 // Whether two good sums lie there, the first with an entry or more.
 fn ready(kinds: &[u8], insides: &[u8], numbers: &[[u64; 3]], n: usize, m: usize) -> bool
-    requires { Room (lent kinds insides numbers) (4 * sum_entries) }
-    ensures { result ≡ true → Ready (entering kinds insides numbers) n m }
+    requires { Room (book kinds.now insides.now numbers.now) (4 * sum_entries) }
+    ensures { result ≡ true → Ready (book kinds.now insides.now numbers.now) n m }
 {
     if n == 0 {
         return false;
@@ -45,7 +45,7 @@ fn one_stored(
     q: usize,
     c: Case,
 ) -> bool
-    requires ready { Ready (lent kinds insides numbers) c.n c.m × Room (lent kinds insides numbers) (4 * sum_entries) }
+    requires ready { Ready (book kinds.old insides.old numbers.old) c.n c.m × Room (book kinds.old insides.old numbers.old) (4 * sum_entries) }
     requires r_le_sum_entries { (c.r ≤ sum_entries) × (q + entry_bytes * c.r ≤ length b.now) }
 {
     let p = formats::record::primitive_of(c.code);
@@ -62,7 +62,7 @@ fn two_stored(
     q: usize,
     c: Case,
 ) -> bool
-    requires le_m { (1 ≤ c.m) × Ready (lent kinds insides numbers) c.n c.m × Room (lent kinds insides numbers) (4 * sum_entries) }
+    requires le_m { (1 ≤ c.m) × Ready (book kinds.old insides.old numbers.old) c.n c.m × Room (book kinds.old insides.old numbers.old) (4 * sum_entries) }
     requires r_le_sum_entries { (c.r ≤ sum_entries) × (q + entry_bytes * c.r ≤ length b.now) }
 {
     let p = formats::record::primitive_of(c.code);
@@ -80,7 +80,7 @@ pub fn gives_stored(
     q: usize,
     c: Case,
 ) -> bool
-    requires { Room (lent kinds insides numbers) (4 * sum_entries) × (c.r ≤ sum_entries) × (q + entry_bytes * c.r ≤ length b.now) }
+    requires { Room (book kinds.old insides.old numbers.old) (4 * sum_entries) × (c.r ≤ sum_entries) × (q + entry_bytes * c.r ≤ length b.now) }
 {
     if !takes(c.code, c.m) {
         return false;

@@ -1,7 +1,7 @@
 // A case is five bytes, the code, the entries of the two operands, the refusal's number or 0, and the entries of the result; and then the
 // entries, 32 bytes each.
 ghost use Rattle.std.specs.Prelude.{◌+◌, ◌*◌, ◌≤◌, ◌<◌, length};
-ghost use Rattle.cells.specs.Contract.Book.{lent, Room};
+ghost use Rattle.cells.specs.Contract.Book.{book, Room};
 ghost use Rattle.limits.specs.Limits.{entry_bytes, sum_entries};
 
 use crate::text;
@@ -62,7 +62,7 @@ pub fn lay(
     n: usize,
     m: usize,
 )
-    requires { (p + entry_bytes * (n + m) ≤ length b.now) × (n ≤ sum_entries) × (m ≤ sum_entries) × Room (lent kinds insides numbers) (4 * sum_entries) }
+    requires { (p + entry_bytes * (n + m) ≤ length b.now) × (n ≤ sum_entries) × (m ≤ sum_entries) × Room (book kinds.old insides.old numbers.old) (4 * sum_entries) }
 {
     let mut j = 0usize;
     while j < n + m {
@@ -95,7 +95,7 @@ fn same_cells(
     p: usize,
     n: usize,
 ) -> bool
-    requires { (p + entry_bytes * n ≤ length b.now) × Room (lent kinds insides numbers) n }
+    requires { (p + entry_bytes * n ≤ length b.now) × Room (book kinds.now insides.now numbers.now) n }
 {
     let mut j = 0usize;
     while j < n {
@@ -120,7 +120,7 @@ pub fn is_stored(
     p: usize,
     n: usize,
 ) -> bool
-    requires { (p + entry_bytes * n ≤ length b.now) × Room (lent kinds insides numbers) n }
+    requires { (p + entry_bytes * n ≤ length b.now) × Room (book kinds.now insides.now numbers.now) n }
 {
     match f {
         Formed::Done(k) => {

@@ -4,7 +4,7 @@ ghost use Rattle.std.specs.Prelude.{◌≡◌, cond, ℕ, suc, ◌-◌, min};
 ghost use Rattle.limits.specs.Limits.{handled_needed};
 ghost use Rattle.formats.specs.Names.{kind_of, primitive_of};
 ghost use Rattle.formats.specs.Table.{row};
-ghost use Rattle.stack.specs.Contract.Arena.{arena, arena_in, arena_out, places};
+ghost use Rattle.stack.specs.Contract.Arena.{arena, places};
 ghost use Rattle.stack.specs.Contract.Agree.{Prepared, Acts};
 ghost use Rattle.stack.specs.Contract.Acting.{Applies, why_not, leaf_act, handled_by, complex_by};
 
@@ -23,8 +23,8 @@ fn apply(
     used: usize,
     handled: usize,
 ) -> Stepped
-    requires { Prepared (arena kinds insides numbers sizes) v used handled }
-    ensures { Applies (arena_in kinds insides numbers sizes) (arena_out kinds insides numbers sizes) v used handled result (row (primitive_of code)).taken (primitive_of code) }
+    requires { Prepared (arena kinds.old insides.old numbers.old sizes.old) v used handled }
+    ensures { Applies (arena kinds.old insides.old numbers.old sizes.old) (arena kinds.new insides.new numbers.new sizes.new) v used handled result (row (primitive_of code)).taken (primitive_of code) }
 {
     let taken = formats::table::taken(code);
     if taken == 0 {
@@ -70,8 +70,8 @@ fn leaf_of(
     used: usize,
     handled: usize,
 ) -> Stepped
-    requires { Prepared (arena kinds insides numbers sizes) v used handled }
-    ensures { (at : ℕ) → Acts (arena_in kinds insides numbers sizes) (arena_out kinds insides numbers sizes) v used handled at result (λ st. leaf_act at r (KindFound.Known k) (places - v) st) }
+    requires { Prepared (arena kinds.old insides.old numbers.old sizes.old) v used handled }
+    ensures { (at : ℕ) → Acts (arena kinds.old insides.old numbers.old sizes.old) (arena kinds.new insides.new numbers.new sizes.new) v used handled at result (λ st. leaf_act at r (KindFound.Known k) (places - v) st) }
 {
     match k {
         Kind::RealPush => crate::state::push_number(
@@ -97,8 +97,8 @@ pub fn leaf(
     used: usize,
     handled: usize,
 ) -> Stepped
-    requires { Prepared (arena kinds insides numbers sizes) v used handled }
-    ensures { (at : ℕ) → Acts (arena_in kinds insides numbers sizes) (arena_out kinds insides numbers sizes) v used handled at result (λ st. leaf_act at r (kind_of r.kind) (places - v) st) }
+    requires { Prepared (arena kinds.old insides.old numbers.old sizes.old) v used handled }
+    ensures { (at : ℕ) → Acts (arena kinds.old insides.old numbers.old sizes.old) (arena kinds.new insides.new numbers.new sizes.new) v used handled at result (λ st. leaf_act at r (kind_of r.kind) (places - v) st) }
 {
     match formats::record::kind_of(r.kind) {
         KindFound::Known(k) => leaf_of(k, r, kinds, insides, numbers, sizes, v, used, handled),

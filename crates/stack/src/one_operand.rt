@@ -4,7 +4,7 @@ ghost use Rattle.std.specs.Prelude.{◌≡◌, List, [], ◌∷◌};
 ghost use Rattle.sums.specs.Tree.Sums.{Sum};
 ghost use Rattle.formats.specs.Names.{primitive_of};
 ghost use Rattle.formats.specs.Table.{row};
-ghost use Rattle.stack.specs.Contract.Arena.{arena, arena_in, arena_out, Space, working};
+ghost use Rattle.stack.specs.Contract.Arena.{arena, Space, working};
 ghost use Rattle.stack.specs.Contract.Stacked.{Stacked};
 ghost use Rattle.stack.specs.Contract.Agree.{Prepared};
 ghost use Rattle.stack.specs.Contract.Parts.{Tops};
@@ -24,9 +24,9 @@ pub fn flip(
     m: usize,
     u: usize,
 )
-    requires space { Space (arena kinds insides numbers sizes) u }
-    requires tops { Tops (arena kinds insides numbers sizes) u (n ∷ m ∷ []) × ((ss : List Sum) × Stacked (arena kinds insides numbers sizes) working u ss) }
-    ensures { Turned (arena_in kinds insides numbers sizes) (arena_out kinds insides numbers sizes) u }
+    requires space { Space (arena kinds.old insides.old numbers.old sizes.old) u }
+    requires tops { Tops (arena kinds.old insides.old numbers.old sizes.old) u (n ∷ m ∷ []) × ((ss : List Sum) × Stacked (arena kinds.old insides.old numbers.old sizes.old) working u ss) }
+    ensures { Turned (arena kinds.old insides.old numbers.old sizes.old) (arena kinds.new insides.new numbers.new sizes.new) u }
 {
     let i = u - n - m;
     cells::copy_within(kinds, insides, numbers, i, m, 0);
@@ -46,8 +46,8 @@ fn form_top(
     used: usize,
     handled: usize,
 ) -> Stepped
-    requires { ((row (primitive_of code)).left ≡ 1) × Tops (arena kinds insides numbers sizes) used (n ∷ []) × Prepared (arena kinds insides numbers sizes) v used handled }
-    ensures { Applies (arena_in kinds insides numbers sizes) (arena_out kinds insides numbers sizes) v used handled result 1 (primitive_of code) }
+    requires { ((row (primitive_of code)).left ≡ 1) × Tops (arena kinds.old insides.old numbers.old sizes.old) used (n ∷ []) × Prepared (arena kinds.old insides.old numbers.old sizes.old) v used handled }
+    ensures { Applies (arena kinds.old insides.old numbers.old sizes.old) (arena kinds.new insides.new numbers.new sizes.new) v used handled result 1 (primitive_of code) }
 {
     let p = formats::record::primitive_of(code);
     let i = used - n;
@@ -66,8 +66,8 @@ pub fn one_operand(
     used: usize,
     handled: usize,
 ) -> Stepped
-    requires { Prepared (arena kinds insides numbers sizes) v used handled }
-    ensures { Applies (arena_in kinds insides numbers sizes) (arena_out kinds insides numbers sizes) v used handled result 1 (primitive_of code) }
+    requires { Prepared (arena kinds.old insides.old numbers.old sizes.old) v used handled }
+    ensures { Applies (arena kinds.old insides.old numbers.old sizes.old) (arena kinds.new insides.new numbers.new sizes.new) v used handled result 1 (primitive_of code) }
 {
     if used == WORKING {
         return crate::state::short(handled);

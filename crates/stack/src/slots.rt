@@ -2,12 +2,12 @@
 // behind them lies the stack, and at the end what is held.
 ghost use Rattle.std.specs.Prelude.{◌≡◌, List, ◌∷◌, ℕ, ◌+◌, ◌≤◌, ◌<◌, length};
 ghost use Rattle.limits.specs.Limits.{sum_entries, sum_levels};
-ghost use Rattle.cells.specs.Contract.Book.{lent, entering};
+ghost use Rattle.cells.specs.Contract.Book.{book};
 ghost use Rattle.cells.specs.Contract.Moves.{Apart};
 ghost use Rattle.stack.specs.Stack.{any_complex};
 ghost use Rattle.sums.specs.Contract.Lies.{OfOne};
 ghost use Rattle.sums.specs.Tree.Sums.{Sum};
-ghost use Rattle.stack.specs.Contract.Arena.{arena, arena_in, arena_out, Space, working};
+ghost use Rattle.stack.specs.Contract.Arena.{arena, Space, working};
 ghost use Rattle.stack.specs.Contract.Stacked.{Top, Stacked, Sized, deep};
 ghost use Rattle.stack.specs.Contract.Blocks.{Outside, Raised, Sunk};
 
@@ -44,8 +44,8 @@ pub fn raise(
     e: usize,
     d: usize,
 )
-    requires { (k ≤ e) × Space (arena kinds insides numbers sizes) (e + d) }
-    ensures { Raised (arena_in kinds insides numbers sizes) (arena_out kinds insides numbers sizes) k e d }
+    requires { (k ≤ e) × Space (arena kinds.old insides.old numbers.old sizes.old) (e + d) }
+    ensures { Raised (arena kinds.old insides.old numbers.old sizes.old) (arena kinds.new insides.new numbers.new sizes.new) k e d }
 {
     let mut j = e;
     while k < j {
@@ -67,8 +67,8 @@ pub fn sink(
     to: usize,
     n: usize,
 )
-    requires { (to ≤ from) × Space (arena kinds insides numbers sizes) (from + n) }
-    ensures { Sunk (arena_in kinds insides numbers sizes) (arena_out kinds insides numbers sizes) from to n }
+    requires { (to ≤ from) × Space (arena kinds.old insides.old numbers.old sizes.old) (from + n) }
+    ensures { Sunk (arena kinds.old insides.old numbers.old sizes.old) (arena kinds.new insides.new numbers.new sizes.new) from to n }
 {
     let mut j = 0usize;
     while j < n {
@@ -90,9 +90,9 @@ pub fn bring(
     n: usize,
     u: usize,
 )
-    requires { (1 ≤ n) × (n ≤ sum_entries) × (i + n ≤ u) × Space (arena kinds insides numbers sizes) (u + n) }
-    ensures outside { Outside (arena_in kinds insides numbers sizes) (arena_out kinds insides numbers sizes) u (u + n) }
-    ensures of_one { OfOne (entering kinds insides numbers) i (i + n) sum_levels (λ s. Top (arena_out kinds insides numbers sizes) u (u + n) s) }
+    requires { (1 ≤ n) × (n ≤ sum_entries) × (i + n ≤ u) × Space (arena kinds.old insides.old numbers.old sizes.old) (u + n) }
+    ensures outside { Outside (arena kinds.old insides.old numbers.old sizes.old) (arena kinds.new insides.new numbers.new sizes.new) u (u + n) }
+    ensures of_one { OfOne (book kinds.old insides.old numbers.old) i (i + n) sum_levels (λ s. Top (arena kinds.new insides.new numbers.new sizes.new) u (u + n) s) }
 {
     cells::copy_within(kinds, insides, numbers, i, n, u);
     sizes[u + n - 1] = n as u8;
@@ -131,8 +131,8 @@ pub fn any_complex(
     sizes: &[u8],
     u: usize,
 ) -> bool
-    requires { (u ≤ length sizes.now) × ((ss : List Sum) × Stacked (arena kinds insides numbers sizes) working u ss) }
-    ensures { (ss : List Sum) → Stacked (arena_in kinds insides numbers sizes) working u ss → result ≡ any_complex ss }
+    requires { (u ≤ length sizes.now) × ((ss : List Sum) × Stacked (arena kinds.now insides.now numbers.now sizes.now) working u ss) }
+    ensures { (ss : List Sum) → Stacked (arena kinds.now insides.now numbers.now sizes.now) working u ss → result ≡ any_complex ss }
 {
     let mut p = u;
     while WORKING < p {

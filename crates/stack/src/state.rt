@@ -3,12 +3,12 @@ ghost use Rattle.std.specs.Prelude.{◌≡◌, Bool, ◌||◌, List, ◌+◌, �
 ghost use Rattle.limits.specs.Limits.{sum_entries, sum_levels, handled_needed};
 ghost use Rattle.sums.specs.Tree.Sums.{Sum};
 ghost use Rattle.sums.specs.Tree.Map.{Outcome, sum};
-ghost use Rattle.cells.specs.Contract.Book.{lent, entering};
+ghost use Rattle.cells.specs.Contract.Book.{book};
 ghost use Rattle.sums.specs.Contract.Lies.{OfOne, Agrees};
 ghost use Rattle.stack.specs.Stack.{any_complex};
 ghost use Rattle.stack.specs.State.{push, most_pairs};
 ghost use Rattle.stack.specs.Steps.{constant_of};
-ghost use Rattle.stack.specs.Contract.Arena.{arena, arena_in, arena_out, places};
+ghost use Rattle.stack.specs.Contract.Arena.{arena, places};
 ghost use Rattle.stack.specs.Contract.Arena as arenas;
 ghost use Rattle.stack.specs.Contract.Stacked.{Stacked};
 ghost use Rattle.stack.specs.Contract.Agree.{Prepared, Acts};
@@ -61,8 +61,8 @@ pub fn halt(
     used: usize,
     handled: usize,
 ) -> Stepped
-    requires { (used ≤ length sizes.now) × ((ss : List Sum) × Stacked (arena kinds insides numbers sizes) arenas.working used ss) }
-    ensures { (ss : List Sum) → Stacked (arena_in kinds insides numbers sizes) arenas.working used ss → result ≡ Stepped.Stopped q (leb handled_needed handled || any_complex ss) }
+    requires { (used ≤ length sizes.now) × ((ss : List Sum) × Stacked (arena kinds.now insides.now numbers.now sizes.now) arenas.working used ss) }
+    ensures { (ss : List Sum) → Stacked (arena kinds.now insides.now numbers.now sizes.now) arenas.working used ss → result ≡ Stepped.Stopped q (leb handled_needed handled || any_complex ss) }
 {
     let complex = crate::slots::any_complex(kinds, insides, numbers, sizes, used);
     Stepped::Stopped(q, (HANDLED_NEEDED <= handled) | complex)
@@ -86,8 +86,8 @@ pub fn push_cells(
     v: usize,
     used: usize,
 ) -> Stepped
-    requires { (1 ≤ n) × (n ≤ sum_entries) × (i + n ≤ used) × ((h : ℕ) × Prepared (arena kinds insides numbers sizes) v used h) }
-    ensures { OfOne (entering kinds insides numbers) i (i + n) sum_levels (λ s. (at h : ℕ) → Acts (arena_in kinds insides numbers sizes) (arena_out kinds insides numbers sizes) v
+    requires { (1 ≤ n) × (n ≤ sum_entries) × (i + n ≤ used) × ((h : ℕ) × Prepared (arena kinds.old insides.old numbers.old sizes.old) v used h) }
+    ensures { OfOne (book kinds.old insides.old numbers.old) i (i + n) sum_levels (λ s. (at h : ℕ) → Acts (arena kinds.old insides.old numbers.old sizes.old) (arena kinds.new insides.new numbers.new sizes.new) v
         used h at result (push at (places - v) (sum s))) }
 {
     if v - used < n {
@@ -108,8 +108,8 @@ pub fn push_formed(
     used: usize,
     handled: usize,
 ) -> Stepped
-    requires { Filled f × Prepared (arena kinds insides numbers sizes) v used handled }
-    ensures { (o : Outcome) (at : ℕ) → Agrees f (entering kinds insides numbers) 0 o → Acts (arena_in kinds insides numbers sizes) (arena_out kinds insides numbers sizes) v used
+    requires { Filled f × Prepared (arena kinds.old insides.old numbers.old sizes.old) v used handled }
+    ensures { (o : Outcome) (at : ℕ) → Agrees f (book kinds.old insides.old numbers.old) 0 o → Acts (arena kinds.old insides.old numbers.old sizes.old) (arena kinds.new insides.new numbers.new sizes.new) v used
         handled at result (push at (places - v) o) }
 {
     match f {
@@ -130,8 +130,8 @@ pub fn push_number(
     used: usize,
     handled: usize,
 ) -> Stepped
-    requires { Prepared (arena kinds insides numbers sizes) v used handled }
-    ensures { (at : ℕ) → Acts (arena_in kinds insides numbers sizes) (arena_out kinds insides numbers sizes) v used handled at result (push at (places - v) (constant_of re im)) }
+    requires { Prepared (arena kinds.old insides.old numbers.old sizes.old) v used handled }
+    ensures { (at : ℕ) → Acts (arena kinds.old insides.old numbers.old sizes.old) (arena kinds.new insides.new numbers.new sizes.new) v used handled at result (push at (places - v) (constant_of re im)) }
 {
     if !(numbers::finite_bits(re) & numbers::finite_bits(im)) {
         return halt(

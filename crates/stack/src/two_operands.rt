@@ -3,7 +3,7 @@
 ghost use Rattle.std.specs.Prelude.{◌≡◌, [], ◌∷◌, ◌-◌, ◌<◌};
 ghost use Rattle.formats.specs.Names.{primitive_of};
 ghost use Rattle.formats.specs.Table.{row};
-ghost use Rattle.stack.specs.Contract.Arena.{arena, arena_in, arena_out, working};
+ghost use Rattle.stack.specs.Contract.Arena.{arena, working};
 ghost use Rattle.stack.specs.Contract.Agree.{Prepared};
 ghost use Rattle.stack.specs.Contract.Parts.{Tops, more_pairs};
 ghost use Rattle.stack.specs.Contract.Acting.{Applies};
@@ -33,8 +33,8 @@ fn form_pair(
     used: usize,
     handled: usize,
 ) -> Stepped
-    requires { ((row (primitive_of code)).left ≡ 1) × Tops (arena kinds insides numbers sizes) used (n ∷ []) × (working < used - n) × Prepared (arena kinds insides numbers sizes) v used handled }
-    ensures { Applies (arena_in kinds insides numbers sizes) (arena_out kinds insides numbers sizes) v used handled result 2 (primitive_of code) }
+    requires { ((row (primitive_of code)).left ≡ 1) × Tops (arena kinds.old insides.old numbers.old sizes.old) used (n ∷ []) × (working < used - n) × Prepared (arena kinds.old insides.old numbers.old sizes.old) v used handled }
+    ensures { Applies (arena kinds.old insides.old numbers.old sizes.old) (arena kinds.new insides.new numbers.new sizes.new) v used handled result 2 (primitive_of code) }
 {
     let p = formats::record::primitive_of(code);
     let up = used - n;
@@ -58,8 +58,8 @@ fn two_leave(
     used: usize,
     handled: usize,
 ) -> Stepped
-    requires { ((row (primitive_of code)).taken ≡ 2) × Tops (arena kinds insides numbers sizes) used (n ∷ []) × (working < used - n) × Prepared (arena kinds insides numbers sizes) v used handled }
-    ensures { Applies (arena_in kinds insides numbers sizes) (arena_out kinds insides numbers sizes) v used handled result 2 (primitive_of code) }
+    requires { ((row (primitive_of code)).taken ≡ 2) × Tops (arena kinds.old insides.old numbers.old sizes.old) used (n ∷ []) × (working < used - n) × Prepared (arena kinds.old insides.old numbers.old sizes.old) v used handled }
+    ensures { Applies (arena kinds.old insides.old numbers.old sizes.old) (arena kinds.new insides.new numbers.new sizes.new) v used handled result 2 (primitive_of code) }
 {
     let left = formats::table::left(code);
     if left == 1 {
@@ -84,8 +84,8 @@ pub fn two_operands(
     used: usize,
     handled: usize,
 ) -> Stepped
-    requires { ((row (primitive_of code)).taken ≡ 2) × Prepared (arena kinds insides numbers sizes) v used handled }
-    ensures { Applies (arena_in kinds insides numbers sizes) (arena_out kinds insides numbers sizes) v used handled result 2 (primitive_of code) }
+    requires { ((row (primitive_of code)).taken ≡ 2) × Prepared (arena kinds.old insides.old numbers.old sizes.old) v used handled }
+    ensures { Applies (arena kinds.old insides.old numbers.old sizes.old) (arena kinds.new insides.new numbers.new sizes.new) v used handled result 2 (primitive_of code) }
 {
     if used == WORKING {
         return crate::state::short(handled);

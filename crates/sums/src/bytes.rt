@@ -2,7 +2,7 @@
 ghost use Rattle.std.specs.Prelude.{◌≡◌, ℕ, ◌+◌, ◌*◌, ◌≤◌, length};
 ghost use Rattle.std.proofs.lemmas.List.Edits.{sets};
 ghost use Rattle.limits.specs.Limits.{sum_entries, sum_levels, entry_bytes};
-ghost use Rattle.cells.specs.Contract.Book.{lent, entering, leaving, Room};
+ghost use Rattle.cells.specs.Contract.Book.{book, Room};
 ghost use Rattle.sums.specs.Contract.Lies.{Held, OfOne};
 ghost use Rattle.sums.specs.declared.entry.Taken.{Taken};
 ghost use Rattle.sums.specs.Entry.Encoding.{entries_in, encode_sum};
@@ -34,8 +34,8 @@ fn read_cells(
     list: &[u8],
     n: usize,
 ) -> bool
-    requires { (entry_bytes * n ≤ length list.now) × Room (lent kinds insides numbers) n }
-    ensures { Loaded list.now n (leaving kinds insides numbers) result }
+    requires { (entry_bytes * n ≤ length list.now) × Room (book kinds.old insides.old numbers.old) n }
+    ensures { Loaded list.now n (book kinds.new insides.new numbers.new) result }
 {
     let mut j = 0;
     while j < n {
@@ -56,8 +56,8 @@ fn read_cells(
 
 // What the first `n` cells are: a good sum of at most SUM_LEVELS, a good sum of more, or none.
 fn answer(kinds: &[u8], insides: &[u8], numbers: &[[u64; 3]], n: usize) -> Taken
-    requires { Room (lent kinds insides numbers) n }
-    ensures { Answered (entering kinds insides numbers) n result }
+    requires { Room (book kinds.now insides.now numbers.now) n }
+    ensures { Answered (book kinds.now insides.now numbers.now) n result }
 {
     if crate::good::good_sum(kinds, insides, numbers, 0, n, SUM_LEVELS) {
         return Taken::Sum(n);
@@ -70,9 +70,9 @@ fn answer(kinds: &[u8], insides: &[u8], numbers: &[[u64; 3]], n: usize) -> Taken
 
 // Takes a sum in: its entries go into the first cells. Where it is refused the cells are left as they are then.
 pub fn take_in(kinds: &mut [u8], insides: &mut [u8], numbers: &mut [[u64; 3]], list: &[u8]) -> Taken
-    requires { Room (lent kinds insides numbers) sum_entries }
+    requires { Room (book kinds.old insides.old numbers.old) sum_entries }
     ensures weighed { Weighed list.now result }
-    ensures by_index { (n : ℕ) → result ≡ Taken.Sum n → Laid list.now (leaving kinds insides numbers) n }
+    ensures by_index { (n : ℕ) → result ≡ Taken.Sum n → Laid list.now (book kinds.new insides.new numbers.new) n }
 {
     let n = list.len() / ENTRY_BYTES;
     if list.len() % ENTRY_BYTES != 0 {
@@ -119,8 +119,8 @@ pub fn put_sum(
     n: usize,
     out: &mut [u8],
 )
-    requires { Held (lent kinds insides numbers) i (i + n) sum_levels × (entry_bytes * n ≤ length out.old) }
-    ensures { OfOne (entering kinds insides numbers) i (i + n) sum_levels (λ s. out.new ≡ sets out.old 0 (encode_sum s)) }
+    requires { Held (book kinds.now insides.now numbers.now) i (i + n) sum_levels × (entry_bytes * n ≤ length out.old) }
+    ensures { OfOne (book kinds.now insides.now numbers.now) i (i + n) sum_levels (λ s. out.new ≡ sets out.old 0 (encode_sum s)) }
 {
     let mut j = 0;
     while j < n {

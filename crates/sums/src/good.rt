@@ -1,6 +1,6 @@
 // Whether what lies in a book is a good sum: every entry one that a sum may hold, and each level strictly rising.
 ghost use Rattle.std.specs.Prelude.{◌≡◌, true, ◌↔◌, ◌+◌, ◌^◌, ◌<◌};
-ghost use Rattle.cells.specs.Contract.Book.{lent, entering, Room};
+ghost use Rattle.cells.specs.Contract.Book.{book, Room};
 ghost use Rattle.sums.specs.Contract.Lies.{Held};
 ghost use Rattle.sums.specs.Contract.Fine.{head_ok, is_less, Fine, Term, Follows};
 
@@ -18,8 +18,8 @@ fn good_head(kind: u8, inside: u8, num: u64) -> bool
 
 // The cell at k by itself, with an inside that ends by `end`.
 fn good_cell(kinds: &[u8], insides: &[u8], numbers: &[[u64; 3]], k: usize, end: usize) -> bool
-    requires { (k < end) × Room (lent kinds insides numbers) (k + 1) }
-    ensures { (result ≡ true) ↔ Fine (entering kinds insides numbers) k end }
+    requires { (k < end) × Room (book kinds.now insides.now numbers.now) (k + 1) }
+    ensures { (result ≡ true) ↔ Fine (book kinds.now insides.now numbers.now) k end }
 {
     let words = numbers[k];
     let inside = insides[k];
@@ -48,9 +48,9 @@ fn follows(
     k: usize,
     left: usize,
 ) -> bool
-    requires term { last < k → Term (lent kinds insides numbers) last left }
-    requires term_2 { Term (lent kinds insides numbers) k left }
-    ensures { Follows (entering kinds insides numbers) last k left result }
+    requires term { last < k → Term (book kinds.now insides.now numbers.now) last left }
+    requires term_2 { Term (book kinds.now insides.now numbers.now) k left }
+    ensures { Follows (book kinds.now insides.now numbers.now) last k left result }
 {
     if k <= last {
         return true;
@@ -69,8 +69,8 @@ pub fn good_sum(
     n: usize,
     left: usize,
 ) -> bool
-    requires { Room (lent kinds insides numbers) (i + n) }
-    ensures { (result ≡ true) ↔ Held (entering kinds insides numbers) i (i + n) left }
+    requires { Room (book kinds.now insides.now numbers.now) (i + n) }
+    ensures { (result ≡ true) ↔ Held (book kinds.now insides.now numbers.now) i (i + n) left }
 {
     if left == 0 {
         return n == 0;

@@ -2,7 +2,7 @@
 // 18, 15, 13 and 12.
 ghost use Rattle.std.specs.Prelude.{◌≡◌, ◌+◌, ◌≤◌};
 ghost use Rattle.limits.specs.Limits.{sum_entries, sum_levels};
-ghost use Rattle.cells.specs.Contract.Book.{lent, entering, leaving, Room};
+ghost use Rattle.cells.specs.Contract.Book.{book, Room};
 ghost use Rattle.cells.specs.Contract.Moves.{Apart, Kept};
 ghost use Rattle.sums.specs.Tree.Kinds.{X};
 ghost use Rattle.sums.specs.Tree.Sums.{none, entry};
@@ -45,8 +45,8 @@ fn put_same(
     n: usize,
     k: usize,
 ) -> Formed
-    requires { Places (lent kinds insides numbers) x i p n (Found.Same k) }
-    ensures { Puts (entering kinds insides numbers) (leaving kinds insides numbers) how x i p n (Found.Same k) result }
+    requires { Places (book kinds.old insides.old numbers.old) x i p n (Found.Same k) }
+    ensures { Puts (book kinds.old insides.old numbers.old) (book kinds.new insides.new numbers.new) how x i p n (Found.Same k) result }
 {
     let y = cells::load(kinds, insides, numbers, k);
     let v = merge(how, y.coef, x.coef);
@@ -78,8 +78,8 @@ fn put_new(
     n: usize,
     k: usize,
 ) -> Formed
-    requires { Places (lent kinds insides numbers) x i p n (Found.Before k) × Apart i x.inside p (p + sum_entries) }
-    ensures { Puts (entering kinds insides numbers) (leaving kinds insides numbers) how x i p n (Found.Before k) result }
+    requires { Places (book kinds.old insides.old numbers.old) x i p n (Found.Before k) × Apart i x.inside p (p + sum_entries) }
+    ensures { Puts (book kinds.old insides.old numbers.old) (book kinds.new insides.new numbers.new) how x i p n (Found.Before k) result }
 {
     let c = merge(how, Complex::ZERO, x.coef);
     if !c.is_finite() {
@@ -114,10 +114,10 @@ pub fn put_block(
     p: usize,
     n: usize,
 ) -> Formed
-    requires good_head { GoodHead x × Held (lent kinds insides numbers) i (i + x.inside) sum_levels × Apart i x.inside p (p + sum_entries) }
-    requires n_le_sum_entries { (n ≤ sum_entries) × Room (lent kinds insides numbers) (p + sum_entries) × Held (lent kinds insides numbers) p (p + n) sum_levels }
-    ensures kept { Kept (entering kinds insides numbers) (leaving kinds insides numbers) p (p + sum_entries) }
-    ensures of_two { OfTwo (entering kinds insides numbers) p (p + n) i (i + x.inside) sum_levels (λ s t. Agrees result (leaving kinds insides numbers) p (formed how x t s)) }
+    requires good_head { GoodHead x × Held (book kinds.old insides.old numbers.old) i (i + x.inside) sum_levels × Apart i x.inside p (p + sum_entries) }
+    requires n_le_sum_entries { (n ≤ sum_entries) × Room (book kinds.old insides.old numbers.old) (p + sum_entries) × Held (book kinds.old insides.old numbers.old) p (p + n) sum_levels }
+    ensures kept { Kept (book kinds.old insides.old numbers.old) (book kinds.new insides.new numbers.new) p (p + sum_entries) }
+    ensures of_two { OfTwo (book kinds.old insides.old numbers.old) p (p + n) i (i + x.inside) sum_levels (λ s t. Agrees result (book kinds.new insides.new numbers.new) p (formed how x t s)) }
 {
     if !numbers::is_finite(x.num) {
         let why = crate::tree::not_finite(x.kind);
@@ -142,10 +142,10 @@ pub fn put_below(
     n: usize,
     end: usize,
 ) -> Formed
-    requires n_le_sum_entries { (n ≤ sum_entries) × Room (lent kinds insides numbers) (p + sum_entries) × Held (lent kinds insides numbers) p (p + n) sum_levels }
-    requires of_one { OfOne (lent kinds insides numbers) p (p + n) sum_levels (λ s. end ≡ p + powers s) }
-    ensures kept { Kept (entering kinds insides numbers) (leaving kinds insides numbers) p (p + sum_entries) }
-    ensures of_one_2 { OfOne (entering kinds insides numbers) p (p + n) sum_levels (λ s. Agrees result (leaving kinds insides numbers) p (formed how (entry X 0 num c) none s)) }
+    requires n_le_sum_entries { (n ≤ sum_entries) × Room (book kinds.old insides.old numbers.old) (p + sum_entries) × Held (book kinds.old insides.old numbers.old) p (p + n) sum_levels }
+    requires of_one { OfOne (book kinds.old insides.old numbers.old) p (p + n) sum_levels (λ s. end ≡ p + powers s) }
+    ensures kept { Kept (book kinds.old insides.old numbers.old) (book kinds.new insides.new numbers.new) p (p + sum_entries) }
+    ensures of_one_2 { OfOne (book kinds.old insides.old numbers.old) p (p + n) sum_levels (λ s. Agrees result (book kinds.new insides.new numbers.new) p (formed how (entry X 0 num c) none s)) }
 {
     if !numbers::is_finite(num) {
         return Formed::Refused(Refusal::PowerNotFinite);
@@ -173,9 +173,9 @@ pub fn put_power(
     p: usize,
     n: usize,
 ) -> Formed
-    requires { (n ≤ sum_entries) × Room (lent kinds insides numbers) (p + sum_entries) × Held (lent kinds insides numbers) p (p + n) sum_levels }
-    ensures kept { Kept (entering kinds insides numbers) (leaving kinds insides numbers) p (p + sum_entries) }
-    ensures of_one { OfOne (entering kinds insides numbers) p (p + n) sum_levels (λ s. Agrees result (leaving kinds insides numbers) p (formed how (entry X 0 num c) none s)) }
+    requires { (n ≤ sum_entries) × Room (book kinds.old insides.old numbers.old) (p + sum_entries) × Held (book kinds.old insides.old numbers.old) p (p + n) sum_levels }
+    ensures kept { Kept (book kinds.old insides.old numbers.old) (book kinds.new insides.new numbers.new) p (p + sum_entries) }
+    ensures of_one { OfOne (book kinds.old insides.old numbers.old) p (p + n) sum_levels (λ s. Agrees result (book kinds.new insides.new numbers.new) p (formed how (entry X 0 num c) none s)) }
 {
     let end = crate::order::powers_end(kinds, p, n);
     put_below(kinds, insides, numbers, how, num, c, p, n, end)

@@ -4,7 +4,7 @@ ghost use Rattle.std.specs.Prelude.{◌≡◌, true, ◌↔◌, ℕ, ◌+◌, �
 ghost use Rattle.std.specs.Float.Ieee.Scale.{finite};
 ghost use Rattle.limits.specs.Limits.{sum_levels};
 ghost use Rattle.cells.specs.declared.Entry.{Entry};
-ghost use Rattle.cells.specs.Contract.Book.{lent, entering};
+ghost use Rattle.cells.specs.Contract.Book.{book};
 ghost use Rattle.sums.specs.Tree.Sums.{Sum, none, size, len, levels};
 ghost use Rattle.sums.specs.Tree.Kinds.{X};
 ghost use Rattle.sums.specs.Tree.Good.{Good};
@@ -81,9 +81,9 @@ pub fn cmp_term(
     j: usize,
     left: usize,
 ) -> Ordering
-    requires held { Held (lent kinds insides numbers) i (i + x.inside) left }
-    requires held_2 { Held (lent kinds insides numbers) j (j + y.inside) left }
-    ensures { OfTwo (entering kinds insides numbers) i (i + x.inside) j (j + y.inside) left (λ s t. result ≡ cmp_term x s y t) }
+    requires held { Held (book kinds.now insides.now numbers.now) i (i + x.inside) left }
+    requires held_2 { Held (book kinds.now insides.now numbers.now) j (j + y.inside) left }
+    ensures { OfTwo (book kinds.now insides.now numbers.now) i (i + x.inside) j (j + y.inside) left (λ s t. result ≡ cmp_term x s y t) }
 {
     let n = x.inside as usize;
     let m = y.inside as usize;
@@ -106,9 +106,9 @@ pub fn cmp_sum(
     m: usize,
     left: usize,
 ) -> Ordering
-    requires held { Held (lent kinds insides numbers) i (i + n) left }
-    requires held_2 { Held (lent kinds insides numbers) j (j + m) left }
-    ensures { OfTwo (entering kinds insides numbers) i (i + n) j (j + m) left (λ s t. result ≡ cmp_sum s t) }
+    requires held { Held (book kinds.now insides.now numbers.now) i (i + n) left }
+    requires held_2 { Held (book kinds.now insides.now numbers.now) j (j + m) left }
+    ensures { OfTwo (book kinds.now insides.now numbers.now) i (i + n) j (j + m) left (λ s t. result ≡ cmp_sum s t) }
 {
     match cmp_nat(count(insides, i, n), count(insides, j, m)) {
         Ordering::Less => return Ordering::Less,
@@ -151,9 +151,9 @@ pub fn eq_term(
     j: usize,
     left: usize,
 ) -> bool
-    requires held { Held (lent kinds insides numbers) i (i + x.inside) left }
-    requires held_2 { Held (lent kinds insides numbers) j (j + y.inside) left }
-    ensures { OfTwo (entering kinds insides numbers) i (i + x.inside) j (j + y.inside) left (λ s t. result ≡ same_term x s y t) }
+    requires held { Held (book kinds.now insides.now numbers.now) i (i + x.inside) left }
+    requires held_2 { Held (book kinds.now insides.now numbers.now) j (j + y.inside) left }
+    ensures { OfTwo (book kinds.now insides.now numbers.now) i (i + x.inside) j (j + y.inside) left (λ s t. result ≡ same_term x s y t) }
 {
     let n = x.inside as usize;
     let m = y.inside as usize;
@@ -175,9 +175,9 @@ pub fn eq_sum(
     m: usize,
     left: usize,
 ) -> bool
-    requires held { Held (lent kinds insides numbers) i (i + n) left }
-    requires held_2 { Held (lent kinds insides numbers) j (j + m) left }
-    ensures { OfTwo (entering kinds insides numbers) i (i + n) j (j + m) left (λ s t. result ≡ same_sum s t) }
+    requires held { Held (book kinds.now insides.now numbers.now) i (i + n) left }
+    requires held_2 { Held (book kinds.now insides.now numbers.now) j (j + m) left }
+    ensures { OfTwo (book kinds.now insides.now numbers.now) i (i + n) j (j + m) left (λ s t. result ≡ same_sum s t) }
 {
     let end = i + n;
     let stop = j + m;
@@ -237,9 +237,9 @@ pub fn find(
     n: usize,
     left: usize,
 ) -> Found
-    requires held { Held (lent kinds insides numbers) i (i + x.inside) left }
-    requires held_2 { Held (lent kinds insides numbers) p (p + n) left }
-    ensures { OfTwo (entering kinds insides numbers) p (p + n) i (i + x.inside) left (λ s t. result ≡ place x t s p) }
+    requires held { Held (book kinds.now insides.now numbers.now) i (i + x.inside) left }
+    requires held_2 { Held (book kinds.now insides.now numbers.now) p (p + n) left }
+    ensures { OfTwo (book kinds.now insides.now numbers.now) p (p + n) i (i + x.inside) left (λ s t. result ≡ place x t s p) }
 {
     let end = p + n;
     let mut k = p;
@@ -299,9 +299,9 @@ pub fn find_power(
     n: usize,
     end: usize,
 ) -> Found
-    requires t { T (finite num) × Held (lent kinds insides numbers) p (p + n) sum_levels }
-    requires of_one { OfOne (lent kinds insides numbers) p (p + n) sum_levels (λ s. end ≡ p + powers s) }
-    ensures { (s : Sum) (x : Entry) → Lies (entering kinds insides numbers) p (p + n) sum_levels s → x.kind ≡ X → x.num ≡ num → result ≡ place x none s p }
+    requires t { T (finite num) × Held (book kinds.now insides.now numbers.now) p (p + n) sum_levels }
+    requires of_one { OfOne (book kinds.now insides.now numbers.now) p (p + n) sum_levels (λ s. end ≡ p + powers s) }
+    ensures { (s : Sum) (x : Entry) → Lies (book kinds.now insides.now numbers.now) p (p + n) sum_levels s → x.kind ≡ X → x.num ≡ num → result ≡ place x none s p }
 {
     let mut k = end;
     while p < k {

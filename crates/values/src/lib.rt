@@ -5,7 +5,7 @@ pub mod powers;
 
 ghost use Rattle.std.specs.Prelude.{◌≡◌, [], ◌+◌, ◌-◌, ◌≤◌, ◌<◌};
 ghost use Rattle.limits.specs.Limits.{sum_levels};
-ghost use Rattle.cells.specs.Contract.Book.{lent, entering};
+ghost use Rattle.cells.specs.Contract.Book.{book};
 ghost use Rattle.running.specs.Primitives.{times};
 ghost use Rattle.sums.specs.Contract.Lies.{Held, OfOne};
 ghost use Rattle.values.specs.Value.{is_one, times_unless};
@@ -214,8 +214,8 @@ fn nothing_found(x: f64) -> Found
 
 // The outermost terms of the sum of the first n cells, in turn.
 fn find(kinds: &[u8], insides: &[u8], numbers: &[[u64; 3]], n: usize, x: f64) -> Found
-    requires { Held (lent kinds insides numbers) 0 n sum_levels }
-    ensures { OfOne (entering kinds insides numbers) 0 n sum_levels (λ s. Finds x s result) }
+    requires { Held (book kinds.now insides.now numbers.now) 0 n sum_levels }
+    ensures { OfOne (book kinds.now insides.now numbers.now) 0 n sum_levels (λ s. Finds x s result) }
 {
     let mut f = nothing_found(x);
     let mut i = 0usize;
@@ -229,8 +229,8 @@ fn find(kinds: &[u8], insides: &[u8], numbers: &[[u64; 3]], n: usize, x: f64) ->
 
 // The value at x of the sum of the first n cells.
 pub fn value_of(kinds: &[u8], insides: &[u8], numbers: &[[u64; 3]], n: usize, x: f64) -> ValueAnswer
-    requires { Held (lent kinds insides numbers) 0 n sum_levels }
-    ensures { OfOne (entering kinds insides numbers) 0 n sum_levels (λ s. result ≡ value_of s x) }
+    requires { Held (book kinds.now insides.now numbers.now) 0 n sum_levels }
+    ensures { OfOne (book kinds.now insides.now numbers.now) 0 n sum_levels (λ s. result ≡ value_of s x) }
 {
     if !numbers::is_finite(x) {
         return ValueAnswer::Refused(Refusal::NotFinite);

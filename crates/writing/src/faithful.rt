@@ -3,7 +3,7 @@
 ghost use Rattle.std.specs.Prelude.{◌+◌, ◌*◌, ◌≤◌, T, length, false, ◌≡◌};
 ghost use Rattle.std.specs.Float.Ieee.Scale.{finite};
 ghost use Rattle.std.proofs.lemmas.List.Edits.{sets};
-ghost use Rattle.cells.specs.Contract.Book.{lent, entering};
+ghost use Rattle.cells.specs.Contract.Book.{book};
 ghost use Rattle.formats.specs.Bytes.{part};
 ghost use Rattle.formats.specs.Tree.{end};
 ghost use Rattle.limits.specs.Limits.{sum_entries, sum_levels};
@@ -46,8 +46,8 @@ fn write_apart(
     left: usize,
     b: &mut [u8],
 ) -> Said
-    requires { Held (lent kinds insides numbers) i (i + n) left × Separate b.old n left }
-    ensures { OfOne (entering kinds insides numbers) i (i + n) left (λ t. AtFront b.old b.new result (10 * n + 2) (write_faithful complex t false end)) }
+    requires { Held (book kinds.now insides.now numbers.now) i (i + n) left × Separate b.old n left }
+    ensures { OfOne (book kinds.now insides.now numbers.now) i (i + n) left (λ t. AtFront b.old b.new result (10 * n + 2) (write_faithful complex t false end)) }
 {
     let e = Draft {
         from: ARGUMENT_FRONT,
@@ -76,8 +76,8 @@ fn write_argument(
     b: &mut [u8],
     d: Draft,
 ) -> Said
-    requires { Held (lent kinds insides numbers) i (i + n) left × Ready b.old d 0 (10 * n + 2 + argument_front * (left + 1)) × (n ≤ sum_entries) }
-    ensures { OfOne (entering kinds insides numbers) i (i + n) left (λ t. Spoken b.old b.new d result 0 (10 * n + 2) (λ ns. apart complex t ns)) }
+    requires { Held (book kinds.now insides.now numbers.now) i (i + n) left × Ready b.old d 0 (10 * n + 2 + argument_front * (left + 1)) × (n ≤ sum_entries) }
+    ensures { OfOne (book kinds.now insides.now numbers.now) i (i + n) left (λ t. Spoken b.old b.new d result 0 (10 * n + 2) (λ ns. apart complex t ns)) }
 {
     let start = RECORD_BYTES * d.end;
     match write_apart(
@@ -111,9 +111,9 @@ fn write_term(
     b: &mut [u8],
     d: Draft,
 ) -> Said
-    requires { Held (lent kinds insides numbers) i (i + x.inside) left × Ready b.old d (2 * x.inside) (10 * x.inside + 5 + argument_front * (left + 1))
+    requires { Held (book kinds.now insides.now numbers.now) i (i + x.inside) left × Ready b.old d (2 * x.inside) (10 * x.inside + 5 + argument_front * (left + 1))
         × T (finite x.num) × (x.inside ≤ sum_entries) }
-    ensures { OfOne (entering kinds insides numbers) i (i + x.inside) left (λ t. TermApart complex x t b.old b.new d result) }
+    ensures { OfOne (book kinds.now insides.now numbers.now) i (i + x.inside) left (λ t. TermApart complex x t b.old b.new d result) }
 {
     if x.kind == sums::tree::X {
         return crate::write_power(b, d, x.num, complex, x.coef);
@@ -148,9 +148,9 @@ fn write_turn(
     b: &mut [u8],
     d: Draft,
 ) -> Said
-    requires { Held (lent kinds insides numbers) i (i + x.inside) left × Ready b.old d (2 * x.inside + 2) (10 * x.inside + 9 + argument_front * (left + 1))
+    requires { Held (book kinds.now insides.now numbers.now) i (i + x.inside) left × Ready b.old d (2 * x.inside + 2) (10 * x.inside + 9 + argument_front * (left + 1))
         × T (finite x.num) × (x.inside ≤ sum_entries) }
-    ensures { OfOne (entering kinds insides numbers) i (i + x.inside) left (λ t. TurnApart complex identity x t b.old b.new d result) }
+    ensures { OfOne (book kinds.now insides.now numbers.now) i (i + x.inside) left (λ t. TurnApart complex identity x t b.old b.new d result) }
 {
     if x.coef.is_zero() {
         return Said::Done(d);
@@ -176,8 +176,8 @@ fn write_sum(
     b: &mut [u8],
     d: Draft,
 ) -> Said
-    requires { Held (lent kinds insides numbers) j (j + m) left × Ready b.old d (2 * m) (10 * m + 2 + argument_front * left) × (m ≤ sum_entries) }
-    ensures { OfOne (entering kinds insides numbers) j (j + m) left (λ s. Spoken b.old b.new d result (2 * m) (10 * m + 2) (λ ns. write_faithful complex s false ns)) }
+    requires { Held (book kinds.now insides.now numbers.now) j (j + m) left × Ready b.old d (2 * m) (10 * m + 2 + argument_front * left) × (m ≤ sum_entries) }
+    ensures { OfOne (book kinds.now insides.now numbers.now) j (j + m) left (λ s. Spoken b.old b.new d result (2 * m) (10 * m + 2) (λ ns. write_faithful complex s false ns)) }
 {
     let mut q = j;
     let mut identity = false;
@@ -223,8 +223,8 @@ fn write_functions(
     complex: bool,
     out: &mut [u8],
 ) -> Wrote
-    requires { Held (lent kinds insides numbers) j (j + m) sum_levels × (m ≤ sum_entries) }
-    ensures { OfOne (entering kinds insides numbers) j (j + m) sum_levels (λ s. Answered out.old out.new result (faithful complex s)) }
+    requires { Held (book kinds.now insides.now numbers.now) j (j + m) sum_levels × (m ≤ sum_entries) }
+    ensures { OfOne (book kinds.now insides.now numbers.now) j (j + m) sum_levels (λ s. Answered out.old out.new result (faithful complex s)) }
 {
     let mut b = [0u8; RECORD_BYTES * DRAFT_RECORDS];
     let d = Draft {
@@ -247,8 +247,8 @@ pub fn expr_to_node(
     complex: bool,
     out: &mut [u8],
 ) -> Wrote
-    requires { Held (lent kinds insides numbers) j (j + m) sum_levels × (m ≤ sum_entries) }
-    ensures { OfOne (entering kinds insides numbers) j (j + m) sum_levels (λ s. Answered out.old out.new result (faithful complex s)) }
+    requires { Held (book kinds.now insides.now numbers.now) j (j + m) sum_levels × (m ≤ sum_entries) }
+    ensures { OfOne (book kinds.now insides.now numbers.now) j (j + m) sum_levels (λ s. Answered out.old out.new result (faithful complex s)) }
 {
     if sums::order::powers_end(kinds, j, m) == j + m {
         return crate::expr_to_node(kinds, insides, numbers, j, m, complex, out);

@@ -7,7 +7,7 @@ pub mod draft;
 pub mod faithful;
 
 ghost use Rattle.std.specs.Prelude.{◌+◌, ◌*◌, ◌≤◌, T, false, ◌≡◌};
-ghost use Rattle.cells.specs.Contract.Book.{lent, entering};
+ghost use Rattle.cells.specs.Contract.Book.{book};
 ghost use Rattle.limits.specs.Limits.{sum_entries, sum_levels};
 ghost use Rattle.numbers.specs.Signs.{zero64};
 ghost use Rattle.sums.specs.Contract.Lies.{Held, OfOne};
@@ -218,8 +218,8 @@ fn write_term(
     b: &mut [u8],
     d: Draft,
 ) -> Said
-    requires { Held (lent kinds insides numbers) i (i + x.inside) left × Ready b.old d (2 * x.inside) (9 * x.inside + 5) × T (finite x.num) }
-    ensures { OfOne (entering kinds insides numbers) i (i + x.inside) left (λ t. TermSpoken complex x t b.old b.new d result) }
+    requires { Held (book kinds.now insides.now numbers.now) i (i + x.inside) left × Ready b.old d (2 * x.inside) (9 * x.inside + 5) × T (finite x.num) }
+    ensures { OfOne (book kinds.now insides.now numbers.now) i (i + x.inside) left (λ t. TermSpoken complex x t b.old b.new d result) }
 {
     if x.kind == sums::tree::X {
         return write_power(b, d, x.num, complex, x.coef);
@@ -254,8 +254,8 @@ fn write_turn(
     b: &mut [u8],
     d: Draft,
 ) -> Said
-    requires { Held (lent kinds insides numbers) i (i + x.inside) left × Ready b.old d (2 * x.inside + 2) (9 * x.inside + 9) × T (finite x.num) }
-    ensures { OfOne (entering kinds insides numbers) i (i + x.inside) left (λ t. TurnSpoken complex identity x t b.old b.new d result) }
+    requires { Held (book kinds.now insides.now numbers.now) i (i + x.inside) left × Ready b.old d (2 * x.inside + 2) (9 * x.inside + 9) × T (finite x.num) }
+    ensures { OfOne (book kinds.now insides.now numbers.now) i (i + x.inside) left (λ t. TurnSpoken complex identity x t b.old b.new d result) }
 {
     if x.coef.is_zero() {
         return Said::Done(d);
@@ -281,8 +281,8 @@ fn write_sum(
     b: &mut [u8],
     d: Draft,
 ) -> Said
-    requires { Held (lent kinds insides numbers) j (j + m) left × Ready b.old d (2 * m) (9 * m + 2) }
-    ensures { OfOne (entering kinds insides numbers) j (j + m) left (λ s. Spoken b.old b.new d result (2 * m) (9 * m + 2) (λ ns. write complex s false ns)) }
+    requires { Held (book kinds.now insides.now numbers.now) j (j + m) left × Ready b.old d (2 * m) (9 * m + 2) }
+    ensures { OfOne (book kinds.now insides.now numbers.now) j (j + m) left (λ s. Spoken b.old b.new d result (2 * m) (9 * m + 2) (λ ns. write complex s false ns)) }
 {
     let mut q = j;
     let mut identity = false;
@@ -336,8 +336,8 @@ fn write_in(
     front: usize,
     out: &mut [u8],
 ) -> Wrote
-    requires { Held (lent kinds insides numbers) j (j + m) sum_levels × Spacious b.old front m }
-    ensures { OfOne (entering kinds insides numbers) j (j + m) sum_levels (λ s. Answered out.old out.new result (to_nodes complex s)) }
+    requires { Held (book kinds.now insides.now numbers.now) j (j + m) sum_levels × Spacious b.old front m }
+    ensures { OfOne (book kinds.now insides.now numbers.now) j (j + m) sum_levels (λ s. Answered out.old out.new result (to_nodes complex s)) }
 {
     let d = Draft {
         from: front,
@@ -357,8 +357,8 @@ fn write_few(
     complex: bool,
     out: &mut [u8],
 ) -> Wrote
-    requires { Held (lent kinds insides numbers) j (j + m) sum_levels × (m ≤ few_entries) }
-    ensures { OfOne (entering kinds insides numbers) j (j + m) sum_levels (λ s. Answered out.old out.new result (to_nodes complex s)) }
+    requires { Held (book kinds.now insides.now numbers.now) j (j + m) sum_levels × (m ≤ few_entries) }
+    ensures { OfOne (book kinds.now insides.now numbers.now) j (j + m) sum_levels (λ s. Answered out.old out.new result (to_nodes complex s)) }
 {
     let mut b = [0u8; RECORD_BYTES * FEW_RECORDS];
     write_in(
@@ -376,8 +376,8 @@ fn write_many(
     complex: bool,
     out: &mut [u8],
 ) -> Wrote
-    requires { Held (lent kinds insides numbers) j (j + m) sum_levels × (m ≤ sum_entries) }
-    ensures { OfOne (entering kinds insides numbers) j (j + m) sum_levels (λ s. Answered out.old out.new result (to_nodes complex s)) }
+    requires { Held (book kinds.now insides.now numbers.now) j (j + m) sum_levels × (m ≤ sum_entries) }
+    ensures { OfOne (book kinds.now insides.now numbers.now) j (j + m) sum_levels (λ s. Answered out.old out.new result (to_nodes complex s)) }
 {
     let mut b = [0u8; RECORD_BYTES * DRAFT_RECORDS];
     write_in(kinds, insides, numbers, j, m, complex, &mut b, FRONT, out)
@@ -393,8 +393,8 @@ pub fn expr_to_node(
     complex: bool,
     out: &mut [u8],
 ) -> Wrote
-    requires { Held (lent kinds insides numbers) j (j + m) sum_levels × (m ≤ sum_entries) }
-    ensures { OfOne (entering kinds insides numbers) j (j + m) sum_levels (λ s. Answered out.old out.new result (to_nodes complex s)) }
+    requires { Held (book kinds.now insides.now numbers.now) j (j + m) sum_levels × (m ≤ sum_entries) }
+    ensures { OfOne (book kinds.now insides.now numbers.now) j (j + m) sum_levels (λ s. Answered out.old out.new result (to_nodes complex s)) }
 {
     if m <= FEW_ENTRIES {
         return write_few(kinds, insides, numbers, j, m, complex, out);
