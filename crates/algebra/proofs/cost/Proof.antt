@@ -5,5 +5,5 @@ use Rattle.algebra.specs.Replies.{of_cost}
 use Rattle.algebra.proofs.cost.Statement.{statement}
 use Rattle.algebra.proofs.cost.Tie as tie
 
-pub cost-spec : {M : Type 1} → statement M
-cost-spec = tie.close (tie.spec (λ c κs. search rules) (λ c. (ap of_cost c.cost.ensures, refl)))
+pub cost_spec : {M : Type 1} → statement M
+cost_spec = tie.close (tie.spec (λ c κs. search rules) (λ c. (ap of_cost c.cost.ensures, refl)))

@@ -7,7 +7,7 @@ use Rattle.algebra.proofs.derivative_faithful.Tie as tie
 
 returns : tie.Need-returns
 unfolding derivative_faithful
-returns c = (c.before.before.make-list.result, refl, c.before.before.make-list.ensures)
+returns c = (c.make_list.result, refl, c.make_list.ensures)
 
-pub derivative-faithful-spec : {M : Type 1} → statement M
-derivative-faithful-spec = tie.close (tie.spec (λ c κs. search rules) (λ c. search rules) returns)
+pub derivative_faithful_spec : {M : Type 1} → statement M
+derivative_faithful_spec = tie.close (tie.spec (λ c κs. search rules) (λ c. search rules) returns)

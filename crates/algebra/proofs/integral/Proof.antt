@@ -7,7 +7,7 @@ use Rattle.algebra.proofs.integral.Tie as tie
 
 returns : tie.Need-returns
 unfolding integral
-returns c = (c.before.before.make-list.result, refl, c.before.before.make-list.ensures)
+returns c = (c.make_list.result, refl, c.make_list.ensures)
 
-pub integral-spec : {M : Type 1} → statement M
-integral-spec = tie.close (tie.spec (λ c κs. search rules) (λ c. search rules) returns)
+pub integral_spec : {M : Type 1} → statement M
+integral_spec = tie.close (tie.spec (λ c κs. search rules) (λ c. search rules) returns)

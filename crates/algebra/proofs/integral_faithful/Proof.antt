@@ -7,7 +7,7 @@ use Rattle.algebra.proofs.integral_faithful.Tie as tie
 
 returns : tie.Need-returns
 unfolding integral_faithful
-returns c = (c.before.before.make-list.result, refl, c.before.before.make-list.ensures)
+returns c = (c.make_list.result, refl, c.make_list.ensures)
 
-pub integral-faithful-spec : {M : Type 1} → statement M
-integral-faithful-spec = tie.close (tie.spec (λ c κs. search rules) (λ c. search rules) returns)
+pub integral_faithful_spec : {M : Type 1} → statement M
+integral_faithful_spec = tie.close (tie.spec (λ c κs. search rules) (λ c. search rules) returns)

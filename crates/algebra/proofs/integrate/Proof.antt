@@ -7,24 +7,24 @@ use Rattle.algebra.proofs.integrate.Tie as tie
 
 integrate-requires : tie.Need-integrate-requires
 integrate-requires c κs =
-    let after-taken2 = c.before.before.before.before.before in
-    let after-take-in = after-taken2.before.before.before.before.before in
-    (bytes-source (after-take-in.take_in.ensures.1 _ after-taken2.taken2.given.1), record { kinds = search rules; insides = search rules; numbers = search rules })
+    let after-taken2 = c in
+    let after-take-in = after-taken2 in
+    (bytes-source (after-take-in.take_in-taken.ensures.1 _ after-taken2.in-Sum.is), record { kinds = search rules; insides = search rules; numbers = search rules })
 
-returns : tie.Need-returns
+returns : tie.Need-returns-in-Refused
 returns c =
-    let after-take-in = c.before.before.before.before.before.before in
-    let start = after-take-in.before.before.before.before.before.before in
-    (_, refl, bytes-refused after-take-in.take_in.ensures.0 start.args.out.now c.before.taken.given.1)
+    let after-take-in = c in
+    let start = after-take-in in
+    (_, refl, bytes-refused after-take-in.take_in-taken.ensures.0 start.args.out.now c.in-Refused.is)
 
-returns-2 : tie.Need-returns-2
+returns-2 : tie.Need-returns-in-Sum
 returns-2 c =
-    let took = c.before.before.before.before.before.before.before.before.before.before.before.before.before.before.before.before.take_in.ensures in
-    let given = c.before.before.before.before.before.before.before.before.before.before.before.taken2.given.1 in
-    (_, refl, bytes-made took.0 given (took.1 _ given) c.before.before.before.before.before.integrate.ensures)
+    let took = c.take_in-taken.ensures in
+    let given = c.in-Sum.is in
+    (_, refl, bytes-made took.0 given (took.1 _ given) c.integrate.ensures)
 
-pub integrate-spec : {M : Type 1} → statement M
-integrate-spec =
+pub integrate_spec : {M : Type 1} → statement M
+integrate_spec =
     tie.close
     (tie.spec
     (λ c. search rules)

@@ -7,7 +7,7 @@ use Rattle.algebra.proofs.inverse.Tie as tie
 
 returns : tie.Need-returns
 unfolding inverse
-returns c = (c.before.before.make-list.result, refl, c.before.before.make-list.ensures)
+returns c = (c.make_list.result, refl, c.make_list.ensures)
 
-pub inverse-spec : {M : Type 1} → statement M
-inverse-spec = tie.close (tie.spec (λ c κs. search rules) (λ c. search rules) returns)
+pub inverse_spec : {M : Type 1} → statement M
+inverse_spec = tie.close (tie.spec (λ c κs. search rules) (λ c. search rules) returns)

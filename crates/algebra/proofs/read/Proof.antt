@@ -5,7 +5,7 @@ use Rattle.algebra.proofs.read.Statement.{statement}
 use Rattle.algebra.proofs.read.Tie as tie
 
 returns : tie.Need-returns
-returns c = (c.before.before.make-flagged.result, refl, c.before.before.make-flagged.ensures)
+returns c = (c.make_flagged.result, refl, c.make_flagged.ensures)
 
 pub read_spec : {M : Type 1} → statement M
 read_spec = tie.close (tie.spec (λ c κs. search rules) (λ c. search rules) returns)

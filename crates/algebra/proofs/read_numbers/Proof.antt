@@ -4,14 +4,14 @@ use borrow.Author.Rules.{rules}
 use Rattle.algebra.proofs.read_numbers.Statement.{statement}
 use Rattle.algebra.proofs.read_numbers.Tie as tie
 
-returns : tie.Need-returns
-returns c = rw c.before.r.given.1 refl
+returns : tie.Need-returns-in-Sum
+returns c = rw c.in-Sum.is refl
 
-returns-2 : tie.Need-returns-2
-returns-2 c = rw c.before.before.r2.given.1 (rw c.refusal-no.ensures refl)
+returns-2 : tie.Need-returns-in-Refused
+returns-2 c = rw c.in-Refused.is (rw c.refusal_no.ensures refl)
 
-pub read-numbers-spec : {M : Type 1} → statement M
-read-numbers-spec =
+pub read_numbers_spec : {M : Type 1} → statement M
+read_numbers_spec =
     tie.close
     (tie.spec
     (λ c. search rules)

@@ -4,10 +4,10 @@ use borrow.Author.Rules.{rules}
 use Rattle.algebra.proofs.value.Statement.{statement}
 use Rattle.algebra.proofs.value.Tie as tie
 
-returns : tie.Need-returns
+returns : tie.Need-returns-in-Answer
 returns c =
-    let quick = c.before.quick.given in
-    (quick.0.0, refl, c.before.before.before.quick-value.ensures quick.0.0 quick.1, refl)
+    let quick = c.quick-1.given in
+    (quick.0.0, refl, c.quick_value-quick.ensures quick.0.0 quick.1, refl)
 
 pub value_spec : {M : Type 1} → statement M
 value_spec =

@@ -4,26 +4,26 @@ use borrow.Author.Rules.{rules}
 use Rattle.algebra.proofs.value_taken.Statement.{statement}
 use Rattle.algebra.proofs.value_taken.Tie as tie
 
-value-of-requires : tie.Need-value-of-requires
+value-of-requires : tie.Need-value_of-requires
 value-of-requires c κs =
-    let after-taken2 = c.before.before.before.before in
-    let after-take-in = after-taken2.before.before.before.before.before in
-    value-held (after-take-in.take_in.ensures.1 _ after-taken2.taken2.given.1)
+    let after-taken2 = c in
+    let after-take-in = after-taken2 in
+    value-held (after-take-in.take_in-taken.ensures.1 _ after-taken2.in-Sum.is)
 
-returns : tie.Need-returns
+returns : tie.Need-returns-in-Refused
 returns c =
-    let after-take-in = c.before.before.before.before.before.before in
-    value-refused after-take-in.take_in.ensures.0 c.before.taken.given.1
+    let after-take-in = c in
+    value-refused after-take-in.take_in-taken.ensures.0 c.in-Refused.is
 
-returns-2 : tie.Need-returns-2
+returns-2 : tie.Need-returns-in-Sum
 returns-2 c =
-    let after-taken2 = c.before.before.before.before.before in
-    let took = after-taken2.before.before.before.before.before.take_in.ensures in
-    let given = after-taken2.taken2.given.1 in
+    let after-taken2 = c in
+    let took = after-taken2.take_in-taken.ensures in
+    let given = after-taken2.in-Sum.is in
     value_taken took.0 given (took.1 _ given) c.value_of_lem.ensures
 
-pub value-taken-spec : {M : Type 1} → statement M
-value-taken-spec =
+pub value_taken_spec : {M : Type 1} → statement M
+value_taken_spec =
     tie.close
     (tie.spec
     (λ c. search rules)

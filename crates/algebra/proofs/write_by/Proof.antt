@@ -4,26 +4,26 @@ use borrow.Author.Rules.{rules}
 use Rattle.algebra.proofs.write_by.Statement.{statement}
 use Rattle.algebra.proofs.write_by.Tie as tie
 
-write-sum-requires : tie.Need-write-sum-requires
+write-sum-requires : tie.Need-write_sum-requires
 write-sum-requires c κs =
-    let after-taken2 = c.before.before.before.before.before in
-    let after-take-in = after-taken2.before.before.before.before.before in
-    bytes-held (after-take-in.take_in.ensures.1 _ after-taken2.taken2.given.1)
+    let after-taken2 = c in
+    let after-take-in = after-taken2 in
+    bytes-held (after-take-in.take_in-taken.ensures.1 _ after-taken2.in-Sum.is)
 
-returns : tie.Need-returns
+returns : tie.Need-returns-in-Refused
 returns c =
-    let after-take-in = c.before.before.before.before.before.before in
-    let start = after-take-in.before.before.before.before.before.before in
-    (bytes-refused after-take-in.take_in.ensures.0 start.args.out.now c.before.taken.given.1)
+    let after-take-in = c in
+    let start = after-take-in in
+    (bytes-refused after-take-in.take_in-taken.ensures.0 start.args.out.now c.in-Refused.is)
 
-returns-2 : tie.Need-returns-2
+returns-2 : tie.Need-returns-in-Sum
 returns-2 c =
-    let took = c.before.before.before.before.before.before.before.before.before.before.before.before.before.take_in.ensures in
-    let given = c.before.before.before.before.before.before.before.before.taken2.given.1 in
-    (bytes-made took.0 given (took.1 _ given) c.before.before.write-sum.ensures)
+    let took = c.take_in-taken.ensures in
+    let given = c.in-Sum.is in
+    (bytes-made took.0 given (took.1 _ given) c.write_sum.ensures)
 
-pub write-by-spec : {M : Type 1} → statement M
-write-by-spec =
+pub write_by_spec : {M : Type 1} → statement M
+write_by_spec =
     tie.close
     (tie.spec
     (λ c. search rules)

@@ -20,13 +20,13 @@ rows =
     ∷ (0 ∷ 0 ∷ 0 ∷ 0 ∷ 0 ∷ 0 ∷ 0 ∷ 4 ∷ [])
     ∷ []
 
-sub-i : tie.Need-overflow-sub-i
+sub-i : tie.Need-overflow_sub-i
 sub-i c = search rules
 
-sub-j : tie.Need-overflow-sub-j
+sub-j : tie.Need-overflow_sub-j
 sub-j c = search rules
 
-mul-result : tie.Need-overflow-mul-result
+mul-result : tie.Need-offset_bounds-i
 mul-result c = search rules
 
 index-1-result : tie.Need-bounds-1-result
@@ -38,8 +38,8 @@ index-2-result c = search rules
 returns : tie.Need-returns
 unfolding rows
 returns c =
-    let a = c.before.args in
+    let a = c.args in
     by-kinds quotient_code rows tt refl a.k a.l (search rules) (search rules) (search rules) (search rules)
 
-pub quotient-code-spec : {M : Type 1} → statement M
-quotient-code-spec = tie.close (tie.spec sub-i sub-j mul-result index-1-result index-2-result returns)
+pub quotient_code_spec : {M : Type 1} → statement M
+quotient_code_spec = tie.close (tie.spec sub-i sub-j mul-result index-1-result index-2-result returns)

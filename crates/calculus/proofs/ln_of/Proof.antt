@@ -4,15 +4,15 @@ use Rattle.calculus.proofs.Bases.{ln-one, ln-two, ln-ten, ln-other}
 use Rattle.calculus.proofs.ln_of.Statement.{statement}
 use Rattle.calculus.proofs.ln_of.Tie as tie
 
-pub ln-of-spec : {M : Type 1} → statement M
-ln-of-spec =
+pub ln_of_spec : {M : Type 1} → statement M
+ln_of_spec =
     tie.close
     (tie.spec
     (λ c κs. search rules)
-    (λ c. ln-one c.before.before.args.base c.before.e.ensures c.if1.true)
+    (λ c. ln-one c.args.base c.e.ensures c.if-base-e.true)
     (λ c κs. search rules)
-    (λ c. ln-two c.before.before.before.before.args.base c.before.before.before.e.ensures c.before.before.if1.false c.ln-2.ensures c.before.if2.true)
+    (λ c. ln-two c.args.base c.e.ensures c.if-base-e.false c.ln_2.ensures c.if-base.true)
     (λ c κs. search rules)
-    (λ c. ln-ten c.before.before.before.before.before.args.base c.before.before.before.before.e.ensures c.before.before.before.if1.false c.ln-10.ensures
-    c.before.before.if2.false c.before.if3.true)
-    (λ c. ln-other c.before.before.before.before.args.base c.before.before.before.e.ensures c.before.before.if1.false c.before.if2.false c.if3.false))
+    (λ c. ln-ten c.args.base c.e.ensures c.if-base-e.false c.ln_10.ensures
+    c.if-base.false c.if-base-2.true)
+    (λ c. ln-other c.args.base c.e.ensures c.if-base-e.false c.if-base.false c.if-base-2.false))

@@ -5,6 +5,6 @@ use Rattle.numbers.specs.Complex.Arith as complex
 use Rattle.calculus.proofs.vanishes.Statement.{statement}
 use Rattle.calculus.proofs.vanishes.Tie as tie
 
-pub vanishes-spec : {M : Type 1} → statement M
-vanishes-spec =
-    tie.close (tie.spec (λ c κs. search rules) (λ c κs. search rules) (λ c. c.is_zero.ensures ∙ ap (λ z. complex.same z complex.zero) c.before.slope.ensures))
+pub vanishes_spec : {M : Type 1} → statement M
+vanishes_spec =
+    tie.close (tie.spec (λ c κs. search rules) (λ c κs. search rules) (λ c. c.is_zero.ensures ∙ ap (λ z. complex.same z complex.zero) c.slope.ensures))

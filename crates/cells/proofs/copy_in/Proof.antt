@@ -9,21 +9,21 @@ use Rattle.cells.proofs.Writes.{copied_none, copied_more, copied-done}
 use Rattle.cells.proofs.copy_in.Statement.{statement}
 use Rattle.cells.proofs.copy_in.Tie as tie
 
-abbrev invariant-loop : tie.invariant-loop
+abbrev invariant-loop : tie.invariant-loop-j
 invariant-loop from-kinds from-insides from-numbers i n kinds₀ insides₀ numbers₀ k j₀ kinds insides numbers j =
     (j ≤ n) × Copied (book from-kinds from-insides from-numbers) (book kinds₀ insides₀ numbers₀) (book kinds insides numbers) i j k
 
-abbrev decreases-loop : tie.decreases-loop
+abbrev decreases-loop : tie.decreases-loop-j
 decreases-loop from-kinds from-insides from-numbers i n kinds₀ insides₀ numbers₀ k j₀ kinds insides numbers j = n - j
 
-loop-again : tie.Need-loop-preserved invariant-loop decreases-loop
+loop-again : tie.Need-loop-j-preserved invariant-loop decreases-loop
 loop-again c =
-    let turn = c.before.before.before in
-    let copied = turn.before.loop.invariant.1 in
+    let turn = c in
+    let copied = turn.loop-j.invariant.1 in
     (omega arith, copied_more _ _ (book _ _ _) _ _ _ _ copied (omega arith) refl)
 
 returns : tie.Need-returns invariant-loop decreases-loop
-returns c = copied-done c.before.loop.invariant.1 (omega arith)
+returns c = copied-done c.loop-j.invariant.1 (omega arith)
 
 pub copy_in_spec : {M : Type 1} → statement M
 copy_in_spec =

@@ -8,26 +8,26 @@ use Rattle.cells.proofs.Writes.{copied_none, copied_more, copied-done, unread}
 use Rattle.cells.proofs.copy_within.Statement.{statement}
 use Rattle.cells.proofs.copy_within.Tie as tie
 
-abbrev invariant-loop : tie.invariant-loop
+abbrev invariant-loop : tie.invariant-loop-j
 invariant-loop kinds₀ insides₀ numbers₀ i n k j₀ kinds insides numbers j =
     (j ≤ n) × Copied (book kinds₀ insides₀ numbers₀) (book kinds₀ insides₀ numbers₀) (book kinds insides numbers) i j k
 
-abbrev decreases-loop : tie.decreases-loop
+abbrev decreases-loop : tie.decreases-loop-j
 decreases-loop kinds₀ insides₀ numbers₀ i n k j₀ kinds insides numbers j = n - j
 
-loop-again : tie.Need-loop-preserved invariant-loop decreases-loop
+loop-again : tie.Need-loop-j-preserved invariant-loop decreases-loop
 loop-again c =
-    let turn = c.before.before.before in
-    let at-loop = turn.before in
-    let start = at-loop.before in
-    let copied = at-loop.loop.invariant.1 in
-    (omega arith, copied_more _ _ (book _ _ _) _ _ _ _ copied (omega arith) (unread copied turn.loop-test.true start.requires.2))
+    let turn = c in
+    let at-loop = turn in
+    let start = at-loop in
+    let copied = at-loop.loop-j.invariant.1 in
+    (omega arith, copied_more _ _ (book _ _ _) _ _ _ _ copied (omega arith) (unread copied turn.loop-j-test.true start.requires.2))
 
 returns : tie.Need-returns invariant-loop decreases-loop
-returns c = copied-done c.before.loop.invariant.1 (omega arith)
+returns c = copied-done c.loop-j.invariant.1 (omega arith)
 
-pub copy-within-spec : {M : Type 1} → statement M
-copy-within-spec =
+pub copy_within_spec : {M : Type 1} → statement M
+copy_within_spec =
     tie.close
     (tie.spec
     invariant-loop

@@ -5,14 +5,14 @@ use Rattle.numbers.proofs.Bits.{no_nan}
 use Rattle.cells.proofs.load.Statement.{statement}
 use Rattle.cells.proofs.load.Tie as tie
 
-float-from-bits-re : tie.Need-float-from-bits-re
-float-from-bits-re c = rw nan_bits_is (no_nan _ c.before.requires.1.re)
+float-from-bits-re : tie.Need-float_from_bits-re
+float-from-bits-re c = rw nan_bits_is (no_nan _ c.requires.1.re)
 
-float-from-bits-im : tie.Need-float-from-bits-im
-float-from-bits-im c = rw nan_bits_is (no_nan _ c.before.requires.1.im)
+float-from-bits-im : tie.Need-float_from_bits-im
+float-from-bits-im c = rw nan_bits_is (no_nan _ c.requires.1.im)
 
-float-from-bits-num : tie.Need-float-from-bits-t22
-float-from-bits-num c = rw nan_bits_is (no_nan _ c.before.before.before.requires.1.num)
+float-from-bits-num : tie.Need-float_from_bits-result
+float-from-bits-num c = rw nan_bits_is (no_nan _ c.requires.1.num)
 
 pub load_spec : {M : Type 1} → statement M
 load_spec =

@@ -8,24 +8,24 @@ use Rattle.cells.proofs.Writes.{moved_none, moved_more, moved-done}
 use Rattle.cells.proofs.open_gap.Statement.{statement}
 use Rattle.cells.proofs.open_gap.Tie as tie
 
-abbrev invariant-loop : tie.invariant-loop
+abbrev invariant-loop : tie.invariant-loop-j
 invariant-loop kinds₀ insides₀ numbers₀ k e d j₀ kinds insides numbers j = (k ≤ j) × (j ≤ e) × Moved (book kinds₀ insides₀ numbers₀) (book kinds insides numbers) j e d
 
-abbrev decreases-loop : tie.decreases-loop
+abbrev decreases-loop : tie.decreases-loop-j
 decreases-loop kinds₀ insides₀ numbers₀ k e d j₀ kinds insides numbers j = j
 
-loop-again : tie.Need-loop-preserved invariant-loop decreases-loop
+loop-again : tie.Need-loop-j-preserved invariant-loop decreases-loop
 loop-again c =
-    let turn = c.before.before.before in
-    let at-loop = turn.before in
-    let start = at-loop.before in
-    (omega arith, omega arith, moved_more _ (book _ _ _) _ _ _ at-loop.loop.invariant.2 (omega arith) (omega arith) start.requires.1)
+    let turn = c in
+    let at-loop = turn in
+    let start = at-loop in
+    (omega arith, omega arith, moved_more _ (book _ _ _) _ _ _ at-loop.loop-j.invariant.2 (omega arith) (omega arith) start.requires.1)
 
 returns : tie.Need-returns invariant-loop decreases-loop
-returns c = moved-done c.before.loop.invariant.2 (omega arith)
+returns c = moved-done c.loop-j.invariant.2 (omega arith)
 
-pub open-gap-spec : {M : Type 1} → statement M
-open-gap-spec =
+pub open_gap_spec : {M : Type 1} → statement M
+open_gap_spec =
     tie.close
     (tie.spec
     invariant-loop

@@ -7,15 +7,15 @@ use Rattle.cells.proofs.store.Statement.{statement}
 use Rattle.cells.proofs.store.Tie as tie
 
 returns : tie.Need-returns
-returns c = let pre = c.before.before.before.before.requires in put_of (book _ _ _) _ _ pre.0
+returns c = let pre = c.requires in put_of (book _ _ _) _ _ pre.0
 
 pub store_spec : {M : Type 1} → statement M
 store_spec =
     tie.close
     (tie.spec
-    (λ c. no_nan _ c.before.before.requires.1.num)
-    (λ c. no_nan _ c.before.before.before.requires.1.re)
-    (λ c. no_nan _ c.before.before.before.before.requires.1.im)
+    (λ c. no_nan _ c.requires.1.num)
+    (λ c. no_nan _ c.requires.1.re)
+    (λ c. no_nan _ c.requires.1.im)
     (λ c. search rules)
     (λ c. search rules)
     (λ c. search rules)

@@ -6,8 +6,8 @@ use Rattle.inverse.proofs.Searching.{inverse-is}
 use Rattle.inverse.proofs.algebraic_inverse.Statement.{statement}
 use Rattle.inverse.proofs.algebraic_inverse.Tie as tie
 
-pub algebraic-inverse-spec : {M : Type 1} → statement M
-algebraic-inverse-spec =
+pub algebraic_inverse_spec : {M : Type 1} → statement M
+algebraic_inverse_spec =
     tie.close
     (tie.spec
     -- the coefficients of the square, of x and of 1, and what there is besides
@@ -19,15 +19,15 @@ algebraic-inverse-spec =
     (λ c. search rules)
     (λ c κs. search rules)
     (λ c. search rules)
-    (λ c κs. (_, c.before.before.before.undo.ensures.lies))
+    (λ c κs. (_, c.undo-s.ensures.lies))
     (λ c. search rules)
     (λ c s l.
-    let undone = c.before.before.before.before.before.before in
-    let besides = undone.before.before in
-    let third = besides.before in
-    let second = third.before in
-    let first = second.before in
-    let st = first.before.before.before.before in
+    let undone = c in
+    let besides = undone in
+    let third = besides in
+    let second = third in
+    let first = second in
+    let st = first in
     subst (Answered _ _ _)
-    (inverse-is st.args.complex s (first.coef-of.ensures s l) (second.coef-of2.ensures s l) (third.coef-of3.ensures s l) (besides.others-of.ensures s l))
-    (c.before.before.answer.ensures _ undone.undo.ensures.lies)))
+    (inverse-is st.args.complex s (first.coef_of-a.ensures s l) (second.coef_of-q.ensures s l) (third.coef_of-c.ensures s l) (besides.others_of-more.ensures s l))
+    (c.answer.ensures _ undone.undo-s.ensures.lies)))

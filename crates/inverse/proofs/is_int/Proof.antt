@@ -3,8 +3,8 @@ use borrow.Author.Rules.{rules}
 use Rattle.inverse.proofs.is_int.Statement.{statement}
 use Rattle.inverse.proofs.is_int.Tie as tie
 
-pub is-int-spec : {M : Type 1} → statement M
-is-int-spec =
+pub is_int_spec : {M : Type 1} → statement M
+is_int_spec =
     tie.close
     (tie.spec
     (λ c κs. search rules)

@@ -6,17 +6,17 @@ use Rattle.inverse.proofs.Forms.{keeps-all, takes-away}
 use Rattle.inverse.proofs.less_constant.Statement.{statement}
 use Rattle.inverse.proofs.less_constant.Tie as tie
 
-pub less-constant-spec : {M : Type 1} → statement M
-less-constant-spec =
+pub less_constant_spec : {M : Type 1} → statement M
+less_constant_spec =
     tie.close
     (tie.spec
     (λ c κs. search rules)
     (λ c.
-    let s = c.before.before.before in
-    spelt-as (spelt-none 2) 2 (omega arith) _ (keeps-all s.args.c c.before.is_zero.ensures c.if1.true))
+    let s = c in
+    spelt-as (spelt-none 2) 2 (omega arith) _ (keeps-all s.args.c c.is_zero.ensures c.if-is_zero.true))
     (λ c κs. search rules)
     (λ c. search rules)
     (λ c.
-    let test = c.before.before.before.before in
-    let s = test.before.before.before in
-    spelt-as c.before.before.then_by.ensures 2 (omega arith) _ (takes-away s.args.c test.before.is_zero.ensures test.if1.false)))
+    let test = c in
+    let s = test in
+    spelt-as c.then_by.ensures 2 (omega arith) _ (takes-away s.args.c test.is_zero.ensures test.if-is_zero.false)))

@@ -8,31 +8,31 @@ use Rattle.inverse.proofs.Forms.{power-known, power-unknown}
 use Rattle.inverse.proofs.of_power.Statement.{statement}
 use Rattle.inverse.proofs.of_power.Tie as tie
 
-pub of-power-spec : {M : Type 1} → statement M
-of-power-spec =
+pub of_power_spec : {M : Type 1} → statement M
+of_power_spec =
     tie.close
     (tie.spec
     (λ c κs. search rules)
     (λ c.
-    let s = c.before.before.before in
-    told-as (told-refused NeedsMath) _ (power-unknown s.args.complex s.args.k s.args.p s.args.c c.before.is-int.ensures (not-true _ c.if1.true)))
+    let s = c in
+    told-as (told-refused NeedsMath) _ (power-unknown s.args.complex s.args.k s.args.p s.args.c c.is_int.ensures c.if-not-is_int.true))
     (λ c κs. search rules)
-    (λ c κs. start-ready _ _ c.start.ensures 2 (omega arith) c.before.before.before.before.before.requires)
+    (λ c κs. start-ready _ _ c.start.ensures 2 (omega arith) c.requires)
     (λ c κs.
-    let first = c.before.before.before in
-    let s = first.before.before.before.before.before.before in
-    first.less-constant.ensures.ready 2 (start-ready _ _ first.before.start.ensures 4 (omega arith) s.requires))
+    let first = c in
+    let s = first in
+    first.less_constant-t.ensures.ready 2 (start-ready _ _ first.start.ensures 4 (omega arith) s.requires))
     (λ c κs.
-    let second = c.before.before.before in
-    let first = second.before.before.before.before in
-    let s = first.before.before.before.before.before.before in
-    second.over-factor.ensures.ready 2 (first.less-constant.ensures.ready 4 (start-ready _ _ first.before.start.ensures 6 (omega arith) s.requires)))
+    let second = c in
+    let first = second in
+    let s = first in
+    second.over_factor-u.ensures.ready 2 (first.less_constant-t.ensures.ready 4 (start-ready _ _ first.start.ensures 6 (omega arith) s.requires)))
     (λ c. search rules)
     (λ c.
-    let third = c.before.before in
-    let second = third.before.before.before.before in
-    let first = second.before.before.before.before in
-    let test = first.before.before.before in
-    let s = test.before.before.before in
-    told-as (told (spelt-join first.less-constant.ensures (spelt-join second.over-factor.ensures third.unpower.ensures)) first.before.start.ensures) _
-    (power-known s.args.complex s.args.k s.args.p s.args.c test.before.is-int.ensures (not-false _ test.if1.false))))
+    let third = c in
+    let second = third in
+    let first = second in
+    let test = first in
+    let s = test in
+    told-as (told (spelt-join first.less_constant-t.ensures (spelt-join second.over_factor-u.ensures third.unpower.ensures)) first.start.ensures) _
+    (power-known s.args.complex s.args.k s.args.p s.args.c test.is_int.ensures test.if-not-is_int.false)))

@@ -8,54 +8,54 @@ use Rattle.inverse.proofs.Searching.{Looking, look-start, look-end, look-next, l
 use Rattle.inverse.proofs.others_of.Statement.{statement}
 use Rattle.inverse.proofs.others_of.Tie as tie
 
-abbrev Inv : tie.invariant-loop
+abbrev Inv : tie.invariant-loop-i
 Inv kinds insides numbers j m end i₀ found₀ i found = (j ≤ i) × Looking (book kinds insides numbers) j m i found
 
-abbrev μ : tie.decreases-loop
+abbrev μ : tie.decreases-loop-i
 μ kinds insides numbers j m end i₀ found₀ i found = j + m - i
 
 abbrev B : tie.Start Inv μ → Book
 B c = book c.args.kinds.now c.args.insides.now c.args.numbers.now
 
-abbrev from-loop : tie.At-loop Inv μ → tie.Start Inv μ
+abbrev from-loop : tie.At-loop-i Inv μ → tie.Start Inv μ
 from-loop c = c.before.before.before
 
 -- where the entry was read, of which the place after it is now known
-abbrev read : tie.After-wide Inv μ → tie.After-load Inv μ
+abbrev read : tie.After-wide Inv μ → tie.After-load-x Inv μ
 read c = c.before.before
 
 -- the next entry begins within the sum
-within : (c : tie.After-wide Inv μ) → (let l = (read c).before.before in let s = from-loop l in l.loop.i + 1 + c.wide.result ≤ s.args.j + s.args.m)
+within : (c : tie.After-wide Inv μ) → (let l = (read c).before.before in let s = from-loop l in l.loop-i.i + 1 + c.wide.result ≤ s.args.j + s.args.m)
 within c =
     let x = read c in
     let l = x.before.before in
     let s = from-loop l in
-    look-within (B s) s.args.j s.args.m l.loop.i l.loop.found l.loop.inv.1 x.before.loop-test.taken x.load.ensures c.wide.ensures s.pre
+    look-within (B s) s.args.j s.args.m l.loop-i.i l.loop-i.found l.loop-i.invariant.1 x.loop-i-test.true x.load-x.ensures c.wide.ensures s.requires
 
-pub others-of-spec : {M : Type 1} → statement M
-others-of-spec =
+pub others_of_spec : {M : Type 1} → statement M
+others_of_spec =
     tie.close
     (tie.spec
     Inv
     μ
-    (λ c. let s = c.before.before in omega (arith, s.requires.1.room.insides, s.well-formed))
+    (λ c. let s = c in omega (arith, s.requires.1.room.insides, s.well_formed))
     (λ c. let s = c.before.before in (omega arith, look-start (B s) s.args.j s.args.m))
     -- the next entry
-    (λ c κs. let l = c.before in readable l.loop.i (from-loop l).requires.1 l.loop.invariant.0 c.loop-test.true)
+    (λ c κs. let l = c.before in readable l.loop-i.i (from-loop l).requires.1 l.loop-i.invariant.0 c.loop-i-test.true)
     (λ c κs. search rules)
     (λ c. omega arith)
     (λ c κs. search rules)
-    (λ c. let s = from-loop (read c).before.before in omega (arith, within c, s.pre.1.room.insides, s.good))
-    (λ c. omega (arith, within c, (read c).before.loop-test.true))
+    (λ c. let s = from-loop (read c).before.before in omega (arith, within c, s.requires.1.room.insides, s.well_formed))
+    (λ c. omega (arith, within c, (read c).loop-i-test.true))
     (λ c.
     let x = read c in
     let l = x.before.before in
     let s = from-loop l in (
-      omega (arith, l.loop.inv.0),
-      look-next (B s) s.args.j s.args.m l.loop.i l.loop.found l.loop.inv.1 x.before.loop-test.taken x.load.ensures c.wide.ensures c.before.next-other.ensures,
+      omega (arith, l.loop-i.invariant.0),
+      look-next (B s) s.args.j s.args.m l.loop-i.i l.loop-i.found l.loop-i.invariant.1 x.loop-i-test.true x.load-x.ensures c.wide.ensures c.next_other-found.ensures,
     ))
     -- nothing is left
     (λ c.
     let l = c.before in
     let s = from-loop l in
-    look-end (B s) s.args.j s.args.m l.loop.i l.loop.found l.loop.invariant.1 c.loop-test.false))
+    look-end (B s) s.args.j s.args.m l.loop-i.i l.loop-i.found l.loop-i.invariant.1 c.loop-i-test.false))

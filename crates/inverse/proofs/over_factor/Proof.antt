@@ -6,17 +6,17 @@ use Rattle.inverse.proofs.Forms.{one-fold, divides}
 use Rattle.inverse.proofs.over_factor.Statement.{statement}
 use Rattle.inverse.proofs.over_factor.Tie as tie
 
-pub over-factor-spec : {M : Type 1} → statement M
-over-factor-spec =
+pub over_factor_spec : {M : Type 1} → statement M
+over_factor_spec =
     tie.close
     (tie.spec
     (λ c κs. search rules)
     (λ c.
-    let s = c.before.before.before in
-    spelt-as (spelt-none 2) 2 (omega arith) _ (one-fold s.args.k c.before.is_one.ensures c.if1.true))
+    let s = c in
+    spelt-as (spelt-none 2) 2 (omega arith) _ (one-fold s.args.k c.is_one.ensures c.if-is_one.true))
     (λ c κs. search rules)
     (λ c. search rules)
     (λ c.
-    let test = c.before.before.before.before in
-    let s = test.before.before.before in
-    spelt-as c.before.before.then_by.ensures 2 (omega arith) _ (divides s.args.k test.before.is_one.ensures test.if1.false)))
+    let test = c in
+    let s = test in
+    spelt-as c.then_by.ensures 2 (omega arith) _ (divides s.args.k test.is_one.ensures test.if-is_one.false)))

@@ -6,50 +6,50 @@ use Rattle.inverse.proofs.Forms.{root-words}
 use Rattle.inverse.proofs.root.Statement.{statement}
 use Rattle.inverse.proofs.root.Tie as tie
 
-pub root-spec : {M : Type 1} → statement M
-root-spec =
+pub root_spec : {M : Type 1} → statement M
+root_spec =
     tie.close
     (tie.spec
     (λ c κs.
-    let s = c.before.before in
+    let s = c in
     less-ready s.args.b.now s.args.s 2 8 (omega arith) s.requires)
     (λ c κs.
-    let first = c.before.before.before in
-    let s = first.before.before.before in
-    first.then_by.ensures.ready 1 (less-ready s.args.b.now s.args.s 3 8 (omega arith) s.requires))
+    let first = c in
+    let s = first in
+    first.then_by-t.ensures.ready 1 (less-ready s.args.b.now s.args.s 3 8 (omega arith) s.requires))
     (λ c κs. search rules)
     (λ c κs.
-    let second = c.before.before.before.before in
-    let first = second.before.before.before.before in
-    let s = first.before.before.before in
-    (second.then-do.ensures s.args.complex).ready 2 (first.then_by.ensures.ready 3 (less-ready s.args.b.now s.args.s 5 8 (omega arith) s.requires)))
+    let second = c in
+    let first = second in
+    let s = first in
+    (second.then_do-u.ensures s.args.complex).ready 2 (first.then_by-t.ensures.ready 3 (less-ready s.args.b.now s.args.s 5 8 (omega arith) s.requires)))
     (λ c κs. search rules)
     (λ c κs.
-    let third = c.before.before.before.before in
-    let second = third.before.before.before.before.before in
-    let first = second.before.before.before.before in
-    let s = first.before.before.before in
-    third.then-by2.ensures.ready 2 ((second.then-do.ensures s.args.complex).ready 4 (first.then_by.ensures.ready 5 (less-ready s.args.b.now s.args.s 7 8 (omega arith) s.requires))))
+    let third = c in
+    let second = third in
+    let first = second in
+    let s = first in
+    third.then_by-v.ensures.ready 2 ((second.then_do-u.ensures s.args.complex).ready 4 (first.then_by-t.ensures.ready 5 (less-ready s.args.b.now s.args.s 7 8 (omega arith) s.requires))))
     (λ c κs.
-    let fourth = c.before.before.before in
-    let third = fourth.before.before.before.before.before in
-    let second = third.before.before.before.before.before in
-    let first = second.before.before.before.before in
-    let s = first.before.before.before in
-    fourth.then-by3.ensures.ready 1
-    (third.then-by2.ensures.ready 3
-    ((second.then-do.ensures s.args.complex).ready 5 (first.then_by.ensures.ready 6 (less-ready s.args.b.now s.args.s 8 8 (omega arith) s.requires)))))
+    let fourth = c in
+    let third = fourth in
+    let second = third in
+    let first = second in
+    let s = first in
+    fourth.then_by-w.ensures.ready 1
+    (third.then_by-v.ensures.ready 3
+    ((second.then_do-u.ensures s.args.complex).ready 5 (first.then_by-t.ensures.ready 6 (less-ready s.args.b.now s.args.s 8 8 (omega arith) s.requires)))))
     (λ c. search rules)
     (λ c.
-    let fifth = c.before.before in
-    let fourth = fifth.before.before.before.before in
-    let third = fourth.before.before.before.before.before in
-    let second = third.before.before.before.before.before in
-    let first = second.before.before.before.before in
-    let s = first.before.before.before in
+    let fifth = c in
+    let fourth = fifth in
+    let third = fourth in
+    let second = third in
+    let first = second in
+    let s = first in
     let flag = s.args.complex in
     spelt-as
-    (spelt-join first.then_by.ensures
-    (spelt-join (second.then-do.ensures flag) (spelt-join third.then-by2.ensures (spelt-join fourth.then-by3.ensures (fifth.then-do2.ensures flag)))))
+    (spelt-join first.then_by-t.ensures
+    (spelt-join (second.then_do-u.ensures flag) (spelt-join third.then_by-v.ensures (spelt-join fourth.then_by-w.ensures (fifth.then_do.ensures flag)))))
     8 (omega arith) _
-    (root-words s.args.a s.args.q s.args.c third.before.mul-real.ensures fourth.before.mul.ensures)))
+    (root-words s.args.a s.args.q s.args.c third.mul_real.ensures fourth.mul.ensures)))

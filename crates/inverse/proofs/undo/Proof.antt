@@ -6,8 +6,8 @@ use Rattle.inverse.proofs.Forms.{others-none, others-power, others-beside, other
 use Rattle.inverse.proofs.undo.Statement.{statement}
 use Rattle.inverse.proofs.undo.Tie as tie
 
-pub undo-spec : {M : Type 1} → statement M
-undo-spec =
+pub undo_spec : {M : Type 1} → statement M
+undo_spec =
     tie.close
     (tie.spec
     (λ c. search rules)
@@ -18,23 +18,23 @@ undo-spec =
     (λ c κs. search rules)
     (λ c. search rules)
     (λ c.
-    let test = c.before.before.before.before in
-    let zero = test.before.before in
-    let power = zero.before.before in
-    let s = power.before.before.before in
-    told-as c.before.before.of-power.ensures _
-    (others-power s.args.complex s.args.a s.args.q s.args.c zero.is_zero.ensures test.before.is-zero2.ensures power.more.given.1 test.if1.true))
+    let test = c in
+    let zero = test in
+    let power = zero in
+    let s = power in
+    told-as c.of_power.ensures _
+    (others-power s.args.complex s.args.a s.args.q s.args.c zero.is_zero.ensures test.is_zero-in-Power.ensures power.in-Power.is test.if-is_zero.true))
     (λ c. search rules)
     (λ c. search rules)
     (λ c.
-    let s = c.before.before.before.before.before.before.before in
-    told-as c.before.before.of-quadratic.ensures _ (others-none s.args.complex s.args.a s.args.q s.args.c c.before.before.before.before.enum_told.given.1))
+    let s = c in
+    told-as c.of_quadratic.ensures _ (others-none s.args.complex s.args.a s.args.q s.args.c c.in-Nothing.is))
     (λ c.
-    let zero = c.before.before in
-    let power = zero.before.before in
-    let s = power.before.before.before in
+    let zero = c in
+    let power = zero in
+    let s = power in
     told-as (told-refused TooComplex) _
-    (others-beside s.args.complex s.args.a s.args.q s.args.c zero.is_zero.ensures c.before.is-zero2.ensures power.more.given.1 c.if1.false))
+    (others-beside s.args.complex s.args.a s.args.q s.args.c zero.is_zero.ensures c.is_zero-in-Power.ensures power.in-Power.is c.if-is_zero.false))
     (λ c.
-    let s = c.before.before.before in
-    told-as (told-refused TooComplex) _ (others-many s.args.complex s.args.a s.args.q s.args.c c.enum-told2.given.1)))
+    let s = c in
+    told-as (told-refused TooComplex) _ (others-many s.args.complex s.args.a s.args.q s.args.c c.in-TooMuch.is)))

@@ -4,4 +4,4 @@ use Rattle.modifiers.proofs.counted.Statement.{statement}
 use Rattle.modifiers.proofs.counted.Tie as tie
 
 pub counted_spec : {M : Type 1} → statement M
-counted_spec = tie.close (tie.spec (λ c. rw (eq-eqb _ _ c.if1.true)) (λ c. rw (ne_eqb _ _ c.if1.false)))
+counted_spec = tie.close (tie.spec (λ c. rw (eq-eqb _ _ c.if-n-asked.true)) (λ c. rw (ne_eqb _ _ c.if-n-asked.false)))

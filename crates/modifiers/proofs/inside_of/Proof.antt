@@ -4,13 +4,13 @@ use borrow.Author.Rules.{rules}
 use Rattle.modifiers.proofs.inside_of.Statement.{statement}
 use Rattle.modifiers.proofs.inside_of.Tie as tie
 
-pub inside-of-spec : {M : Type 1} → statement M
-inside-of-spec =
+pub inside_of_spec : {M : Type 1} → statement M
+inside_of_spec =
     tie.close
     (tie.spec
     (λ c κs. search rules)
     (λ c. search rules)
     (λ c κs. search rules)
     (λ c. search rules)
-    (λ c. rw (← c.before.before.before.before.kind-of.ensures) (rw c.before.before.k.given.1 c.kind-inside.ensures))
-    (λ c. rw (← c.before.before.kind-of.ensures) (rw c.enum_told.given.1 refl)))
+    (λ c. rw (← c.kind_of.ensures) (rw c.in-Known.is c.kind_inside.ensures))
+    (λ c. rw (← c.kind_of.ensures) (rw c.in-Unknown.is refl)))

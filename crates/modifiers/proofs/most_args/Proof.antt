@@ -11,35 +11,35 @@ use Rattle.modifiers.proofs.Runs.{most-on, most-none}
 use Rattle.modifiers.proofs.most_args.Statement.{statement}
 use Rattle.modifiers.proofs.most_args.Tie as tie
 
-abbrev Inv : tie.invariant-loop
+abbrev Inv : tie.invariant-loop-at
 Inv list from to at₀ n₀ at n = Walkable list at to × (most (runners from (forest list from to)) ≡ max n (most (runners at (forest list at to))))
 
-abbrev μ : tie.decreases-loop
+abbrev μ : tie.decreases-loop-at
 μ list from to at₀ n₀ at n = to - at
 
-again : tie.Need-loop-preserved Inv μ
+again : tie.Need-loop-at-preserved Inv μ
 again c =
-    let l = c.before.before.before.before.before.loop in
-    let a = c.before.before.before.before.before.before.before.args in
-    let r = c.before.before.before.record-at in
+    let l = c.loop-at in
+    let a = c.args in
+    let r = c.record_at-r in
     let w = walk-on a.list.now l.at a.to r.result l.invariant.0 (omega arith) r.ensures.0 in
-    (w.1, omega (arith, l.invariant.1, most-on a.list.now l.at a.to r.result l.invariant.0 (omega arith) r.ensures.0, c.before.larger.ensures, c.before.before.wide.ensures))
+    (w.1, omega (arith, l.invariant.1, most-on a.list.now l.at a.to r.result l.invariant.0 (omega arith) r.ensures.0, c.larger-n.ensures, c.wide.ensures))
 
-pub most-args-spec : {M : Type 1} → statement M
-most-args-spec =
+pub most_args_spec : {M : Type 1} → statement M
+most_args_spec =
     tie.close
     (tie.spec
     Inv
     μ
-    (λ c. (c.before.requires, omega arith))
-    (λ c κs. omega (arith, c.before.loop.invariant.0.2.room))
+    (λ c. (c.requires, omega arith))
+    (λ c κs. omega (arith, c.loop-at.invariant.0.2.room))
     (λ c κs. tt)
     (λ c κs. tt)
-    (λ c. omega (arith, c.before.before.before.before.loop.invariant.0.2.few))
+    (λ c. omega (arith, c.loop-at.invariant.0.2.few))
     (λ c. omega arith)
-    (λ c. omega (arith, c.before.before.before.before.before.loop.invariant.0.2.few))
+    (λ c. omega (arith, c.loop-at.invariant.0.2.few))
     (λ c. omega arith)
     again
     (λ c.
-    let a = c.before.before.before.args in
-    omega (arith, c.before.loop.invariant.1, most-none a.list.now c.before.loop.at a.to (omega arith))))
+    let a = c.args in
+    omega (arith, c.loop-at.invariant.1, most-none a.list.now c.loop-at.at a.to (omega arith))))

@@ -11,10 +11,10 @@ use Rattle.modifiers.proofs.Runs.{place-zero, place-on, next-is}
 use Rattle.modifiers.proofs.place_of.Statement.{statement}
 use Rattle.modifiers.proofs.place_of.Tie as tie
 
-abbrev Inv : tie.invariant-loop
+abbrev Inv : tie.invariant-loop-j
 Inv list from to i at₀ j₀ at j = (j ≤ i) × (at ≡ place_of list from j)
 
-abbrev μ : tie.decreases-loop
+abbrev μ : tie.decreases-loop-j
 μ list from to i at₀ j₀ at j = i - j
 
 -- a record is there
@@ -26,27 +26,27 @@ there {s} {from} {to} {i} {at} {j} (w, h) (k, q) l = rw q (place-on s from to j 
 same_place : (f : ℕ → ℕ) (at i j : ℕ) → at ≡ f j → j ≡ i → at ≡ f i
 same_place f at i j q e = rw (← e) q
 
-again : tie.Need-loop-preserved Inv μ
+again : tie.Need-loop-j-preserved Inv μ
 again c =
-    let l = c.before.before.before.loop in
-    let a = c.before.before.before.before.before.args in
-    let r = c.before.record-at in
+    let l = c.loop-j in
+    let a = c.args in
+    let r = c.record_at-r in
     let q = l.invariant.1 in
     (omega arith, next-is a.list.now a.from l.at l.j r.result q r.ensures.0)
 
-pub place-of-spec : {M : Type 1} → statement M
-place-of-spec =
+pub place_of_spec : {M : Type 1} → statement M
+place_of_spec =
     tie.close
     (tie.spec
     Inv
     μ
-    (λ c. (omega arith, sym (place-zero c.before.args.list.now c.before.args.from)))
-    (λ c κs. omega (arith, there c.before.before.before.requires c.before.loop.invariant (omega arith)))
-    (λ c. omega (arith, there c.before.before.before.before.requires c.before.before.loop.invariant (omega arith)))
+    (λ c. (omega arith, sym (place-zero c.args.list.now c.args.from)))
+    (λ c κs. omega (arith, there c.requires c.loop-j.invariant (omega arith)))
+    (λ c. omega (arith, there c.requires c.loop-j.invariant (omega arith)))
     (λ c. omega arith)
-    (λ c. omega (arith, there c.before.before.before.before.before.requires c.before.before.before.loop.invariant (omega arith)))
+    (λ c. omega (arith, there c.requires c.loop-j.invariant (omega arith)))
     (λ c. omega (arith))
     (λ c. omega arith)
     again
-    (λ c. let a = c.before.before.before.args in same_place (λ k. place_of a.list.now a.from k) c.before.loop.at a.i c.before.loop.j c.before.loop.invariant.1
-    (omega (arith, c.before.loop.invariant.0))))
+    (λ c. let a = c.args in same_place (λ k. place_of a.list.now a.from k) c.loop-j.at a.i c.loop-j.j c.loop-j.invariant.1
+    (omega (arith, c.loop-j.invariant.0))))

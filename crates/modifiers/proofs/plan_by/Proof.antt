@@ -4,8 +4,8 @@ use borrow.Author.Rules.{rules}
 use Rattle.modifiers.proofs.plan_by.Statement.{statement}
 use Rattle.modifiers.proofs.plan_by.Tie as tie
 
-pub plan-by-spec : {M : Type 1} → statement M
-plan-by-spec =
+pub plan_by_spec : {M : Type 1} → statement M
+plan_by_spec =
     tie.close
     (tie.spec
     (λ c. search rules)
@@ -22,11 +22,11 @@ plan-by-spec =
     (λ c κs. search rules)
     (λ c. search rules)
     (λ c κs. search rules)
-    (λ c. rw c.enum_told.given.1 refl)
-    (λ c. rw c.enum-told2.given.1 refl)
-    (λ c. rw c.before.enum-told3.given.1 c.once.ensures)
-    (λ c. rw c.before.enum-told4.given.1 c.once2.ensures)
-    (λ c. rw c.before.enum-told5.given.1 c.once3.ensures)
-    (λ c. rw c.before.enum-told6.given.1 c.once4.ensures)
-    (λ c. rw c.before.enum-told7.given.1 c.once5.ensures)
-    (λ c. rw c.before.enum-told8.given.1 c.once6.ensures))
+    (λ c. rw c.in-Bracket.is refl)
+    (λ c. rw c.in-Both.is refl)
+    (λ c. rw c.in-Dip.is c.once.ensures)
+    (λ c. rw c.in-Gap.is c.once-in-Gap.ensures)
+    (λ c. rw c.in-On.is c.once-in-On.ensures)
+    (λ c. rw c.in-By.is c.once-in-By.ensures)
+    (λ c. rw c.in-Fork.is c.once-in-Fork.ensures)
+    (λ c. rw c.in-Unlisted.is c.once-in-Unlisted.ensures))

@@ -5,22 +5,22 @@ use Rattle.modifiers.proofs.Plans.{bodies-some, plan-made}
 use Rattle.modifiers.proofs.plan_of.Statement.{statement}
 use Rattle.modifiers.proofs.plan_of.Tie as tie
 
-room : tie.Need-record-at-requires
+room : tie.Need-record_at-f-requires
 room c κs =
-    let a = c.before.before.args in
-    let p = c.before.before.requires in
+    let a = c.args in
+    let p = c.requires in
     omega (arith, p.0.2.room, bodies-some a.list.now a.at a.r p.1)
 
 returns : tie.Need-returns
 returns c left t =
-    let after-modifier-of = c.before.before in
-    let b = after-modifier-of.before.before in
-    let a = b.before.before.before.args in
-    plan-made a.list.now a.at a.r b.record-at.result after-modifier-of.modifier-of.result c.before.wide.result left c.plan-by.result c.plan-by.ensures
-    after-modifier-of.modifier-of.ensures c.before.wide.ensures b.record-at.ensures.0 b.before.before.before.requires.1 t
+    let after-modifier-of = c in
+    let b = after-modifier-of in
+    let a = b.args in
+    plan-made a.list.now a.at a.r b.record_at-f.result after-modifier-of.modifier_of.result c.wide.result left c.plan_by.result c.plan_by.ensures
+    after-modifier-of.modifier_of.ensures c.wide.ensures b.record_at-f.ensures.0 b.requires.1 t
 
-pub plan-of-spec : {M : Type 1} → statement M
-plan-of-spec =
+pub plan_of_spec : {M : Type 1} → statement M
+plan_of_spec =
     tie.close
     (tie.spec
     (λ c. search rules)

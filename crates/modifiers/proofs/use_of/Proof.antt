@@ -12,8 +12,8 @@ use Rattle.modifiers.proofs.use_of.Tie as tie
 way-is : {w v : Way} {m n : Modifier} → w ≡ way_of m → m ≡ n → w ≡ v → way_of n ≡ v
 way-is {w} {v} {m} {n} p q e = rw (← q) (sym p ∙ e)
 
-pub use-of-spec : {M : Type 1} → statement M
-use-of-spec =
+pub use_of_spec : {M : Type 1} → statement M
+use_of_spec =
     tie.close
     (tie.spec
     (λ c. search rules)
@@ -30,12 +30,12 @@ use-of-spec =
     (λ c. search rules)
     (λ c. search rules)
     (λ c.
-    let b = c.before.before.before in
-    use-one _ _ _ b.before.before.count-nodes.result b.before.before.count-nodes.ensures _
-    (way-is b.Way-of.ensures b.before.modifier-of.ensures c.before.enum_told.given.1) c.counted.ensures)
+    let b = c in
+    use-one _ _ _ b.count_nodes-n.result b.count_nodes-n.ensures _
+    (way-is b.Way-of.ensures b.modifier_of.ensures c.in-One.is) c.counted.ensures)
     (λ c.
-    let b = c.before.before.before in
-    use-two _ _ _ b.before.before.count-nodes.result b.before.before.count-nodes.ensures _
-    (way-is b.Way-of.ensures b.before.modifier-of.ensures c.before.enum-told2.given.1) c.counted2.ensures)
-    (λ c. let b = c.before.before in is-fork _ (way-is b.Way-of.ensures b.before.modifier-of.ensures c.enum-told3.given.1))
-    (λ c h st. let b = c.before.before in not_listed _ (way-is b.Way-of.ensures b.before.modifier-of.ensures c.enum-told4.given.1) _ _ h st))
+    let b = c in
+    use-two _ _ _ b.count_nodes-n.result b.count_nodes-n.ensures _
+    (way-is b.Way-of.ensures b.modifier_of.ensures c.in-Two.is) c.counted-in-Two.ensures)
+    (λ c. let b = c in is-fork _ (way-is b.Way-of.ensures b.modifier_of.ensures c.in-Any.is))
+    (λ c h st. let b = c in not_listed _ (way-is b.Way-of.ensures b.modifier_of.ensures c.in-Unlisted.is) _ _ h st))

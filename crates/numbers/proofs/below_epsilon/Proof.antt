@@ -11,7 +11,7 @@ eps-requires-2 : tie.Need-eps-requires-2
 eps-requires-2 c κs = search rules
 
 returns : tie.Need-returns
-returns c = rw (c.before.eps.ensures, c.eps2.ensures) (epsilon-test c.before.before.args.x)
+returns c = rw (c.eps.ensures, c.eps-2.ensures) (epsilon-test c.args.x)
 
-pub below-epsilon-spec : {M : Type 1} → statement M
-below-epsilon-spec = tie.close (tie.spec eps-requires eps-requires-2 returns)
+pub below_epsilon_spec : {M : Type 1} → statement M
+below_epsilon_spec = tie.close (tie.spec eps-requires eps-requires-2 returns)

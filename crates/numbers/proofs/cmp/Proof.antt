@@ -2,14 +2,14 @@
 use Rattle.numbers.proofs.cmp.Statement.{statement}
 use Rattle.numbers.proofs.cmp.Tie as tie
 
-returns : tie.Need-returns
-returns c = rw c.if1.true
+returns : tie.Need-returns-then-a-b
+returns c = rw c.if-a-b.true
 
-returns-2 : tie.Need-returns-2
-returns-2 c = rw (c.before.if1.false, c.if2.true)
+returns-2 : tie.Need-returns-then-b-a
+returns-2 c = rw (c.if-a-b.false, c.if-b-a.true)
 
-returns-3 : tie.Need-returns-3
-returns-3 c = rw (c.before.if1.false, c.if2.false)
+returns-3 : tie.Need-returns-else-b-a
+returns-3 c = rw (c.if-a-b.false, c.if-b-a.false)
 
-pub cmp-spec : {M : Type 1} → statement M
-cmp-spec = tie.close (tie.spec returns returns-2 returns-3)
+pub cmp_spec : {M : Type 1} → statement M
+cmp_spec = tie.close (tie.spec returns returns-2 returns-3)

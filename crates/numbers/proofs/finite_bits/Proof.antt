@@ -4,5 +4,5 @@ use Rattle.numbers.proofs.Bits.{finite-bits}
 use Rattle.numbers.proofs.finite_bits.Statement.{statement}
 use Rattle.numbers.proofs.finite_bits.Tie as tie
 
-pub finite-bits-spec : {M : Type 1} → statement M
-finite-bits-spec = tie.close (tie.spec (λ c. sym (finite-bits c.args.b)))
+pub finite_bits_spec : {M : Type 1} → statement M
+finite_bits_spec = tie.close (tie.spec (λ c. sym (finite-bits c.args.b)))

@@ -6,5 +6,5 @@ use Rattle.numbers.proofs.Finite.{finite-test}
 returns : tie.Need-returns
 returns c = finite-test c.args.x
 
-pub is-finite-spec : {M : Type 1} → statement M
-is-finite-spec = tie.close (tie.spec returns)
+pub is_finite_spec : {M : Type 1} → statement M
+is_finite_spec = tie.close (tie.spec returns)

@@ -9,18 +9,18 @@ use Rattle.powers.proofs.divide.Divisors.{constant-is, constant-other}
 use Rattle.primitives.proofs.complex.Statement.{statement}
 use Rattle.primitives.proofs.complex.Tie as tie
 
-abbrev first_of : tie.After-as-constant2 → tie.After-as-constant
-first_of c = c.before.before.before.before
+abbrev first_of : tie.After-as_constant-second → tie.After-as_constant-first
+first_of c = c.before
 
-abbrev start : tie.After-as-constant2 → tie.Start
+abbrev start : tie.After-as_constant-second → tie.Start
 start c = (first_of c).before.before.before.before.before.before
 
-pub complex-spec : {M : Type 1} → statement M
-complex-spec =
+pub complex_spec : {M : Type 1} → statement M
+complex_spec =
     tie.close
     (tie.spec
-    (λ c κs. c.before.before.before.before.before.requires.0.held)
-    (λ c κs. c.before.before.before.before.before.before.before.before.before.requires.1.held)
+    (λ c κs. c.requires.0.held)
+    (λ c κs. c.requires.1.held)
     (λ c. search rules)
     (λ c. search rules)
     (λ c κs. (start c.before.before.before.before.before).requires)
@@ -28,11 +28,11 @@ complex-spec =
     (λ c. search rules)
     (λ c. search rules)
     (λ c.
-    let add = c.before.before.before.before.before in
-    let told = add.before.before.before.before in
-    let second = told.before.before in (
-      add.add-times-i.ensures.0,
-      λ b a lb la. rw (constant-other (as_constant a) (sym (second.as-constant2.ensures a la) ∙ told.enum_told.given.1)) (add.add-times-i.ensures.1 b a lb la),
+    let add = c in
+    let told = add in
+    let second = told in (
+      add.add_times_i.ensures.0,
+      λ b a lb la. rw (constant-other (as_constant a) (sym (second.as_constant-second.ensures a la) ∙ told.in_default.is)) (add.add_times_i.ensures.1 b a lb la),
     ))
     (λ c. search rules)
     (λ c. search rules)
@@ -41,31 +41,31 @@ complex-spec =
     (λ c. search rules)
     (λ c. search rules)
     (λ c.
-    let add = c.before.before.before.before.before in
-    let told = add.before.before.before.before in
-    let known = told.before.before.before in
-    let second = known.before.before in (
-      add.add-times-i2.ensures.0,
+    let add = c in
+    let told = add in
+    let known = told in
+    let second = known.before.before.before.before.before.before.before.before.before.before.before.before.before.before in (
+      add.add_times_i-in_default-first.ensures.0,
       λ b a lb la.
-          let e = constant-is (as_constant a) (sym (second.as-constant2.ensures a la) ∙ known.second.given.1) in
-          let d = constant-other (as_constant b) (sym ((first_of second).as-constant.ensures b lb) ∙ told.enum-told2.given.1) in
-          rw (e, d) (add.add-times-i2.ensures.1 b a lb la),
+          let e = constant-is (as_constant a) (sym (second.as_constant-second.ensures a la) ∙ known.in-Is.is) in
+          let d = constant-other (as_constant b) (sym ((first_of second).as_constant-first.ensures b lb) ∙ told.in_default-first.is) in
+          rw (e, d) (add.add_times_i-in_default-first.ensures.1 b a lb la),
     ))
     (λ c κs. search rules)
     (λ c κs. search rules)
-    (λ c κs. let st = start c.before.before.before.before.before.before.before.before.before.before.before in room-result st.args.w st.pre.2)
+    (λ c κs. let st = start c.before.before.before.before.before.before.before.before.before.before.before in room-result st.args.w st.requires.2)
     (λ c. search rules)
     (λ c. search rules)
     (λ c. search rules)
     (λ c.
-    let last = c.before.before.before.before.before in
-    let sum = last.before in
-    let first = sum.before.before.before.before.before.before in
-    let known = first.before.before.before in
-    let second = known.before.before in (
-      kept_result last.constant-sum.ensures.0,
+    let last = c in
+    let sum = last in
+    let first = sum in
+    let known = first in
+    let second = known.before.before.before.before.before.before.before.before.before.before.before.before.before.before.before.before.before in (
+      kept_result last.constant_sum.ensures.0,
       λ b a lb la.
-          let e = constant-is (as_constant a) (sym (second.as-constant2.ensures a la) ∙ known.second.given.1) in
-          let d = constant-is (as_constant b) (sym ((first_of second).as-constant.ensures b lb) ∙ first.first.given.1) in
-          rw (e, d) (rw (sum.add.ensures ∙ ap (λ (z : Complex). plus z first.first.given.0.0) sum.before.mul-i.ensures) at last.constant-sum.ensures.1),
+          let e = constant-is (as_constant a) (sym (second.as_constant-second.ensures a la) ∙ known.in-Is.is) in
+          let d = constant-is (as_constant b) (sym ((first_of second).as_constant-first.ensures b lb) ∙ first.in-Is-first.is) in
+          rw (e, d) (rw (sum.add.ensures ∙ ap (λ (z : Complex). plus z first.in-Is-first.d) sum.mul_i.ensures) at last.constant_sum.ensures.1),
     )))

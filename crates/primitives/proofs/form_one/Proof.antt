@@ -10,130 +10,130 @@ use Rattle.primitives.proofs.Constants.{over-head, half-finite, two-finite, ten-
 use Rattle.primitives.proofs.form_one.Statement.{statement}
 use Rattle.primitives.proofs.form_one.Tie as tie
 
-abbrev start : tie.After-e → tie.Start
+abbrev start : tie.After-e-e → tie.Start
 start c = c.before.before.before
 
-pub form-one-spec : {M : Type 1} → statement M
-form-one-spec =
+pub form_one_spec : {M : Type 1} → statement M
+form_one_spec =
     tie.close
     (tie.spec
     (λ c κs. search rules)
     (λ c. search rules)
-    (λ c κs. let euler = c.before.before.before.before.before in let st = start euler in (result-operand st.pre.1, room-result st.args.w st.pre.2))
+    (λ c κs. let euler = c.before.before.before.before.before in let st = start euler in (result-operand st.requires.1, room-result st.args.w st.requires.2))
     (λ c. search rules)
-    (λ c κs. let euler = c.before.before.before.before.before in let st = start euler in (result-operand st.pre.1, room-result st.args.w st.pre.2))
+    (λ c κs. let euler = c.before.before.before.before.before in let st = start euler in (result-operand st.requires.1, room-result st.args.w st.requires.2))
     (λ c. search rules)
-    (λ c κs. let euler = c.before.before.before.before.before in let st = start euler in (st.pre.0, st.pre.1, st.pre.2))
+    (λ c κs. let euler = c.before.before.before.before.before in let st = start euler in (st.requires.0, st.requires.1, st.requires.2))
     (λ c. search rules)
-    (λ c κs. let euler = c.before.before.before.before.before in let st = start euler in (half-finite, st.pre.1, st.pre.2))
-    (λ c. search rules)
-    (λ c κs. let euler = c.before.before.before.before.before in let st = start euler in
-    (over-head _ _ _ (omega arith) (omega arith) st.pre.0, result-operand st.pre.1, room-result st.args.w st.pre.2))
+    (λ c κs. let euler = c.before.before.before.before.before in let st = start euler in (half-finite, st.requires.1, st.requires.2))
     (λ c. search rules)
     (λ c κs. let euler = c.before.before.before.before.before in let st = start euler in
-    (over-head _ _ _ (omega arith) (omega arith) st.pre.0, result-operand st.pre.1, room-result st.args.w st.pre.2))
+    (over-head _ _ _ (omega arith) (omega arith) st.requires.0, result-operand st.requires.1, room-result st.args.w st.requires.2))
     (λ c. search rules)
     (λ c κs. let euler = c.before.before.before.before.before in let st = start euler in
-    (rw euler.e.ensures euler-finite, result-operand st.pre.1, room-result st.args.w st.pre.2))
+    (over-head _ _ _ (omega arith) (omega arith) st.requires.0, result-operand st.requires.1, room-result st.args.w st.requires.2))
     (λ c. search rules)
-    (λ c κs. let euler = c.before.before.before.before.before in let st = start euler in (two-finite, result-operand st.pre.1, room-result st.args.w st.pre.2))
+    (λ c κs. let euler = c.before.before.before.before.before in let st = start euler in
+    (rw euler.e-e.ensures euler-finite, result-operand st.requires.1, room-result st.args.w st.requires.2))
     (λ c. search rules)
-    (λ c κs. let euler = c.before.before.before.before.before in let st = start euler in (ten-finite, result-operand st.pre.1, room-result st.args.w st.pre.2))
+    (λ c κs. let euler = c.before.before.before.before.before in let st = start euler in (two-finite, result-operand st.requires.1, room-result st.args.w st.requires.2))
     (λ c. search rules)
-    (λ c κs. let euler = c.before.before.before.before.before in let st = start euler in (st.pre.0, result-operand st.pre.1, room-result st.args.w st.pre.2))
+    (λ c κs. let euler = c.before.before.before.before.before in let st = start euler in (ten-finite, result-operand st.requires.1, room-result st.args.w st.requires.2))
     (λ c. search rules)
-    (λ c κs. let euler = c.before.before.before.before.before in let st = start euler in (st.pre.0, result-operand st.pre.1, room-result st.args.w st.pre.2))
+    (λ c κs. let euler = c.before.before.before.before.before in let st = start euler in (st.requires.0, result-operand st.requires.1, room-result st.args.w st.requires.2))
     (λ c. search rules)
-    (λ c κs. let euler = c.before.before.before.before.before in let st = start euler in (st.pre.0, result-operand st.pre.1, room-result st.args.w st.pre.2))
-    (λ c κs. let st = start c.before.before.before.before in (result-operand st.pre.1, room-result st.args.w st.pre.2))
+    (λ c κs. let euler = c.before.before.before.before.before in let st = start euler in (st.requires.0, result-operand st.requires.1, room-result st.args.w st.requires.2))
     (λ c. search rules)
-    (λ c. search rules)
-    (λ c. search rules)
-    (λ c.
-    let made = c.before.before.before.before.before in
-    let told = made.before.before.before.before in
-    (kept_result made.negated.ensures.0, λ s ls. rw told.enum_told.given.1 (made.negated.ensures.1 s ls)))
+    (λ c κs. let euler = c.before.before.before.before.before in let st = start euler in (st.requires.0, result-operand st.requires.1, room-result st.args.w st.requires.2))
+    (λ c κs. let st = start c.before.before.before.before in (result-operand st.requires.1, room-result st.args.w st.requires.2))
     (λ c. search rules)
     (λ c. search rules)
     (λ c. search rules)
     (λ c.
-    let made = c.before.before.before.before.before in
-    let told = made.before.before.before.before in
-    (kept_result made.not.ensures.0, λ s ls. rw told.enum-told2.given.1 (made.not.ensures.1 s ls)))
+    let made = c in
+    let told = made in
+    (kept_result made.negated.ensures.0, λ s ls. rw told.in-Neg.is (made.negated.ensures.1 s ls)))
     (λ c. search rules)
     (λ c. search rules)
     (λ c. search rules)
     (λ c.
-    let made = c.before.before.before.before.before in
-    let told = made.before.before.before.before in
-    (made.recip.ensures.0, λ s ls. rw told.enum-told3.given.1 (made.recip.ensures.1 s ls)))
+    let made = c in
+    let told = made in
+    (kept_result made.not.ensures.0, λ s ls. rw told.in-Not.is (made.not.ensures.1 s ls)))
     (λ c. search rules)
     (λ c. search rules)
     (λ c. search rules)
     (λ c.
-    let made = c.before.before.before.before.before in
-    let told = made.before.before.before.before in
-    (made.power-by.ensures.0, λ s ls. rw told.enum-told4.given.1 (rw (pow-constant s (of_bits binary64 0x3fe0000000000000)) (made.power-by.ensures.1.0 s ls))))
+    let made = c in
+    let told = made in
+    (made.recip.ensures.0, λ s ls. rw told.in-Reciprocal.is (made.recip.ensures.1 s ls)))
     (λ c. search rules)
     (λ c. search rules)
     (λ c. search rules)
     (λ c.
-    let made = c.before.before.before.before.before in
-    let told = made.before.before.before.before in
-    (kept_result made.over.ensures.0, λ s ls. rw told.enum-told5.given.1 (made.over.ensures.1 s ls)))
+    let made = c in
+    let told = made in
+    (made.power_by.ensures.0, λ s ls. rw told.in-Sqrt.is (rw (pow-constant s (of_bits binary64 0x3fe0000000000000)) (made.power_by.ensures.1.0 s ls))))
     (λ c. search rules)
     (λ c. search rules)
     (λ c. search rules)
     (λ c.
-    let made = c.before.before.before.before.before in
-    let told = made.before.before.before.before in
-    (kept_result made.over2.ensures.0, λ s ls. rw told.enum-told6.given.1 (made.over2.ensures.1 s ls)))
+    let made = c in
+    let told = made in
+    (kept_result made.over.ensures.0, λ s ls. rw told.in-Sin.is (made.over.ensures.1 s ls)))
     (λ c. search rules)
     (λ c. search rules)
     (λ c. search rules)
     (λ c.
-    let made = c.before.before.before.before.before in
-    let told = made.before.before.before.before in
-    (kept_result made.pow-of.ensures.0, λ s ls. rw told.enum-told7.given.1 (rw (← told.before.before.e.ensures) (made.pow-of.ensures.1 s ls))))
+    let made = c in
+    let told = made in
+    (kept_result made.over-in-Cos.ensures.0, λ s ls. rw told.in-Cos.is (made.over-in-Cos.ensures.1 s ls)))
     (λ c. search rules)
     (λ c. search rules)
     (λ c. search rules)
     (λ c.
-    let made = c.before.before.before.before.before in
-    let told = made.before.before.before.before in
-    (kept_result made.pow-of2.ensures.0, λ s ls. rw told.enum-told8.given.1 (made.pow-of2.ensures.1 s ls)))
+    let made = c in
+    let told = made in
+    (kept_result made.pow_of.ensures.0, λ s ls. rw told.in-Exp.is (rw (← told.e-e.ensures) (made.pow_of.ensures.1 s ls))))
     (λ c. search rules)
     (λ c. search rules)
     (λ c. search rules)
     (λ c.
-    let made = c.before.before.before.before.before in
-    let told = made.before.before.before.before in
-    (kept_result made.pow-of3.ensures.0, λ s ls. rw told.enum-told9.given.1 (made.pow-of3.ensures.1 s ls)))
+    let made = c in
+    let told = made in
+    (kept_result made.pow_of-in-Exp2.ensures.0, λ s ls. rw told.in-Exp2.is (made.pow_of-in-Exp2.ensures.1 s ls)))
     (λ c. search rules)
     (λ c. search rules)
     (λ c. search rules)
     (λ c.
-    let made = c.before.before.before.before.before in
-    let told = made.before.before.before.before in
-    (kept_result made.log-of.ensures.0, λ s ls. rw told.enum-told10.given.1 (rw (← told.before.before.e.ensures) (made.log-of.ensures.1 s ls))))
+    let made = c in
+    let told = made in
+    (kept_result made.pow_of-in-Exp10.ensures.0, λ s ls. rw told.in-Exp10.is (made.pow_of-in-Exp10.ensures.1 s ls)))
     (λ c. search rules)
     (λ c. search rules)
     (λ c. search rules)
     (λ c.
-    let made = c.before.before.before.before.before in
-    let told = made.before.before.before.before in
-    (kept_result made.log-of2.ensures.0, λ s ls. rw told.enum-told11.given.1 (made.log-of2.ensures.1 s ls)))
+    let made = c in
+    let told = made in
+    (kept_result made.log_of.ensures.0, λ s ls. rw told.in-Ln.is (rw (← told.e-e.ensures) (made.log_of.ensures.1 s ls))))
     (λ c. search rules)
     (λ c. search rules)
     (λ c. search rules)
     (λ c.
-    let made = c.before.before.before.before.before in
-    let told = made.before.before.before.before in
-    (kept_result made.log-of3.ensures.0, λ s ls. rw told.enum-told12.given.1 (made.log-of3.ensures.1 s ls)))
+    let made = c in
+    let told = made in
+    (kept_result made.log_of-in-Log2.ensures.0, λ s ls. rw told.in-Log2.is (made.log_of-in-Log2.ensures.1 s ls)))
     (λ c. search rules)
     (λ c. search rules)
     (λ c. search rules)
     (λ c.
-    let made = c.before.before.before.before.before in
-    let any = made.before.before.before.before in
-    (kept_result made.copied.ensures.0, λ s ls. rw (kept _ s any.match.keys13) (made.copied.ensures.1 s ls))))
+    let made = c in
+    let told = made in
+    (kept_result made.log_of-in-Log10.ensures.0, λ s ls. rw told.in-Log10.is (made.log_of-in-Log10.ensures.1 s ls)))
+    (λ c. search rules)
+    (λ c. search rules)
+    (λ c. search rules)
+    (λ c.
+    let made = c in
+    let any = made in
+    (kept_result made.copied.ensures.0, λ s ls. rw (kept _ s any.in_default.keys13) (made.copied.ensures.1 s ls))))

@@ -20,19 +20,19 @@ abbrev B : tie.Start → Book
 B c = book c.args.kinds.now c.args.insides.now c.args.numbers.now
 
 abbrev B' : tie.After-store → Book
-B' c = let last = c.store.new in book last.0 last.1.0 last.1.1.0
+B' c = let last = c.store.new in book last.kinds last.insides last.numbers
 
 kept : (c : tie.After-store) → (let a = (start c).args in Kept (B (start c)) (B' c) a.p (a.p + 64))
 kept c = kept-wider (omega arith) (omega arith) (put-kept c.store.ensures)
 
 laid : (c : tie.After-store) → (let a = (start c).args in Lies (B' c) a.p (a.p + 1) 4 (constant one))
-laid c = let st = start c in constant-lies one one-finite st.args.p (room-less {n = st.args.p + 64} (omega arith) st.pre.1) one-fits c.store.ensures
+laid c = let st = start c in constant-lies one one-finite st.args.p (room-less {n = st.args.p + 64} (omega arith) st.requires.1) one-fits c.store.ensures
 
-pub not-spec : {M : Type 1} → statement M
-not-spec =
+pub not_spec : {M : Type 1} → statement M
+not_spec =
     tie.close
     (tie.spec
-    (λ c κs. let st = c.before.before.before.before.before in (room-less {n = st.args.p + 64} (omega arith) st.requires.1, constant-plain one one-finite))
+    (λ c κs. let st = c in (room-less {n = st.args.p + 64} (omega arith) st.requires.1, constant-plain one one-finite))
     (λ c κs.
     let put = c.before.before.before.before.before.before.before.before in
     let pre = (start put).requires in
@@ -41,7 +41,7 @@ not-spec =
     (λ c. search rules)
     (λ c. search rules)
     (λ c.
-    let add = c.before.before.before.before.before in
-    let put = add.before.before.before.before.before.before.before.before.before in
+    let add = c in
+    let put = add.before.before.before.before.before.before.before.before.before.before.before.before.before.before in
     let pre = (start put).requires in
-    (kept_trans (kept put) add.add-each.ensures.0, λ s ls. add.add-each.ensures.1 (constant one) s (laid put) (lies-clear (kept put) (clear pre.0.apart) ls))))
+    (kept_trans (kept put) add.add_each.ensures.0, λ s ls. add.add_each.ensures.1 (constant one) s (laid put) (lies-clear (kept put) (clear pre.0.apart) ls))))

@@ -5,10 +5,10 @@ use Rattle.running.proofs.Laws.{push-way, work-way}
 use Rattle.running.proofs.deed_of.Statement.{statement}
 use Rattle.running.proofs.deed_of.Tie as tie
 
-pub deed-of-spec : {M : Type 1} → statement M
-deed-of-spec =
+pub deed_of_spec : {M : Type 1} → statement M
+deed_of_spec =
     tie.close
     (tie.spec
     (λ c κs. search rules)
-    (λ c. push-way c.before.before.args.kind (sym c.before.is-a.ensures ∙ c.if1.true))
-    (λ c. work-way c.before.before.args.kind c.before.before.requires (sym c.before.is-a.ensures ∙ c.if1.false)))
+    (λ c. push-way c.args.kind (sym c.is_a.ensures ∙ c.if-is_a.true))
+    (λ c. work-way c.args.kind c.requires (sym c.is_a.ensures ∙ c.if-is_a.false)))

@@ -16,13 +16,13 @@ no-push d q p e f = cc
 no-work : (d : Deed) (q p : Refusal) → d ≡ Works → d ≡ Refuses p → q ≡ p
 no-work d q p e f = cc
 
-pub refusal-of-spec : {M : Type 1} → statement M
-refusal-of-spec =
+pub refusal_of_spec : {M : Type 1} → statement M
+refusal_of_spec =
     tie.close
     (tie.spec
     (λ c. search rules)
     (λ c. search rules)
     (λ c. search rules)
-    (λ c p e. told _ _ p c.before.d.given.1 e)
-    (λ c p e. no-push _ _ p c.enum_told.given.1 e)
-    (λ c p e. no-work _ _ p c.enum-told2.given.1 e))
+    (λ c p e. told _ _ p c.in-Refuses.is e)
+    (λ c p e. no-push _ _ p c.in-Pushes.is e)
+    (λ c p e. no-work _ _ p c.in-Works.is e))

@@ -4,12 +4,12 @@ use mathlib.Core.Path.{refl}
 use Rattle.running.proofs.run_numbers.Statement.{statement}
 use Rattle.running.proofs.run_numbers.Tie as tie
 
-pub run-numbers-spec : {M : Type 1} → statement M
-run-numbers-spec =
+pub run_numbers_spec : {M : Type 1} → statement M
+run_numbers_spec =
     tie.close
     (tie.spec
     (λ c. search rules)
     (λ c. search rules)
     (λ c κs. search rules)
-    (λ c. rw c.before.r.given.1 refl)
-    (λ c. rw (c.before.before.r2.given.1, ← c.refusal-no.ensures) refl))
+    (λ c. rw c.in-Value.is refl)
+    (λ c. rw (c.in-Refused.is, ← c.refusal_no.ensures) refl))

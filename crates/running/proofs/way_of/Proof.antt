@@ -4,13 +4,13 @@ use mathlib.Core.Path.{refl}
 use Rattle.running.proofs.way_of.Statement.{statement}
 use Rattle.running.proofs.way_of.Tie as tie
 
-pub way-of-spec : {M : Type 1} → statement M
-way-of-spec =
+pub way_of_spec : {M : Type 1} → statement M
+way_of_spec =
     tie.close
     (tie.spec
     (λ c κs. search rules)
     (λ c. search rules)
     (λ c κs. search rules)
     (λ c. search rules)
-    (λ c. rw (← c.before.before.before.before.kind-of.ensures) (rw c.before.before.k.given.1 c.way-of-kind.ensures))
-    (λ c. rw (← c.before.before.kind-of.ensures) (rw c.enum_told.given.1 refl)))
+    (λ c. rw (← c.kind_of.ensures) (rw c.in-Known.is c.way_of_kind.ensures))
+    (λ c. rw (← c.kind_of.ensures) (rw c.in-Unknown.is refl)))

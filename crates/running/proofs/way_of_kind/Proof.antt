@@ -4,8 +4,8 @@ use mathlib.Core.Path.{refl}
 use Rattle.running.proofs.way_of_kind.Statement.{statement}
 use Rattle.running.proofs.way_of_kind.Tie as tie
 
-pub way-of-kind-spec : {M : Type 1} → statement M
-way-of-kind-spec =
+pub way_of_kind_spec : {M : Type 1} → statement M
+way_of_kind_spec =
     tie.close
     (tie.spec
     (λ c. search rules)
@@ -21,16 +21,16 @@ way-of-kind-spec =
     (λ c. search rules)
     (λ c. search rules)
     (λ c. search rules)
-    (λ c. rw c.enum_told.given.1 refl)
-    (λ c. rw c.enum-told2.given.1 refl)
-    (λ c. rw c.enum-told3.given.1 refl)
-    (λ c. rw c.enum-told4.given.1 refl)
-    (λ c. rw c.enum-told5.given.1 refl)
-    (λ c. rw c.enum-told6.given.1 refl)
-    (λ c. rw c.enum-told7.given.1 refl)
-    (λ c. rw c.enum-told8.given.1 refl)
-    (λ c. rw c.enum-told9.given.1 refl)
-    (λ c. rw c.enum-told10.given.1 refl)
-    (λ c. rw c.enum-told11.given.1 refl)
-    (λ c. rw c.enum-told12.given.1 refl)
-    (λ c. rw c.enum-told13.given.1 refl))
+    (λ c. rw c.in-RealPush.is refl)
+    (λ c. rw c.in-ComplexPush.is refl)
+    (λ c. rw c.in-ArrayPush.is refl)
+    (λ c. rw c.in-OtherPush.is refl)
+    (λ c. rw c.in-Primitive.is refl)
+    (λ c. rw c.in-Modifier.is refl)
+    (λ c. rw c.in-Body.is refl)
+    (λ c. rw c.in-Run.is refl)
+    (λ c. rw c.in-CustomInverse.is refl)
+    (λ c. rw c.in-Obverse.is refl)
+    (λ c. rw c.in-NoNormal.is refl)
+    (λ c. rw c.in-UnderMarker.is refl)
+    (λ c. rw c.in-AnythingElse.is refl))

@@ -5,7 +5,7 @@ use Rattle.uplink.proofs.uplink_cost.Statement.{statement}
 use Rattle.uplink.proofs.uplink_cost.Tie as tie
 
 returns : tie.Need-returns
-returns c = told-cost c.before.before.cost.result c.before.before.cost.ensures c.before.cost-numbers.ensures
+returns c = told-cost c.cost.result c.cost.ensures c.cost_numbers-n.ensures
 
-pub uplink-cost-spec : {M : Type 1} → statement M
-uplink-cost-spec = tie.close (tie.spec (λ c κs. search rules) (λ c κs. search rules) returns)
+pub uplink_cost_spec : {M : Type 1} → statement M
+uplink_cost_spec = tie.close (tie.spec (λ c κs. search rules) (λ c κs. search rules) returns)

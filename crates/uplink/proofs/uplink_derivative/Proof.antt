@@ -6,7 +6,7 @@ use Rattle.uplink.proofs.uplink_derivative.Statement.{statement}
 use Rattle.uplink.proofs.uplink_derivative.Tie as tie
 
 returns : tie.Need-returns
-returns c = told-count entry.derivative c.before.before.before.before.derivative.result c.before.answer-numbers.ensures c.before.before.before.before.derivative.ensures
+returns c = told-count entry.derivative c.derivative.result c.answer_numbers-n.ensures c.derivative.ensures
 
-pub uplink-derivative-spec : {M : Type 1} → statement M
-uplink-derivative-spec = tie.close (tie.spec (λ c κs. search rules) (λ c κs. search rules) (λ c. search rules) returns)
+pub uplink_derivative_spec : {M : Type 1} → statement M
+uplink_derivative_spec = tie.close (tie.spec (λ c κs. search rules) (λ c κs. search rules) (λ c. search rules) returns)

@@ -6,7 +6,7 @@ use Rattle.uplink.proofs.uplink_derive.Statement.{statement}
 use Rattle.uplink.proofs.uplink_derive.Tie as tie
 
 returns : tie.Need-returns
-returns c = told-count entry.derive c.before.before.before.before.derive.result c.before.answer-numbers.ensures c.before.before.before.before.derive.ensures
+returns c = told-count entry.derive c.derive.result c.answer_numbers-n.ensures c.derive.ensures
 
-pub uplink-derive-spec : {M : Type 1} → statement M
-uplink-derive-spec = tie.close (tie.spec (λ c κs. search rules) (λ c κs. search rules) (λ c. search rules) returns)
+pub uplink_derive_spec : {M : Type 1} → statement M
+uplink_derive_spec = tie.close (tie.spec (λ c κs. search rules) (λ c κs. search rules) (λ c. search rules) returns)

@@ -6,7 +6,7 @@ use Rattle.uplink.proofs.uplink_integral.Statement.{statement}
 use Rattle.uplink.proofs.uplink_integral.Tie as tie
 
 returns : tie.Need-returns
-returns c = told-count entry.integral c.before.before.before.before.integral.result c.before.answer-numbers.ensures c.before.before.before.before.integral.ensures
+returns c = told-count entry.integral c.integral.result c.answer_numbers-n.ensures c.integral.ensures
 
-pub uplink-integral-spec : {M : Type 1} → statement M
-uplink-integral-spec = tie.close (tie.spec (λ c κs. search rules) (λ c κs. search rules) (λ c. search rules) returns)
+pub uplink_integral_spec : {M : Type 1} → statement M
+uplink_integral_spec = tie.close (tie.spec (λ c κs. search rules) (λ c κs. search rules) (λ c. search rules) returns)

@@ -6,7 +6,7 @@ use Rattle.uplink.proofs.uplink_integrate.Statement.{statement}
 use Rattle.uplink.proofs.uplink_integrate.Tie as tie
 
 returns : tie.Need-returns
-returns c = told-count entry.integrate c.before.before.before.before.integrate.result c.before.answer-numbers.ensures c.before.before.before.before.integrate.ensures
+returns c = told-count entry.integrate c.integrate.result c.answer_numbers-n.ensures c.integrate.ensures
 
-pub uplink-integrate-spec : {M : Type 1} → statement M
-uplink-integrate-spec = tie.close (tie.spec (λ c κs. search rules) (λ c κs. search rules) (λ c. search rules) returns)
+pub uplink_integrate_spec : {M : Type 1} → statement M
+uplink_integrate_spec = tie.close (tie.spec (λ c κs. search rules) (λ c κs. search rules) (λ c. search rules) returns)

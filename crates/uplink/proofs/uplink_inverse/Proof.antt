@@ -6,7 +6,7 @@ use Rattle.uplink.proofs.uplink_inverse.Statement.{statement}
 use Rattle.uplink.proofs.uplink_inverse.Tie as tie
 
 returns : tie.Need-returns
-returns c = told-count entry.inverse c.before.before.before.before.inverse.result c.before.answer-numbers.ensures c.before.before.before.before.inverse.ensures
+returns c = told-count entry.inverse c.inverse.result c.answer_numbers-n.ensures c.inverse.ensures
 
-pub uplink-inverse-spec : {M : Type 1} → statement M
-uplink-inverse-spec = tie.close (tie.spec (λ c κs. search rules) (λ c κs. search rules) (λ c. search rules) returns)
+pub uplink_inverse_spec : {M : Type 1} → statement M
+uplink_inverse_spec = tie.close (tie.spec (λ c κs. search rules) (λ c κs. search rules) (λ c. search rules) returns)

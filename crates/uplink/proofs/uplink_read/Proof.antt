@@ -6,7 +6,7 @@ use Rattle.uplink.proofs.uplink_read.Statement.{statement}
 use Rattle.uplink.proofs.uplink_read.Tie as tie
 
 returns : tie.Need-returns
-returns c = told-pairs entry.read c.before.before.before.before.before.read.result c.before.before.read-numbers.ensures c.before.before.before.before.before.read.ensures
+returns c = told-pairs entry.read c.read.result c.read_numbers-n.ensures c.read.ensures
 
-pub uplink-read-spec : {M : Type 1} → statement M
-uplink-read-spec = tie.close (tie.spec (λ c κs. search rules) (λ c κs. search rules) (λ c. search rules) (λ c. search rules) returns)
+pub uplink_read_spec : {M : Type 1} → statement M
+uplink_read_spec = tie.close (tie.spec (λ c κs. search rules) (λ c κs. search rules) (λ c. search rules) (λ c. search rules) returns)

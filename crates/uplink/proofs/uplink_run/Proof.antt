@@ -5,7 +5,7 @@ use Rattle.uplink.proofs.uplink_run.Statement.{statement}
 use Rattle.uplink.proofs.uplink_run.Tie as tie
 
 returns : tie.Need-returns
-returns c = told-run c.before.before.run.result c.before.before.run.ensures c.before.run-numbers.ensures
+returns c = told-run c.run.result c.run.ensures c.run_numbers-n.ensures
 
-pub uplink-run-spec : {M : Type 1} → statement M
-uplink-run-spec = tie.close (tie.spec (λ c κs. search rules) (λ c κs. search rules) returns)
+pub uplink_run_spec : {M : Type 1} → statement M
+uplink_run_spec = tie.close (tie.spec (λ c κs. search rules) (λ c κs. search rules) returns)

@@ -5,7 +5,7 @@ use Rattle.uplink.proofs.uplink_value.Statement.{statement}
 use Rattle.uplink.proofs.uplink_value.Tie as tie
 
 returns : tie.Need-returns
-returns c = told-value c.before.before.value.result c.before.before.value.ensures c.before.value-numbers.ensures
+returns c = told-value c.value.result c.value.ensures c.value_numbers-n.ensures
 
-pub uplink-value-spec : {M : Type 1} → statement M
-uplink-value-spec = tie.close (tie.spec (λ c κs. search rules) (λ c κs. search rules) returns)
+pub uplink_value_spec : {M : Type 1} → statement M
+uplink_value_spec = tie.close (tie.spec (λ c κs. search rules) (λ c κs. search rules) returns)

@@ -6,7 +6,7 @@ use Rattle.uplink.proofs.uplink_write.Statement.{statement}
 use Rattle.uplink.proofs.uplink_write.Tie as tie
 
 returns : tie.Need-returns
-returns c = told-count (entry.write _) c.before.before.before.before.write.result c.before.answer-numbers.ensures c.before.before.before.before.write.ensures
+returns c = told-count (entry.write _) c.write.result c.answer_numbers-n.ensures c.write.ensures
 
-pub uplink-write-spec : {M : Type 1} → statement M
-uplink-write-spec = tie.close (tie.spec (λ c κs. search rules) (λ c κs. search rules) (λ c. search rules) returns)
+pub uplink_write_spec : {M : Type 1} → statement M
+uplink_write_spec = tie.close (tie.spec (λ c κs. search rules) (λ c κs. search rules) (λ c. search rules) returns)

@@ -6,8 +6,8 @@ use Rattle.uplink.proofs.uplink_write_faithful.Statement.{statement}
 use Rattle.uplink.proofs.uplink_write_faithful.Tie as tie
 
 returns : tie.Need-returns
-returns c = told-count (entry.write_faithful _) c.before.before.before.before.write-faithful.result c.before.answer-numbers.ensures
-    c.before.before.before.before.write-faithful.ensures
+returns c = told-count (entry.write_faithful _) c.write_faithful.result c.answer_numbers-n.ensures
+    c.write_faithful.ensures
 
-pub uplink-write-faithful-spec : {M : Type 1} → statement M
-uplink-write-faithful-spec = tie.close (tie.spec (λ c κs. search rules) (λ c κs. search rules) (λ c. search rules) returns)
+pub uplink_write_faithful_spec : {M : Type 1} → statement M
+uplink_write_faithful_spec = tie.close (tie.spec (λ c κs. search rules) (λ c κs. search rules) (λ c. search rules) returns)

@@ -7,14 +7,14 @@ use Rattle.running.proofs.Laws.{times_more, times_none}
 use Rattle.values.proofs.multiplied_on.Statement.{statement}
 use Rattle.values.proofs.multiplied_on.Tie as tie
 
-abbrev invariant-loop : tie.invariant-loop
+abbrev invariant-loop : tie.invariant-loop-left
 invariant-loop x k p n left₀ r₀ left r = times (n - k) x p ≡ times left x r
 
-abbrev decreases-loop : tie.decreases-loop
+abbrev decreases-loop : tie.decreases-loop-left
 decreases-loop x k p n left₀ r₀ left r = left
 
-pub multiplied-on-spec : {M : Type 1} → statement M
-multiplied-on-spec =
+pub multiplied_on_spec : {M : Type 1} → statement M
+multiplied_on_spec =
     tie.close
     (tie.spec
     invariant-loop
@@ -23,5 +23,5 @@ multiplied-on-spec =
     (λ c. refl)
     (λ c. omega arith)
     (λ c. omega arith)
-    (λ c. let l = c.before.loop in l.invariant ∙ times_more l.left c.before.before.args.x l.r (omega arith))
-    (λ c. let l = c.before.loop in sym (l.invariant ∙ times_none l.left c.before.before.args.x l.r (omega arith))))
+    (λ c. let l = c.loop-left in l.invariant ∙ times_more l.left c.args.x l.r (omega arith))
+    (λ c. let l = c.loop-left in sym (l.invariant ∙ times_none l.left c.args.x l.r (omega arith))))

@@ -5,6 +5,6 @@ use Rattle.running.specs.Primitives.{times}
 use Rattle.values.proofs.nothing_found.Statement.{statement}
 use Rattle.values.proofs.nothing_found.Tie as tie
 
-pub nothing-found-spec : {M : Type 1} → statement M
+pub nothing_found_spec : {M : Type 1} → statement M
 unfolding times
-nothing-found-spec = tie.close (tie.spec (λ c. record { tests = (refl, refl); none_yet = refl; reached = record { low = omega arith; formed = refl } }))
+nothing_found_spec = tie.close (tie.spec (λ c. record { tests = (refl, refl); none_yet = refl; reached = record { low = omega arith; formed = refl } }))

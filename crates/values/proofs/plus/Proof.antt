@@ -3,5 +3,5 @@ use mathlib.Core.Path.{refl}
 use Rattle.values.proofs.plus.Statement.{statement}
 use Rattle.values.proofs.plus.Tie as tie
 
-pub plus-spec : {M : Type 1} → statement M
-plus-spec = tie.close (tie.spec (λ c. rw c.before.if1.true refl) (λ c. rw c.if1.false refl))
+pub plus_spec : {M : Type 1} → statement M
+plus_spec = tie.close (tie.spec (λ c. rw c.if-f.true refl) (λ c. rw c.if-f.false refl))

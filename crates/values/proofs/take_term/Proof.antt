@@ -6,37 +6,37 @@ use Rattle.values.proofs.take_term.Statement.{statement}
 use Rattle.values.proofs.take_term.Tie as tie
 
 -- the start, from where the imaginary part was asked for
-abbrev start : tie.After-is-real → tie.Start
+abbrev start : tie.After-is_real → tie.Start
 start c = c.before.before.before.before
 
-pub take-term-spec : {M : Type 1} → statement M
-take-term-spec =
+pub take_term_spec : {M : Type 1} → statement M
+take_term_spec =
     tie.close
     (tie.spec
     (λ c κs. search rules)
     (λ c.
-    let st = c.before.before.before in
-    takes-zero st.args.x st.args.f st.args.e (sym c.before.is_zero.ensures ∙ c.if1.true) st.requires)
+    let st = c in
+    takes-zero st.args.x st.args.f st.args.e (sym c.is_zero.ensures ∙ c.if-is_zero.true) st.requires)
     (λ c κs. search rules)
     (λ c κs. search rules)
     (λ c. search rules)
     (λ c. search rules)
     (λ c.
-    let told = c.before.before in
-    let real = told.before.before in
-    let test = real.before in
+    let told = c in
+    let real = told.before.before.before.before in
+    let test = real in
     let st = start real in
-    takes-other st.args.x st.args.f st.args.e real.is_real.result (sym test.before.is_zero.ensures ∙ test.if1.false)
-    (sym told.small-whole.ensures ∙ c.enum_told.given.1) real.is_real.ensures st.pre)
+    takes-other st.args.x st.args.f st.args.e real.is_real.result (sym test.is_zero.ensures ∙ test.if-is_zero.false)
+    (sym told.small_whole.ensures ∙ c.in_default.is) real.is_real.ensures st.requires)
     (λ c κs.
-    let told = c.before.before.before.before.before in
-    let last = (start told.before.before).requires in
+    let told = c in
+    let last = (start told.before.before.before.before.before.before.before).requires in
     record { low = last.low; formed = last.formed })
     (λ c.
-    let power = c.before.before.before.before in
-    let told = power.before.before in
-    let real = told.before.before in
-    let test = real.before in
+    let power = c in
+    let told = power in
+    let real = told.before.before.before.before.before.before.before.before in
+    let test = real in
     let st = start real in
-    takes-power st.args.x st.args.f st.args.e real.is_real.result _ c.add-power.result (sym test.before.is_zero.ensures ∙ test.if1.false)
-    (sym told.small-whole.ensures ∙ power.n.given.1) real.is_real.ensures c.add-power.ensures))
+    takes-power st.args.x st.args.f st.args.e real.is_real.result _ c.add_power.result (sym test.is_zero.ensures ∙ test.if-is_zero.false)
+    (sym told.small_whole.ensures ∙ power.in-Is.is) real.is_real.ensures c.add_power.ensures))

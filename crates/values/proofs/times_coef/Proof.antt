@@ -4,10 +4,10 @@ use mathlib.Core.Path.{refl, sym, ◌∙◌}
 use Rattle.values.proofs.times_coef.Statement.{statement}
 use Rattle.values.proofs.times_coef.Tie as tie
 
-pub times-coef-spec : {M : Type 1} → statement M
-times-coef-spec =
+pub times_coef_spec : {M : Type 1} → statement M
+times_coef_spec =
     tie.close
     (tie.spec
     (λ c κs. search rules)
-    (λ c. rw (sym c.before.is_one.ensures ∙ c.if1.true) refl)
-    (λ c. rw (sym c.before.before.is_one.ensures ∙ c.before.if1.false) refl))
+    (λ c. rw (sym c.is_one.ensures ∙ c.if-is_one.true) refl)
+    (λ c. rw (sym c.is_one.ensures ∙ c.if-is_one.false) refl))

@@ -4,6 +4,6 @@ use Rattle.values.specs.Value.{plus_terms, value}
 use Rattle.values.proofs.total.Statement.{statement}
 use Rattle.values.proofs.total.Tie as tie
 
-pub total-spec : {M : Type 1} → statement M
+pub total_spec : {M : Type 1} → statement M
 unfolding plus_terms value
-total-spec = tie.close (tie.spec (λ c. rw c.if1.true refl) (λ c. rw c.if1.false refl))
+total_spec = tie.close (tie.spec (λ c. rw c.if-f.true refl) (λ c. rw c.if-f.false refl))

@@ -7,17 +7,17 @@ use Rattle.values.proofs.Laws.{judged-all}
 use Rattle.values.proofs.value_of.Statement.{statement}
 use Rattle.values.proofs.value_of.Tie as tie
 
-pub value-of-spec : {M : Type 1} → statement M
+pub value_of_spec : {M : Type 1} → statement M
 unfolding value_of
-value-of-spec =
+value_of_spec =
     tie.close
     (tie.spec
     (λ c κs. search rules)
-    (λ c s l. rw (sym c.before.is_finite.ensures ∙ not-true _ c.if1.true) refl)
+    (λ c s l. rw (sym c.is_finite.ensures ∙ c.if-not-is_finite.true) refl)
     (λ c κs. search rules)
     (λ c κs. search rules)
     (λ c s l.
-    let found = c.before in
-    let test = found.before in
-    let fine = sym test.before.is_finite.ensures ∙ not-false _ test.if1.false in
-    c.judge.ensures ∙ judged-all _ s found.find.result fine (found.find.ensures s l)))
+    let found = c in
+    let test = found in
+    let fine = sym test.is_finite.ensures ∙ test.if-not-is_finite.false in
+    c.judge.ensures ∙ judged-all _ s found.find-f.result fine (found.find-f.ensures s l)))

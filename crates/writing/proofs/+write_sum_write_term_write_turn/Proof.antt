@@ -108,11 +108,11 @@ write-turn-claims t = (
 
 -- ---- write_sum
 
-abbrev Inv : write-sum-lts.invariant-loop
+abbrev Inv : write-sum-lts.invariant-loop-q
 Inv kinds insides numbers j m complex left b₀ q₀ identity₀ draft₀ b q identity draft =
     (s : Sum) → Lies (book kinds insides numbers) j (j + m) left s → Left b₀ b draft₀ draft (book kinds insides numbers) j q (j + m) left (rust-loop complex) identity s
 
-abbrev μ : write-sum-lts.decreases-loop
+abbrev μ : write-sum-lts.decreases-loop-q
 μ kinds insides numbers j m complex left b₀ q₀ identity₀ draft₀ b q identity draft = j + m - q
 
 module _ (t : ℕ) where
@@ -120,13 +120,13 @@ module _ (t : ℕ) where
   Sum-start = write-sum-lts.Start (write-sum-claims t) (write-sum-at t) write-sum.Post Inv μ
 
   abbrev Sum-loop : Type 0
-  Sum-loop = write-sum-lts.At-loop (write-sum-claims t) (write-sum-at t) write-sum.Post Inv μ
+  Sum-loop = write-sum-lts.At-loop-q (write-sum-claims t) (write-sum-at t) write-sum.Post Inv μ
 
   abbrev Sum-load : Type 0
-  Sum-load = write-sum-lts.After-load (write-sum-claims t) (write-sum-at t) write-sum.Post Inv μ
+  Sum-load = write-sum-lts.After-load-x (write-sum-claims t) (write-sum-at t) write-sum.Post Inv μ
 
   abbrev Sum-turn : Type 0
-  Sum-turn = write-sum-lts.After-write-turn (write-sum-claims t) (write-sum-at t) write-sum.Post Inv μ
+  Sum-turn = write-sum-lts.After-write_turn (write-sum-claims t) (write-sum-at t) write-sum.Post Inv μ
 
   abbrev sum-start : Sum-loop → Sum-start
   sum-start c = c.before.before.before.before
@@ -142,45 +142,45 @@ module _ (t : ℕ) where
 
   -- what is left of the sum that is held
   abbrev now-left : (c : Sum-loop) → (let st = sum-start c in
-      Left st.args.b.now c.loop.b st.args.d c.loop.draft (sum-book st) st.args.j c.loop.q (st.args.j + st.args.m)
-      st.args.left (rust-loop st.args.complex) c.loop.identity st.pre.1.0.0)
-  now-left c = let h = (sum-start c).requires.1.0 in c.loop.invariant h.0 h.1
+      Left st.args.b.now c.loop-q.b st.args.d c.loop-q.draft (sum-book st) st.args.j c.loop-q.q (st.args.j + st.args.m)
+      st.args.left (rust-loop st.args.complex) c.loop-q.identity st.requires.1.0.0)
+  now-left c = let h = (sum-start c).requires.1.0 in c.loop-q.invariant h.0 h.1
 
   -- its next entry, which was read
   held : (c : Sum-load) → (let l = sum-loop c in let st = sum-start l in
-      Next (sum-book st) l.loop.q (st.args.j + st.args.m) st.args.left (now-left l).rest c.load.result)
-  held c = first (sum-start (sum-loop c)).args.m (now-left (sum-loop c)) c.load.result c.load.ensures c.before.loop-test.true
+      Next (sum-book st) l.loop-q.q (st.args.j + st.args.m) st.args.left (now-left l).rest c.load-x.result)
+  held c = first (sum-start (sum-loop c)).args.m (now-left (sum-loop c)) c.load-x.result c.load-x.ensures c.loop-q-test.true
 
   -- the next place fits
-  bound : (c : Sum-load) → (sum-loop c).loop.q + 1 + c.load.result.inside < 2 ^ 64
-  bound c = let st = sum-start (sum-loop c) in omega (arith, (held c).within, st.pre.1.0.1.room.insides, st.good)
+  bound : (c : Sum-load) → (sum-loop c).loop-q.q + 1 + c.load-x.result.inside < 2 ^ 64
+  bound c = let st = sum-start (sum-loop c) in omega (arith, (held c).within, st.requires.1.0.1.room.insides, st.well_formed)
 
-  ready : (c : Sum-load) → Ready (sum-loop c).loop.b (sum-loop c).loop.draft (2 * c.load.result.inside + 2) (9 * c.load.result.inside + 9)
+  ready : (c : Sum-load) → Ready (sum-loop c).loop-q.b (sum-loop c).loop-q.draft (2 * c.load-x.result.inside + 2) (9 * c.load-x.result.inside + 9)
   ready c =
       let l = sum-loop c in
       let st = sum-start l in
       let m = st.args.m in
-      let same = ready-less {f' = 2 * m} {r' = 9 * m + 2 + 0} st.pre.1.1 (omega arith) (omega arith) in
-      ready-less (turn-ready m (now-left l) c.load.result c.load.ensures c.before.loop-test.true 0 same) (omega arith) (omega arith)
+      let same = ready-less {f' = 2 * m} {r' = 9 * m + 2 + 0} st.requires.1.1 (omega arith) (omega arith) in
+      ready-less (turn-ready m (now-left l) c.load-x.result c.load-x.ensures c.loop-q-test.true 0 same) (omega arith) (omega arith)
 
-  fine : (c : Sum-load) → T (finite c.load.result.num)
-  fine c = number-finite (sum-start (sum-loop c)).args.m (now-left (sum-loop c)) c.load.result c.load.ensures c.before.loop-test.true
+  fine : (c : Sum-load) → T (finite c.load-x.result.num)
+  fine c = number-finite (sum-start (sum-loop c)).args.m (now-left (sum-loop c)) c.load-x.result c.load-x.ensures c.loop-q-test.true
 
   -- an entry is refused
-  sum-stop : write-sum-lts.Need-returns (write-sum-claims t) (write-sum-at t) write-sum.Post Inv μ
+  sum-stop : write-sum-lts.Need-returns-in-Refused (write-sum-claims t) (write-sum-at t) write-sum.Post Inv μ
   sum-stop c s l =
       let turned = c.before.before.before.before.before in
       let read = sum-load turned in
       let at = sum-loop read in
-      left-stop (sum-start at).args.m (at.loop.inv s l) read.load.result read.load.ensures read.before.loop-test.taken
-      turned.write-turn.ensures c.before.r.given.0.0 c.before.r.given.1
+      left-stop (sum-start at).args.m (at.loop-q.invariant s l) read.load-x.result read.load-x.ensures read.loop-q-test.true
+      turned.write_turn.ensures c.in-Refused.r c.in-Refused.is
 
   -- nothing is left
-  sum-end : write-sum-lts.Need-returns-2 (write-sum-claims t) (write-sum-at t) write-sum.Post Inv μ
+  sum-end : write-sum-lts.Need-returns (write-sum-claims t) (write-sum-at t) write-sum.Post Inv μ
   sum-end c s l =
-      let tested = c.before.before.before.before in
-      let at = tested.before in
-      left_end (sum-start at).args.m (at.loop.invariant s l) tested.loop-test.false c.before.before.close.ensures
+      let tested = c in
+      let at = tested.before.before.before.before.before in
+      left_end (sum-start at).args.m (at.loop-q.invariant s l) tested.loop-q-test.false c.close.ensures
 
 -- ---- write_term
 
@@ -189,31 +189,31 @@ module _ (t : ℕ) where
   Term-start = write-term-lts.Start (write-term-claims t) (write-term-at t) write-term.Post
 
   abbrev Term-sum : Type 0
-  Term-sum = write-term-lts.After-write-sum (write-term-claims t) (write-term-at t) write-term.Post
+  Term-sum = write-term-lts.After-write_sum (write-term-claims t) (write-term-at t) write-term.Post
 
   -- where the argument was written, and where the function began
-  abbrev term-else : Term-sum → write-term-lts.Else1 (write-term-claims t) (write-term-at t) write-term.Post
+  abbrev term-else : Term-sum → write-term-lts.Else-x-eq-X (write-term-claims t) (write-term-at t) write-term.Post
   term-else c = c.before.before.before
 
   abbrev term-start : Term-sum → Term-start
   term-start c = (term-else c).before.before.before.before.before
 
   -- the argument is refused
-  term-refused : write-term-lts.Need-returns-2 (write-term-claims t) (write-term-at t) write-term.Post
+  term-refused : write-term-lts.Need-returns-in-Refused (write-term-claims t) (write-term-at t) write-term.Post
   term-refused c s l =
       let argument = c.before.before.before.before.before in
       let st = term-start argument in
-      term-stop st.args.x st.args.complex (on_list st.args.complex s) (9 * st.args.x.inside) (term-else argument).if1.false (argument.write-sum.ensures s l)
-      c.before.q.given.0.0 c.before.q.given.1
+      term-stop st.args.x st.args.complex (on_list st.args.complex s) (9 * st.args.x.inside) (term-else argument).if-x-eq-X.false (argument.write_sum.ensures s l)
+      c.in-Refused.q c.in-Refused.is
 
   -- the argument is written, and the function after it
-  term-done : write-term-lts.Need-returns-3 (write-term-claims t) (write-term-at t) write-term.Post
+  term-done : write-term-lts.Need-returns-in-Done (write-term-claims t) (write-term-at t) write-term.Post
   term-done c s l =
-      let went = c.before.before.before.before.before.before in
-      let argument = went.before.before.before.before in
+      let went = c in
+      let argument = went.before.before.before.before.before.before.before.before.before.before.before in
       let st = term-start argument in
-      term-function st.args.x st.args.complex (on_list st.args.complex s) (9 * st.args.x.inside) (term-else argument).if1.false (argument.write-sum.ensures s l) went.e.given.1
-      c.before.before.before.is_one.ensures c.before.before.write-function.ensures
+      term-function st.args.x st.args.complex (on_list st.args.complex s) (9 * st.args.x.inside) (term-else argument).if-x-eq-X.false (argument.write_sum.ensures s l) went.in-Done.is
+      c.is_one.ensures c.write_function.ensures
 
 -- ---- write_turn
 
@@ -222,61 +222,61 @@ module _ (t : ℕ) where
   Turn-start = write-turn-lts.Start (write-turn-claims t) (write-turn-at t) write-turn.Post
 
   abbrev Turn-kept : Type 0
-  Turn-kept = write-turn-lts.After-before2 (write-turn-claims t) (write-turn-at t) write-turn.Post
+  Turn-kept = write-turn-lts.After-before-e (write-turn-claims t) (write-turn-at t) write-turn.Post
 
   abbrev Turn-term : Type 0
-  Turn-term = write-turn-lts.After-write-term (write-turn-claims t) (write-turn-at t) write-turn.Post
+  Turn-term = write-turn-lts.After-write_term (write-turn-claims t) (write-turn-at t) write-turn.Post
 
   -- from the term back: what was written is kept, the coefficient is not zero, and where the turn began
   abbrev turn-kept : Turn-term → Turn-kept
   turn-kept c = c.before.before.before.before
 
-  abbrev turn-else : Turn-kept → write-turn-lts.Else1 (write-turn-claims t) (write-turn-at t) write-turn.Post
+  abbrev turn-else : Turn-kept → write-turn-lts.Else-is_zero (write-turn-claims t) (write-turn-at t) write-turn.Post
   turn-else c = c.before.before.before
 
   abbrev turn-start : Turn-kept → Turn-start
   turn-start c = (turn-else c).before.before.before.before.before
 
   -- the term is refused
-  turn-refused : write-turn-lts.Need-returns-2 (write-turn-claims t) (write-turn-at t) write-turn.Post
+  turn-refused : write-turn-lts.Need-returns-in-Refused (write-turn-claims t) (write-turn-at t) write-turn.Post
   turn-refused c s l =
       let term = c.before.before.before.before.before in
       let kept = turn-kept term in
       let test = turn-else kept in
       let st = turn-start kept in
-      turn-stop st.args.x st.args.complex (on_list st.args.complex s) (9 * st.args.x.inside) st.args.identity (sym test.before.is_zero.ensures ∙ test.if1.left) refl
-      kept.before2.ensures
-      (term.write-term.ensures s l) c.before.q.given.0.0 c.before.q.given.1
+      turn-stop st.args.x st.args.complex (on_list st.args.complex s) (9 * st.args.x.inside) st.args.identity (sym test.is_zero.ensures ∙ test.if-is_zero.left) refl
+      kept.before-e.ensures
+      (term.write_term.ensures s l) c.in-Refused.q c.in-Refused.is
 
   -- the term is written, and what follows it
-  turn-done : write-turn-lts.Need-returns-3 (write-turn-claims t) (write-turn-at t) write-turn.Post
+  turn-done : write-turn-lts.Need-returns-in-Done (write-turn-claims t) (write-turn-at t) write-turn.Post
   turn-done c s l =
-      let went = c.before.before.before.before.before in
-      let term = went.before.before.before.before in
+      let went = c in
+      let term = went.before.before.before.before.before.before.before.before.before in
       let kept = turn-kept term in
       let test = turn-else kept in
       let st = turn-start kept in
-      turn_more st.args.x st.args.complex (on_list st.args.complex s) (9 * st.args.x.inside) st.args.identity (sym test.before.is_zero.ensures ∙ test.if1.left) refl
-      kept.before2.ensures
-      (term.write-term.ensures s l) went.f.given.1 c.before.before.finish.ensures
+      turn_more st.args.x st.args.complex (on_list st.args.complex s) (9 * st.args.x.inside) st.args.identity (sym test.is_zero.ensures ∙ test.if-is_zero.left) refl
+      kept.before-e.ensures
+      (term.write_term.ensures s l) went.in-Done.is c.finish.ensures
 
-pub +write-sum-write-term-write-turn-spec : {M : Type 1} → statement M
-+write-sum-write-term-write-turn-spec =
+pub +write_sum_write_term_write_turn_spec : {M : Type 1} → statement M
++write_sum_write_term_write_turn_spec =
     close μ-write-sum μ-write-term μ-write-turn
     (λ t. write-sum-lts.spec (write-sum-claims t) (write-sum-at t) write-sum.Post Inv μ
     (λ c s l. outset l)
-    (λ c. let st = sum-start t c in omega (arith, st.pre.1.0.1.room.insides, st.good))
+    (λ c. let st = sum-start t c in omega (arith, st.requires.1.0.1.room.insides, st.well_formed))
     -- the next entry
-    (λ c κs. let w = now-left t c.before in let n = next-at _ _ _ _ w.rest w.lies c.loop-test.true in (n.readable, n.first.plain))
+    (λ c κs. let w = now-left t c.before in let n = next-at _ _ _ _ w.rest w.lies c.loop-q-test.true in (n.readable, n.first.plain))
     (λ c. omega (arith, bound t c))
     (λ c. (held t c).first.deep)
     (λ c κs.
     let read = c.before in
     let n = held t read in
-    (omega (arith, n.first.deep, (sum-start t (sum-loop t read)).pre.0), ((n.inner, n.lies-inner), ready t read, fine t read)))
+    (omega (arith, n.first.deep, (sum-start t (sum-loop t read)).requires.0), ((n.inner, n.lies-inner), ready t read, fine t read)))
     (λ c. search rules)
     -- it is refused
-    (λ c. let turned = c.before.before.before.before.before in let h = (sum-start t (sum-loop t (sum-load t turned))).pre.1.0 in (sum-stop t c h.0 h.1).long)
+    (λ c. let turned = c.before.before.before.before.before in let h = (sum-start t (sum-loop t (sum-load t turned))).requires.1.0 in (sum-stop t c h.0 h.1).long)
     (sum-stop t)
     -- or written
     (λ c. search rules)
@@ -284,69 +284,69 @@ pub +write-sum-write-term-write-turn-spec : {M : Type 1} → statement M
     (λ c. omega (arith, bound t c.before.before.before.before.before.before.before.before))
     (λ c. omega (arith, bound t c.before.before.before.before.before.before.before.before.before))
     (λ c. omega (arith, bound t c.before.before.before.before.before.before.before.before.before))
-    (λ c. let read = c.before.before.before.before.before.before.before.before.before in omega (arith, (held t read).within, read.before.loop-test.true))
+    (λ c. let read = c.before.before.before.before.before.before.before.before.before in omega (arith, (held t read).within, read.loop-q-test.true))
     (λ c s l.
     let turned = c.before.before.before.before.before.before.before in
     let read = sum-load t turned in
     let at = sum-loop t read in
-    left-more (sum-start t at).args.m (at.loop.inv s l) read.load.result read.load.ensures read.before.loop-test.taken
-    turned.write-turn.ensures c.before.before.before.next.given.1 c.before.meets-x.ensures)
+    left-more (sum-start t at).args.m (at.loop-q.invariant s l) read.load-x.result read.load-x.ensures read.loop-q-test.true
+    turned.write_turn.ensures c.in-Done.is c.meets_x-identity.ensures)
     -- nothing is left
-    (λ c κs. let at = c.before.before in let st = sum-start t at in close-ready st.args.m (now-left t at) c.before.loop-test.false st.pre.1.1)
-    (λ c. let h = (sum-start t c.before.before.before.before.before).pre.1.0 in (sum-end t c h.0 h.1).long)
+    (λ c κs. let at = c.before.before in let st = sum-start t at in close-ready st.args.m (now-left t at) c.loop-q-test.false st.requires.1.1)
+    (λ c. let h = (sum-start t c.before.before.before.before.before).requires.1.0 in (sum-end t c h.0 h.1).long)
     (sum-end t))
     (λ t. write-term-lts.spec (write-term-claims t) (write-term-at t) write-term.Post
     -- a power of x
-    (λ c κs. let st = c.before.before.before.before.before.before in (ready-less st.requires.1.1 (omega arith) (omega arith), st.requires.1.2))
-    (λ c. c.before.before.write-power.ensures.long)
+    (λ c κs. let st = c in (ready-less st.requires.1.1 (omega arith) (omega arith), st.requires.1.2))
+    (λ c. c.write_power.ensures.long)
     (λ c s l.
-    let test = c.before.before.before.before in
-    let st = test.before.before.before.before.before in
-    term-power st.args.x st.args.complex (on_list st.args.complex s) (9 * st.args.x.inside) test.if1.true c.before.before.write-power.ensures)
+    let test = c in
+    let st = test in
+    term-power st.args.x st.args.complex (on_list st.args.complex s) (9 * st.args.x.inside) test.if-x-eq-X.true c.write_power.ensures)
     -- a function of a sum
     (λ c. search rules)
     (λ c κs.
-    let st = c.before.before.before.before.before.before.before in
+    let st = c in
     (omega (arith, st.requires.0), (st.requires.1.0, ready-less st.requires.1.1 (omega arith) (omega arith))))
     (λ c. search rules)
     (λ c. search rules)
     (λ c κs. search rules)
     (λ c κs.
-    let argument = c.before.before.before.before.before.before.before in
+    let argument = c.before.before.before.before.before.before.before.before in
     let st = term-start t argument in
-    let h = st.pre.1.0 in
-    (ready-spoken st.pre.1.1 (argument.write-sum.ensures h.0 h.1) c.before.before.before.e.given.1 0 3 (omega arith) (omega arith), st.pre.1.2))
-    (λ c. let h = (term-start t c.before.before.before.before.before).pre.1.0 in (term-refused t c h.0 h.1).long)
+    let h = st.requires.1.0 in
+    (ready-spoken st.requires.1.1 (argument.write_sum.ensures h.0 h.1) c.in-Done.is 0 3 (omega arith) (omega arith), st.requires.1.2))
+    (λ c. let h = (term-start t c.before.before.before.before.before).requires.1.0 in (term-refused t c h.0 h.1).long)
     (term-refused t)
-    (λ c. let h = (term-start t c.before.before.before.before.before.before.before.before.before.before).pre.1.0 in (term-done t c h.0 h.1).long)
+    (λ c. let h = (term-start t c.before.before.before.before.before.before.before.before.before.before.before).requires.1.0 in (term-done t c h.0 h.1).long)
     (term-done t))
     (λ t. write-turn-lts.spec (write-turn-claims t) (write-turn-at t) write-turn.Post
     (λ c κs. search rules)
     -- the coefficient is zero
     (λ c s l.
-    let st = c.before.before.before.before.before in
-    turn-zero st.args.x st.args.complex (on_list st.args.complex s) (9 * st.args.x.inside) st.args.identity (sym c.before.is_zero.ensures ∙ c.if1.true))
+    let st = c in
+    turn-zero st.args.x st.args.complex (on_list st.args.complex s) (9 * st.args.x.inside) st.args.identity (sym c.is_zero.ensures ∙ c.if-is_zero.true))
     -- it is not
-    (λ c κs. ready-less c.before.before.before.before.before.before.before.requires.1.1 (omega arith) (omega arith))
+    (λ c κs. ready-less c.requires.1.1 (omega arith) (omega arith))
     (λ c κs.
     let kept = c.before.before.before in
     let st = turn-start t kept in
     let n = st.args.x.inside in
-    (omega (arith, st.pre.0), (st.pre.1.0, ready-drawn st.pre.1.1 kept.before2.ensures (2 * n) (9 * n + 5) (omega arith) (omega arith), st.pre.1.2)))
+    (omega (arith, st.requires.0), (st.requires.1.0, ready-drawn st.requires.1.1 kept.before-e.ensures (2 * n) (9 * n + 5) (omega arith) (omega arith), st.requires.1.2)))
     (λ c. search rules)
     (λ c. search rules)
     (λ c κs.
     let term = c.before.before.before.before.before.before in
     let kept = turn-kept t term in
     let st = turn-start t kept in
-    let h = st.pre.1.0 in
+    let h = st.requires.1.0 in
     let n = st.args.x.inside in
-    ready-spoken (ready-drawn st.pre.1.1 kept.before2.ensures (2 * n) (9 * n + 8) (omega arith) (omega arith)) (term.write-term.ensures h.0 h.1)
-    c.before.before.f.given.1 0 3 (omega arith) (omega arith))
-    (λ c. let h = (turn-start t (turn-kept t c.before.before.before.before.before)).pre.1.0 in (turn-refused t c h.0 h.1).long)
+    ready-spoken (ready-drawn st.requires.1.1 kept.before-e.ensures (2 * n) (9 * n + 8) (omega arith) (omega arith)) (term.write_term.ensures h.0 h.1)
+    c.in-Done.is 0 3 (omega arith) (omega arith))
+    (λ c. let h = (turn-start t (turn-kept t c.before.before.before.before.before)).requires.1.0 in (turn-refused t c h.0 h.1).long)
     (turn-refused t)
     (λ c.
-    let went = c.before.before.before.before.before in
-    let h = (turn-start t (turn-kept t went.before.before.before.before)).pre.1.0 in
+    let went = c in
+    let h = (turn-start t (turn-kept t went.before.before.before.before.before.before.before.before.before)).requires.1.0 in
     (turn-done t c h.0 h.1).long)
     (turn-done t))

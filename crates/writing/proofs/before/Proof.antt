@@ -6,20 +6,20 @@ use Rattle.writing.proofs.Parts.{before-first, before-x, before_more}
 use Rattle.writing.proofs.before.Statement.{statement}
 use Rattle.writing.proofs.before.Tie as tie
 
-pub before-spec : {M : Type 1} → statement M
-before-spec =
+pub before_spec : {M : Type 1} → statement M
+before_spec =
     tie.close
     (tie.spec
-    (λ c. before-first c.if1.true)
-    (λ c κs. ready-less c.before.before.before.before.before.requires (omega arith) (omega arith))
+    (λ c. before-first c.if-first.true)
+    (λ c κs. ready-less c.requires (omega arith) (omega arith))
     (λ c. search rules)
     (λ c.
-    let test2 = c.before.before.before.before in
-    let test = test2.before.before in
-    before-x test.if1.false test2.if2.true c.before.before.say-primitive.ensures)
-    (λ c κs. ready-less c.before.before.before.before.before.requires (omega arith) (omega arith))
+    let test2 = c in
+    let test = test2 in
+    before-x test.if-first.false test2.if-d.true c.say_primitive.ensures)
+    (λ c κs. ready-less c.requires (omega arith) (omega arith))
     (λ c. search rules)
     (λ c.
-    let test2 = c.before.before.before.before in
-    let test = test2.before.before in
-    before_more test.if1.false test2.if2.false c.before.before.wrap.ensures))
+    let test2 = c in
+    let test = test2 in
+    before_more test.if-first.false test2.if-d.false c.wrap.ensures))

@@ -10,16 +10,16 @@ pub close_spec : {M : Type 1} → statement M
 close_spec =
     tie.close
     (tie.spec
-    (λ c. close-full c.if1.true)
-    (λ c κs. ready-less c.before.before.before.before.before.requires (omega arith) (omega arith))
+    (λ c. close-full c.if-d.true)
+    (λ c κs. ready-less c.requires (omega arith) (omega arith))
     (λ c. search rules)
     (λ c.
-    let test2 = c.before.before.before.before in
-    let test = test2.before in
-    close-x test.if1.false test2.if2.true c.before.before.say-primitive.ensures)
-    (λ c κs. (c.before.before.before.before.before.requires, finite-zero))
+    let test2 = c in
+    let test = test2 in
+    close-x test.if-d.false test2.if-identity.true c.say_primitive.ensures)
+    (λ c κs. (c.requires, finite-zero))
     (λ c. search rules)
     (λ c.
-    let test2 = c.before.before.before.before in
-    let test = test2.before in
-    close-zero test.if1.false test2.if2.false c.before.before.say-with.ensures))
+    let test2 = c in
+    let test = test2 in
+    close-zero test.if-d.false test2.if-identity.false c.say_with.ensures))

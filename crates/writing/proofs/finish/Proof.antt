@@ -13,25 +13,25 @@ finish_spec =
     tie.close
     (tie.spec
     (λ c κs. search rules)
-    (λ c κs. ready-less c.before.before.before.requires (omega arith) (omega arith))
+    (λ c κs. ready-less c.requires (omega arith) (omega arith))
     (λ c. search rules)
     (λ c. search rules)
     (λ c κs.
-    let times = c.before.before.before.before.before.before in
-    let st = times.before.before.before.before in
-    ready-spoken st.requires times.times-coef.ensures c.before.before.e.given.1 0 1 (omega arith) (omega arith))
+    let times = c in
+    let st = times in
+    ready-spoken st.requires times.times_coef.ensures c.in-Done.is 0 1 (omega arith) (omega arith))
     (λ c. search rules)
     (λ c.
-    let times = c.before.before.before.before.before in
-    let coef = times.before in
-    let st = coef.before.before.before in
-    spoken-stop (times-as st.args.complex st.args.x.coef coef.with-coef.ensures times.times-coef.ensures)
-    c.before.q.given.0.0 c.before.q.given.1 (λ ms. wrote (plus st.args.first ms)) 0 3)
+    let times = c in
+    let coef = times in
+    let st = coef in
+    spoken-stop (times-as st.args.complex st.args.x.coef coef.with_coef.ensures times.times_coef.ensures)
+    c.in-Refused.q c.in-Refused.is (λ ms. wrote (plus st.args.first ms)) 0 3)
     (λ c. search rules)
     (λ c.
-    let went = c.before.before.before.before.before in
-    let times = went.before.before.before.before in
-    let coef = times.before in
-    let st = coef.before.before.before in
-    spoken-then (times-as st.args.complex st.args.x.coef coef.with-coef.ensures times.times-coef.ensures)
-    went.e.given.1 (drawn-done c.before.before.plus.ensures)))
+    let went = c in
+    let times = went in
+    let coef = times in
+    let st = coef in
+    spoken-then (times-as st.args.complex st.args.x.coef coef.with_coef.ensures times.times_coef.ensures)
+    went.in-Done.is (drawn-done c.plus.ensures)))

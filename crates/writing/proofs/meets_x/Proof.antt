@@ -7,11 +7,11 @@ use Rattle.writing.proofs.Parts.{bare-is}
 use Rattle.writing.proofs.meets_x.Statement.{statement}
 use Rattle.writing.proofs.meets_x.Tie as tie
 
-pub meets-x-spec : {M : Type 1} → statement M
-meets-x-spec =
+pub meets_x_spec : {M : Type 1} → statement M
+meets_x_spec =
     tie.close
     (tie.spec
     (λ c κs. search rules)
     (λ c.
-    let st = c.before.before.before in
-    ap₂ (λ (u v : Bool). not u && (eqb st.args.x.kind 1 && v)) c.before.before.is_zero.ensures (bare-is st.args.x.num st.requires)))
+    let st = c in
+    ap₂ (λ (u v : Bool). not u && (eqb st.args.x.kind 1 && v)) c.is_zero.ensures (bare-is st.args.x.num st.requires)))

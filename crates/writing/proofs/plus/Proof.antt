@@ -4,11 +4,11 @@ use Rattle.writing.proofs.Parts.{plus-first, plus-more}
 use Rattle.writing.proofs.plus.Statement.{statement}
 use Rattle.writing.proofs.plus.Tie as tie
 
-pub plus-spec : {M : Type 1} → statement M
-plus-spec =
+pub plus_spec : {M : Type 1} → statement M
+plus_spec =
     tie.close
     (tie.spec
-    (λ c. plus-first c.if1.true)
+    (λ c. plus-first c.if-first.true)
     (λ c κs. search rules)
     (λ c. search rules)
-    (λ c. plus-more c.before.before.before.before.if1.false c.before.before.say-primitive.ensures))
+    (λ c. plus-more c.if-first.false c.say_primitive.ensures))

@@ -4,12 +4,12 @@ use borrow.Author.Tests.{eq-eqb, ne_eqb}
 use Rattle.writing.proofs.primitive_for.Statement.{statement}
 use Rattle.writing.proofs.primitive_for.Tie as tie
 
-pub primitive-for-spec : {M : Type 1} → statement M
-primitive-for-spec =
+pub primitive_for_spec : {M : Type 1} → statement M
+primitive_for_spec =
     tie.close
     (tie.spec
-    (λ c. rw (eq-eqb _ 4 c.if1.true))
-    (λ c. rw (ne_eqb _ 4 c.before.if1.false) (rw (eq-eqb _ 5 c.if2.true) refl))
-    (λ c. rw (ne_eqb _ 4 c.before.before.if1.false) (rw (ne_eqb _ 5 c.before.if2.false) (rw (eq-eqb _ 6 c.if3.true) refl)))
-    (λ c. rw (ne_eqb _ 4 c.before.before.before.if1.false) (rw (ne_eqb _ 5 c.before.before.if2.false) (rw (ne_eqb _ 6 c.before.if3.false) (rw (eq-eqb _ 7 c.if4.true) refl))))
-    (λ c. rw (ne_eqb _ 4 c.before.before.before.if1.false) (rw (ne_eqb _ 5 c.before.before.if2.false) (rw (ne_eqb _ 6 c.before.if3.false) (rw (ne_eqb _ 7 c.if4.false) refl)))))
+    (λ c. rw (eq-eqb _ 4 c.if-kind-eq-EXP.true))
+    (λ c. rw (ne_eqb _ 4 c.if-kind-eq-EXP.false) (rw (eq-eqb _ 5 c.if-kind-eq-SIN.true) refl))
+    (λ c. rw (ne_eqb _ 4 c.if-kind-eq-EXP.false) (rw (ne_eqb _ 5 c.if-kind-eq-SIN.false) (rw (eq-eqb _ 6 c.if-kind-eq-COS.true) refl)))
+    (λ c. rw (ne_eqb _ 4 c.if-kind-eq-EXP.false) (rw (ne_eqb _ 5 c.if-kind-eq-SIN.false) (rw (ne_eqb _ 6 c.if-kind-eq-COS.false) (rw (eq-eqb _ 7 c.if-kind-eq-SINH.true) refl))))
+    (λ c. rw (ne_eqb _ 4 c.if-kind-eq-EXP.false) (rw (ne_eqb _ 5 c.if-kind-eq-SIN.false) (rw (ne_eqb _ 6 c.if-kind-eq-COS.false) (rw (ne_eqb _ 7 c.if-kind-eq-SINH.false) refl)))))

@@ -7,14 +7,14 @@ use Rattle.writing.proofs.Parts.{both-drawn}
 use Rattle.writing.proofs.say_both.Statement.{statement}
 use Rattle.writing.proofs.say_both.Tie as tie
 
-pub say-both-spec : {M : Type 1} → statement M
-say-both-spec =
+pub say_both_spec : {M : Type 1} → statement M
+say_both_spec =
     tie.close
     (tie.spec
-    (λ c κs. ready-less c.before.before.requires (omega arith) (omega arith))
-    (λ c κs. ready-drawn c.before.before.before.before.before.before.requires c.before.before.before.say-primitive.ensures 0 1 (omega arith) (omega arith))
+    (λ c κs. ready-less c.requires (omega arith) (omega arith))
+    (λ c κs. ready-drawn c.requires c.say_primitive-e.ensures 0 1 (omega arith) (omega arith))
     (λ c. search rules)
     (λ c.
-    let primitive = c.before.before.before.before.before.before in
-    let st = primitive.before.before.before in
-    both-drawn (does st.args.p) (does st.args.q) primitive.say-primitive.ensures c.before.before.say-primitive2.ensures))
+    let primitive = c in
+    let st = primitive in
+    both-drawn (does st.args.p) (does st.args.q) primitive.say_primitive-e.ensures c.say_primitive.ensures))

@@ -7,11 +7,11 @@ use Rattle.writing.proofs.Parts.{constant-is}
 use Rattle.writing.proofs.with_coef.Statement.{statement}
 use Rattle.writing.proofs.with_coef.Tie as tie
 
-pub with-coef-spec : {M : Type 1} → statement M
-with-coef-spec =
+pub with_coef_spec : {M : Type 1} → statement M
+with_coef_spec =
     tie.close
     (tie.spec
     (λ c κs. search rules)
     (λ c.
-    let st = c.before.before.before in
-    ap₂ (λ (u v : Bool). not u && not (eqb st.args.x.kind 1 && v)) c.before.before.is_one.ensures (constant-is st.args.x.num)))
+    let st = c in
+    ap₂ (λ (u v : Bool). not u && not (eqb st.args.x.kind 1 && v)) c.is_one.ensures (constant-is st.args.x.num)))

@@ -8,29 +8,29 @@ use Rattle.writing.proofs.Parts.{finite-zero}
 use Rattle.writing.proofs.write_constant.Statement.{statement}
 use Rattle.writing.proofs.write_constant.Tie as tie
 
-pub write-constant-spec : {M : Type 1} → statement M
-write-constant-spec =
+pub write_constant_spec : {M : Type 1} → statement M
+write_constant_spec =
     tie.close
     (tie.spec
-    (λ c κs. (ready-less c.before.before.requires (omega arith) (omega arith), finite-zero))
-    (λ c κs. ready-drawn c.before.before.before.before.before.before.requires c.before.before.before.say-with.ensures 0 1 (omega arith) (omega arith))
+    (λ c κs. (ready-less c.requires (omega arith) (omega arith), finite-zero))
+    (λ c κs. ready-drawn c.requires c.say_with-e.ensures 0 1 (omega arith) (omega arith))
     (λ c. search rules)
     (λ c. search rules)
     (λ c κs.
-    let number = c.before.before.before.before.before.before in
-    let with = number.before.before.before.before in
-    let st = with.before.before.before in
-    ready-spoken (ready-drawn st.requires with.say-with.ensures 0 2 (omega arith) (omega arith)) number.say-number.ensures c.before.before.f.given.1 0 1
+    let number = c in
+    let with = number in
+    let st = with in
+    ready-spoken (ready-drawn st.requires with.say_with-e.ensures 0 2 (omega arith) (omega arith)) number.say_number.ensures c.in-Done.is 0 1
     (omega arith) (omega arith))
     (λ c. search rules)
     (λ c.
-    let number = c.before.before.before.before.before in
-    let with = number.before.before.before.before in
-    drawn-then with.say-with.ensures
-    (spoken-stop number.say-number.ensures c.before.q.given.0.0 c.before.q.given.1 (λ ms. wrote (append ms (one (does prim.Add)))) 0 2))
+    let number = c in
+    let with = number in
+    drawn-then with.say_with-e.ensures
+    (spoken-stop number.say_number.ensures c.in-Refused.q c.in-Refused.is (λ ms. wrote (append ms (one (does prim.Add)))) 0 2))
     (λ c. search rules)
     (λ c.
-    let went = c.before.before.before.before.before in
-    let number = went.before.before.before.before in
-    let with = number.before.before.before.before in
-    drawn-then with.say-with.ensures (spoken-then number.say-number.ensures went.f.given.1 (drawn-done c.before.before.say-primitive.ensures))))
+    let went = c in
+    let number = went in
+    let with = number in
+    drawn-then with.say_with-e.ensures (spoken-then number.say_number.ensures went.in-Done.is (drawn-done c.say_primitive.ensures))))

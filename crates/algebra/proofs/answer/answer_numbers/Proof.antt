@@ -4,12 +4,12 @@ use borrow.Author.Rules.{rules}
 use Rattle.algebra.proofs.answer.answer_numbers.Statement.{statement}
 use Rattle.algebra.proofs.answer.answer_numbers.Tie as tie
 
-pub answer-numbers-spec : {M : Type 1} → statement M
-answer-numbers-spec =
+pub answer_numbers_spec : {M : Type 1} → statement M
+answer_numbers_spec =
     tie.close
     (tie.spec
     (λ c. search rules)
     (λ c. search rules)
     (λ c κs. search rules)
-    (λ c. rw c.before.r.given.1 refl)
-    (λ c. rw c.before.before.r2.given.1 (rw c.refusal-no.ensures refl)))
+    (λ c. rw c.in-Done.is refl)
+    (λ c. rw c.in-Refused.is (rw c.refusal_no.ensures refl)))

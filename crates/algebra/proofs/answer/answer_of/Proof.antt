@@ -4,5 +4,5 @@ use borrow.Author.Rules.{rules}
 use Rattle.algebra.proofs.answer.answer_of.Statement.{statement}
 use Rattle.algebra.proofs.answer.answer_of.Tie as tie
 
-pub answer-of-spec : {M : Type 1} → statement M
-answer-of-spec = tie.close (tie.spec (λ c. search rules) (λ c. search rules) (λ c. rw c.before.w.given.1 refl) (λ c. rw c.before.w2.given.1 refl))
+pub answer_of_spec : {M : Type 1} → statement M
+answer_of_spec = tie.close (tie.spec (λ c. search rules) (λ c. search rules) (λ c. rw c.in-List.is refl) (λ c. rw c.in-Refused.is refl))

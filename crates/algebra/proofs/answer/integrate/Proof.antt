@@ -6,33 +6,33 @@ use borrow.Author.Rules.{rules}
 use Rattle.algebra.proofs.answer.integrate.Statement.{statement}
 use Rattle.algebra.proofs.answer.integrate.Tie as tie
 
-put-out-requires : tie.Need-put-out-requires
+put-out-requires : tie.Need-put_out-requires
 put-out-requires c κs =
-    let after-m = c.before.before.before.before.before in
-    let after-expr-integral = after-m.before.before.before.before.before.before.before in
-    let start = after-expr-integral.before.before.before.before.before.before.before in
+    let after-m = c in
+    let after-expr-integral = after-m in
+    let start = after-expr-integral in
     let held = start.requires.0.held in
-    then-held _ start.args.w _ after-m.m.given.1 (after-expr-integral.expr-integral.ensures.1 held.0 held.1)
+    then-held _ start.args.w _ after-m.in-Done.is (after-expr-integral.expr_integral.ensures.1 held.0 held.1)
 
-returns : tie.Need-returns
+returns : tie.Need-returns-in-Refused
 unfolding integrate
 returns c s l =
-    let after-expr-integral = c.before.before.before.before.before.before.before.before in
-    let start = after-expr-integral.before.before.before.before.before.before.before in
+    let after-expr-integral = c in
+    let start = after-expr-integral in
     let args = start.args in
-    then-refused entries_in _ args.w _ of_sum args.out.now c.before.q.given.1 (after-expr-integral.expr-integral.ensures.1 s l)
+    then-refused entries_in _ args.w _ of_sum args.out.now c.in-Refused.is (after-expr-integral.expr_integral.ensures.1 s l)
 
-returns-2 : tie.Need-returns-2
+returns-2 : tie.Need-returns-in-Done
 unfolding integrate
 returns-2 c s l =
-    let after-put-out = c.before.before in
-    let after-m = after-put-out.before.before.before.before.before.before in
-    let after-expr-integral = after-m.before.before.before.before.before.before.before in
-    let start = after-expr-integral.before.before.before.before.before.before.before in
-    then-made entries_in _ start.args.w _ of_sum after-m.m.given.1 (after-expr-integral.expr-integral.ensures.1 s l) after-put-out.put-out.ensures
+    let after-put-out = c in
+    let after-m = after-put-out in
+    let after-expr-integral = after-m in
+    let start = after-expr-integral in
+    then-made entries_in _ start.args.w _ of_sum after-m.in-Done.is (after-expr-integral.expr_integral.ensures.1 s l) after-put-out.put_out.ensures
 
-pub integrate-spec : {M : Type 1} → statement M
-integrate-spec =
+pub integrate_spec : {M : Type 1} → statement M
+integrate_spec =
     tie.close
     (tie.spec
     (λ c κs. search rules)

@@ -7,34 +7,34 @@ use borrow.Author.Rules.{rules}
 use Rattle.algebra.proofs.answer.integrate_and_write.Statement.{statement}
 use Rattle.algebra.proofs.answer.integrate_and_write.Tie as tie
 
-write-sum-requires : tie.Need-write-sum-requires
+write-sum-requires : tie.Need-write_sum-requires
 write-sum-requires c κs =
-    let after-m = c.before.before.before.before.before in
-    let after-expr-integral = after-m.before.before.before.before.before.before.before in
-    let start = after-expr-integral.before.before.before.before.before.before.before in
+    let after-m = c in
+    let after-expr-integral = after-m in
+    let start = after-expr-integral in
     let held = start.requires.0.held in
-    then-held _ start.args.w _ after-m.m.given.1 (after-expr-integral.expr-integral.ensures.1 held.0 held.1)
+    then-held _ start.args.w _ after-m.in-Done.is (after-expr-integral.expr_integral.ensures.1 held.0 held.1)
 
-returns : tie.Need-returns
+returns : tie.Need-returns-in-Refused
 returns c s l =
-    let after-expr-integral = c.before.before.before.before.before.before.before.before in
-    let start = after-expr-integral.before.before.before.before.before.before.before in
+    let after-expr-integral = c in
+    let start = after-expr-integral in
     let args = start.args in
     given-as (integrate-by args.writer args.complex s)
-    (then-refused records_in _ args.w _ (write_by args.writer args.complex) args.out.now c.before.q.given.1 (after-expr-integral.expr-integral.ensures.1 s l))
+    (then-refused records_in _ args.w _ (write_by args.writer args.complex) args.out.now c.in-Refused.is (after-expr-integral.expr_integral.ensures.1 s l))
 
-returns-2 : tie.Need-returns-2
+returns-2 : tie.Need-returns-in-Done
 returns-2 c s l =
-    let after-write-sum = c.before.before in
-    let after-m = after-write-sum.before.before.before.before.before.before in
-    let after-expr-integral = after-m.before.before.before.before.before.before.before in
-    let start = after-expr-integral.before.before.before.before.before.before.before in
+    let after-write-sum = c in
+    let after-m = after-write-sum in
+    let after-expr-integral = after-m in
+    let start = after-expr-integral in
     let args = start.args in
     given-as (integrate-by args.writer args.complex s)
-    (then-made records_in _ args.w _ (write_by args.writer args.complex) after-m.m.given.1 (after-expr-integral.expr-integral.ensures.1 s l) after-write-sum.write-sum.ensures)
+    (then-made records_in _ args.w _ (write_by args.writer args.complex) after-m.in-Done.is (after-expr-integral.expr_integral.ensures.1 s l) after-write-sum.write_sum.ensures)
 
-pub integrate-and-write-spec : {M : Type 1} → statement M
-integrate-and-write-spec =
+pub integrate_and_write_spec : {M : Type 1} → statement M
+integrate_and_write_spec =
     tie.close
     (tie.spec
     (λ c κs. search rules)

@@ -7,8 +7,8 @@ use Rattle.algebra.proofs.answer.invert.Tie as tie
 
 returns : tie.Need-returns
 unfolding invert
-returns c s l = rw c.answer-of.ensures (list-given (c.before.before.before.algebraic-inverse.ensures s l))
+returns c s l = rw c.answer_of.ensures (list-given (c.algebraic_inverse-wrote.ensures s l))
 
-pub invert-spec : {M : Type 1} → statement M
-invert-spec =
+pub invert_spec : {M : Type 1} → statement M
+invert_spec =
     tie.close (tie.spec (λ c κs. search rules) (λ c κs. search rules) (λ c. search rules) returns)

@@ -7,9 +7,9 @@ use Rattle.algebra.proofs.answer.write_sum.Tie as tie
 
 returns : tie.Need-returns
 returns c s l =
-    let wrote = c.before.before.before in
-    let args = wrote.before.before.before.before.before.args in
-    rw c.answer-of.ensures (given-as (write-by args.writer args.complex s) (list-given (wrote.list-by.ensures s l)))
+    let wrote = c in
+    let args = wrote.args in
+    rw c.answer_of.ensures (given-as (write-by args.writer args.complex s) (list-given (wrote.list_by-wrote.ensures s l)))
 
-pub write-sum-spec : {M : Type 1} → statement M
-write-sum-spec = tie.close (tie.spec (λ c κs. search rules) (λ c κs. search rules) (λ c. search rules) returns)
+pub write_sum_spec : {M : Type 1} → statement M
+write_sum_spec = tie.close (tie.spec (λ c κs. search rules) (λ c κs. search rules) (λ c. search rules) returns)

@@ -5,20 +5,20 @@ use borrow.Author.Rules.{rules}
 use Rattle.algebra.proofs.lists.make_flagged.Statement.{statement}
 use Rattle.algebra.proofs.lists.make_flagged.Tie as tie
 
-returns : tie.Need-returns
+returns : tie.Need-returns-then-no_room
 returns c =
-    let after-whole = c.before.before in
-    let after-if1 = after-whole.before.before in
-    let after_small = after-if1.before.before.before.before in
-    let x = after_small.before.before.before.before.args in
-    let full = sym after-if1.before.no_room.ensures ∙ after-if1.if1.true in
-    second-try x.w x.list.now after_small.make-in-small.ensures full after-whole.make-in-whole.ensures
+    let after-whole = c in
+    let after-if1 = after-whole in
+    let after_small = after-if1 in
+    let x = after_small.args in
+    let full = sym after-if1.no_room.ensures ∙ after-if1.if-no_room.true in
+    second-try x.w x.list.now after_small.make_in_small-tried.ensures full after-whole.make_in_whole.ensures
 
-returns-2 : tie.Need-returns-2
-returns-2 c = c.before.before.before.before.make-in-small.ensures.made (sym c.before.no_room.ensures ∙ c.if1.false)
+returns-2 : tie.Need-returns
+returns-2 c = c.make_in_small-tried.ensures.made (sym c.no_room.ensures ∙ c.if-no_room.false)
 
-pub make-flagged-spec : {M : Type 1} → statement M
-make-flagged-spec =
+pub make_flagged_spec : {M : Type 1} → statement M
+make_flagged_spec =
     tie.close
     (tie.spec
     (λ c κs. search rules)

@@ -8,13 +8,13 @@ use Rattle.algebra.proofs.lists.make_in_small.Tie as tie
 
 returns : tie.Need-returns
 returns c =
-    let after-make-of = c.before.before.before.before.before in
-    let after-read-sum = after-make-of.before.before.before.before.before.before.before.before.before in
-    let x = after-read-sum.before.before.before.before.before.before.before.args in
-    first-try x.w (1152 - 256) x.list.now (after-make-of.make-of.ensures (list_held (1152 - 256) x.list.now) after-read-sum.read-sum.ensures)
+    let after-make-of = c in
+    let after-read-sum = after-make-of in
+    let x = after-read-sum.args in
+    first-try x.w (1152 - 256) x.list.now (after-make-of.make_of.ensures (list_held (1152 - 256) x.list.now) after-read-sum.read_sum-data.ensures)
 
-pub make-in-small-spec : {M : Type 1} → statement M
-make-in-small-spec =
+pub make_in_small_spec : {M : Type 1} → statement M
+make_in_small_spec =
     tie.close
     (tie.spec
     (λ c. search rules)

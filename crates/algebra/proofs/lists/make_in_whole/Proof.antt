@@ -7,13 +7,13 @@ use Rattle.algebra.proofs.lists.make_in_whole.Tie as tie
 
 returns : tie.Need-returns
 returns c =
-    let after-make-of = c.before.before.before.before.before in
-    let after-read-sum = after-make-of.before.before.before.before.before.before.before.before.before in
-    let x = after-read-sum.before.before.before.before.before.before.before.args in
-    after-make-of.make-of.ensures (read_list x.list.now) (rw whole-list at after-read-sum.read-sum.ensures)
+    let after-make-of = c in
+    let after-read-sum = after-make-of in
+    let x = after-read-sum.args in
+    after-make-of.make_of.ensures (read_list x.list.now) (rw whole-list at after-read-sum.read_sum-data.ensures)
 
-pub make-in-whole-spec : {M : Type 1} → statement M
-make-in-whole-spec =
+pub make_in_whole_spec : {M : Type 1} → statement M
+make_in_whole_spec =
     tie.close
     (tie.spec
     (λ c. search rules)

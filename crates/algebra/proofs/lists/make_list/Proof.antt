@@ -7,9 +7,9 @@ use Rattle.algebra.proofs.lists.make_list.Tie as tie
 
 returns : tie.Need-returns
 returns c =
-    let made = c.before.before.before in
-    let x = made.before.before.before.before.args in
-    rw c.unflagged.ensures (flag-dropped x.w (read_list x.list.now) made.make-flagged.ensures)
+    let made = c in
+    let x = made.args in
+    rw c.unflagged.ensures (flag-dropped x.w (read_list x.list.now) made.make_flagged-made.ensures)
 
-pub make-list-spec : {M : Type 1} → statement M
-make-list-spec = tie.close (tie.spec (λ c κs. search rules) (λ c κs. search rules) (λ c. search rules) returns)
+pub make_list_spec : {M : Type 1} → statement M
+make_list_spec = tie.close (tie.spec (λ c κs. search rules) (λ c κs. search rules) (λ c. search rules) returns)

@@ -5,25 +5,25 @@ use borrow.Author.Rules.{rules}
 use Rattle.algebra.proofs.lists.make_of.Statement.{statement}
 use Rattle.algebra.proofs.lists.make_of.Tie as tie
 
-make-requires : tie.Need-make-requires
+make-requires : tie.Need-make-answer-requires
 make-requires c κs =
-    let start = c.before.before.before.before.before.before.before.before.before.before in
-    gave-source start.requires.0 start.args.got _ c.before.before.before.before.before.got2.given.1 start.requires.1
+    let start = c in
+    gave-source start.requires.0 start.args.got _ c.in-Sum.is start.requires.1
 
-returns : tie.Need-returns
+returns : tie.Need-returns-in-Refused
 returns c x g =
-    let start = c.before.before.before.before.before.before.before.before in
-    rw c.flagged.ensures (refused-gives start.args.w x start.args.got _ start.args.out.now c.before.before.before.got.given.1 g c.before.refuse.ensures)
+    let start = c in
+    rw c.flagged.ensures (refused-gives start.args.w x start.args.got _ start.args.out.now c.in-Refused.is g c.refuse.ensures)
 
-returns-2 : tie.Need-returns-2
+returns-2 : tie.Need-returns-in-Sum
 returns-2 c x g =
-    let after-make = c.before.before.before.before.before.before.before.before in
-    let after-got = after-make.before.before.before.before.before.before in
-    let start = after-got.before.before.before.before.before in
-    rw c.flagged2.ensures (sum-gives start.args.w x start.args.got _ after-got.got2.given.1 g after-make.make.ensures)
+    let after-make = c in
+    let after-got = after-make in
+    let start = after-got in
+    rw c.flagged-in-Sum.ensures (sum-gives start.args.w x start.args.got _ after-got.in-Sum.is g after-make.make-answer.ensures)
 
-pub make-of-spec : {M : Type 1} → statement M
-make-of-spec =
+pub make_of_spec : {M : Type 1} → statement M
+make_of_spec =
     tie.close
     (tie.spec
     (λ c. search rules)

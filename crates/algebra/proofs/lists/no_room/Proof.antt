@@ -4,13 +4,13 @@ use borrow.Author.Rules.{rules}
 use Rattle.algebra.proofs.lists.no_room.Statement.{statement}
 use Rattle.algebra.proofs.lists.no_room.Tie as tie
 
-returns-2 : tie.Need-returns-2
+returns-2 : tie.Need-returns-in-Refused
 returns-2 c =
-    let after-a = c.before.before.before in
-    rw (c.refusal-no2.ensures, c.before.refusal-no.ensures, after-a.a.given.1) refl
+    let after-a = c in
+    rw (c.refusal_no-in-Refused.ensures, c.refusal_no.ensures, after-a.in-Refused.is) refl
 
-pub no-room-spec : {M : Type 1} → statement M
-no-room-spec =
+pub no_room_spec : {M : Type 1} → statement M
+no_room_spec =
     tie.close
     (tie.spec
     (λ c. search rules)

@@ -6,28 +6,28 @@ use borrow.Author.Rules.{rules}
 use Rattle.algebra.proofs.lists.read_sum.Statement.{statement}
 use Rattle.algebra.proofs.lists.read_sum.Tie as tie
 
-nodes-expr-requires : tie.Need-nodes-expr-requires
+nodes-expr-requires : tie.Need-nodes_expr-requires
 nodes-expr-requires c κs =
-    let after-enum-told = c.before.before.before.before in
-    let after_check = after-enum-told.before.before in
-    let start = after_check.before.before.before.before.before in
-    (sym after_check.check.ensures.0 ∙ after-enum-told.enum_told.given.1, start.requires)
+    let after-enum-told = c in
+    let after_check = after-enum-told in
+    let start = after_check in
+    (sym after_check.check.ensures.0 ∙ after-enum-told.in-Good.is, start.requires)
 
-returns : tie.Need-returns
+returns : tie.Need-returns-in-Refused
 returns c =
-    let start = c.before.before.before.before.before.before.before.before in
-    list-refused (1152 - start.args.top) start.args.list.now _ (sym c.before.before.before.check.ensures.0 ∙ c.before.q.given.1)
+    let start = c in
+    list-refused (1152 - start.args.top) start.args.list.now _ (sym c.check.ensures.0 ∙ c.in-Refused.is)
 
-returns-2 : tie.Need-returns-2
+returns-2 : tie.Need-returns-in-Good
 returns-2 c =
-    let after-nodes-expr = c.before.before.before.before.before.before.before in
-    let after-enum-told = after-nodes-expr.before.before.before.before.before in
-    let after_check = after-enum-told.before.before in
-    let start = after_check.before.before.before.before.before in
-    rw (list-good (1152 - start.args.top) start.args.list.now (sym after_check.check.ensures.0 ∙ after-enum-told.enum_told.given.1)) after-nodes-expr.nodes-expr.ensures
+    let after-nodes-expr = c in
+    let after-enum-told = after-nodes-expr in
+    let after_check = after-enum-told in
+    let start = after_check in
+    rw (list-good (1152 - start.args.top) start.args.list.now (sym after_check.check.ensures.0 ∙ after-enum-told.in-Good.is)) after-nodes-expr.nodes_expr.ensures
 
-pub read-sum-spec : {M : Type 1} → statement M
-read-sum-spec =
+pub read_sum_spec : {M : Type 1} → statement M
+read_sum_spec =
     tie.close
     (tie.spec
     (λ c κs. search rules)

@@ -4,20 +4,20 @@ use borrow.Author.Rules.{rules}
 use Rattle.algebra.proofs.lists.refuse.Statement.{statement}
 use Rattle.algebra.proofs.lists.refuse.Tie as tie
 
-returns : tie.Need-returns
-returns c = rw c.enum_told.given.1 refl
+returns : tie.Need-returns-in-Sum
+returns c = rw c.in-Sum.is refl
 
-returns-2 : tie.Need-returns-2
-returns-2 c = rw c.enum-told2.given.1 refl
+returns-2 : tie.Need-returns-in-Derivative
+returns-2 c = rw c.in-Derivative.is refl
 
-returns-3 : tie.Need-returns-3
-returns-3 c = rw c.enum-told3.given.1 refl
+returns-3 : tie.Need-returns-in-Integral
+returns-3 c = rw c.in-Integral.is refl
 
-returns-4 : tie.Need-returns-4
-returns-4 c = rw c.before.enum-told4.given.1 c.refuse-inverse.ensures
+returns-4 : tie.Need-returns-in-Inverse
+returns-4 c = rw c.in-Inverse.is c.refuse_inverse.ensures
 
-pub refuse-spec : {M : Type 1} → statement M
-refuse-spec =
+pub refuse_spec : {M : Type 1} → statement M
+refuse_spec =
     tie.close
     (tie.spec
     (λ c. search rules)

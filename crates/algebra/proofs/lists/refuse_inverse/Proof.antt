@@ -5,11 +5,11 @@ use Rattle.algebra.proofs.lists.Making.{refused-handled, refused-replaced, refus
 use Rattle.algebra.proofs.lists.refuse_inverse.Statement.{statement}
 use Rattle.algebra.proofs.lists.refuse_inverse.Tie as tie
 
-pub refuse-inverse-spec : {M : Type 1} → statement M
-refuse-inverse-spec =
+pub refuse_inverse_spec : {M : Type 1} → statement M
+refuse_inverse_spec =
     tie.close
     (tie.spec
-    (λ c. refused-handled _ _ c.if1.true)
+    (λ c. refused-handled _ _ c.if-handled.true)
     (λ c κs. search rules)
-    (λ c. let start = c.before.before.before in refused-replaced start.args.q start.args.at c.before.before.if1.false (omega (arith, c.before.refusal-no.ensures, c.if2.true)))
-    (λ c. let start = c.before.before.before in refused-kept start.args.q start.args.at c.before.before.if1.false (omega (arith, c.before.refusal-no.ensures, c.if2.false))))
+    (λ c. let start = c in refused-replaced start.args.q start.args.at c.if-handled.false (omega (arith, c.refusal_no.ensures, c.if-refusal_no-le-LAST_REPLACED.true)))
+    (λ c. let start = c in refused-kept start.args.q start.args.at c.if-handled.false (omega (arith, c.refusal_no.ensures, c.if-refusal_no-le-LAST_REPLACED.false))))

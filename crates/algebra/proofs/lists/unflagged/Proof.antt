@@ -4,14 +4,14 @@ use borrow.Author.Rules.{rules}
 use Rattle.algebra.proofs.lists.unflagged.Statement.{statement}
 use Rattle.algebra.proofs.lists.unflagged.Tie as tie
 
-returns : tie.Need-returns
-returns c = rw c.before.a.given.1 refl
+returns : tie.Need-returns-in-Sum
+returns c = rw c.in-Sum.is refl
 
-returns-2 : tie.Need-returns-2
-returns-2 c = rw c.before.a2.given.1 refl
+returns-2 : tie.Need-returns-in-Refused
+returns-2 c = rw c.in-Refused.is refl
 
-pub unflagged-spec : {M : Type 1} → statement M
-unflagged-spec =
+pub unflagged_spec : {M : Type 1} → statement M
+unflagged_spec =
     tie.close
     (tie.spec
     (λ c. search rules)

@@ -16,8 +16,8 @@ B c = book c.args.kinds.now c.args.insides.now c.args.numbers.now
 nothing : (c : tie.Start) → Lies (B c) c.args.p (c.args.p + 0) 4 none
 nothing c = lies_empty (B c) c.args.p 4 (room-less {n = c.args.p + 64} (omega arith) c.requires.3)
 
-pub alone-spec : {M : Type 1} → statement M
-alone-spec =
+pub alone_spec : {M : Type 1} → statement M
+alone_spec =
     tie.close
     (tie.spec
     (λ c κs. let st = c.before.before.before.before.before in ((st.requires.0, st.requires.1, st.requires.2), (omega arith, st.requires.3, (none, nothing st))))
@@ -25,6 +25,6 @@ alone-spec =
     (λ c. search rules)
     (λ c. search rules)
     (λ c.
-    let put = c.before.before.before.before.before in
-    let st = put.before.before.before.before.before.before in
-    (put.put-block.ensures.0, λ t lt. put.put-block.ensures.1 none t (nothing st) lt)))
+    let put = c in
+    let st = put.before.before.before.before.before.before.before.before.before.before.before in
+    (put.put_block.ensures.0, λ t lt. put.put_block.ensures.1 none t (nothing st) lt)))

@@ -15,29 +15,29 @@ use Rattle.arithmetic.proofs.add.Reading.{not-one, one}
 use Rattle.arithmetic.proofs.add.as_constant.Statement.{statement}
 use Rattle.arithmetic.proofs.add.as_constant.Tie as tie
 
-abbrev start : tie.After-load → tie.Start
+abbrev start : tie.After-load-x → tie.Start
 start c = c.before.before.before.before
 
 abbrev B : tie.Start → Book
 B c = book c.args.kinds.now c.args.insides.now c.args.numbers.now
 
 -- one term was read, and tested
-told : (c : tie.After-is-one) (b : Bool) → c.is_one.result ≡ b → (s : Sum) → (let read = c.before.before in let st = start read in
-    Lies (B st) st.args.i (st.args.i + st.args.n) 4 s → cond b (map.at read.load.result.coef) map.absent ≡ as_constant s)
+told : (c : tie.After-is_one) (b : Bool) → c.is_one.result ≡ b → (s : Sum) → (let read = c.before.before in let st = start read in
+    Lies (B st) st.args.i (st.args.i + st.args.n) 4 s → cond b (map.at read.load-x.result.coef) map.absent ≡ as_constant s)
 told c b e s ls =
-    let read = c.before.before in
-    let x = read.load.result in
-    sym ((one x read.load.ensures ls (omega arith)).0 ∙ ap (λ (v : Bool). cond v (map.at x.coef) map.absent) (sym c.is_one.ensures ∙ e))
+    let read = c in
+    let x = read.load-x.result in
+    sym ((one x read.load-x.ensures ls (omega arith)).0 ∙ ap (λ (v : Bool). cond v (map.at x.coef) map.absent) (sym c.is_one.ensures ∙ e))
 
-pub as-constant-spec : {M : Type 1} → statement M
-as-constant-spec =
+pub as_constant_spec : {M : Type 1} → statement M
+as_constant_spec =
     tie.close
     (tie.spec
     (λ c s ls. ap constant_of (sym (not-one ls (λ e. omega arith)).0))
     (λ c κs.
-    let held = c.before.before.before.requires in
+    let held = c.requires in
     let n = next-at _ _ _ 4 held.0 held.1 (omega arith) in
     (n.readable, n.first.plain))
     (λ c κs. search rules)
-    (λ c s ls. ap constant_of (told c.before true c.if2.true s ls))
-    (λ c s ls. ap constant_of (told c.before false c.if2.false s ls)))
+    (λ c s ls. ap constant_of (told c.before true c.if-is_one.true s ls))
+    (λ c s ls. ap constant_of (told c.before false c.if-is_one.false s ls)))

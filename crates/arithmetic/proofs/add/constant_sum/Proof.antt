@@ -16,9 +16,9 @@ B c = book c.args.kinds.now c.args.insides.now c.args.numbers.now
 nothing : (c : tie.Start) → Lies (B c) c.args.p (c.args.p + 0) 4 none
 nothing c = lies_empty (B c) c.args.p 4 (room-less {n = c.args.p + 64} (omega arith) c.requires)
 
-pub constant-sum-spec : {M : Type 1} → statement M
+pub constant_sum_spec : {M : Type 1} → statement M
 unfolding size
-constant-sum-spec =
+constant_sum_spec =
     tie.close
     (tie.spec
     (λ c κs. let st = c.before.before.before.before.before in (omega arith, st.requires, (none, nothing st)))
@@ -26,6 +26,6 @@ constant-sum-spec =
     (λ c. search rules)
     (λ c. search rules)
     (λ c.
-    let put = c.before.before.before.before.before in
-    let st = put.before.before.before.before.before.before in
-    (put.put-power.ensures.0, put.put-power.ensures.1 none (nothing st))))
+    let put = c in
+    let st = put.before.before.before.before.before.before.before.before.before.before.before in
+    (put.put_power.ensures.0, put.put_power.ensures.1 none (nothing st))))

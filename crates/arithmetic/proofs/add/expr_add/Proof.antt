@@ -12,31 +12,31 @@ use Rattle.arithmetic.proofs.add.Lying.{clear, apart-copy, lies-clear, operand-k
 use Rattle.arithmetic.proofs.add.expr_add.Statement.{statement}
 use Rattle.arithmetic.proofs.add.expr_add.Tie as tie
 
-abbrev start : tie.After-copy-within → tie.Start
+abbrev start : tie.After-copy_within → tie.Start
 start c = c.before.before.before.before.before.before
 
 abbrev B : tie.Start → Book
 B c = book c.args.kinds.now c.args.insides.now c.args.numbers.now
 
 -- the book with the first sum copied
-abbrev B' : tie.After-copy-within → Book
-B' c = let last = c.copy_within.new in book last.0 last.1.0 last.1.1.0
+abbrev B' : tie.After-copy_within → Book
+B' c = let last = c.copy_within.new in book last.kinds last.insides last.numbers
 
-copied : (c : tie.After-copy-within) (s : Sum) → (let a = (start c).args in Lies (B (start c)) a.i (a.i + a.n) 4 s → Lies (B' c) a.p (a.p + a.n) 4 s)
-copied c s ls = let st = start c in lies-copied c.copy_within.ensures (room-less {n = st.args.p + 64} (omega (arith, st.pre.0.few)) st.pre.2) ls
+copied : (c : tie.After-copy_within) (s : Sum) → (let a = (start c).args in Lies (B (start c)) a.i (a.i + a.n) 4 s → Lies (B' c) a.p (a.p + a.n) 4 s)
+copied c s ls = let st = start c in lies-copied c.copy_within.ensures (room-less {n = st.args.p + 64} (omega (arith, st.requires.0.few)) st.requires.2) ls
 
-kept : (c : tie.After-copy-within) → (let a = (start c).args in Kept (B (start c)) (B' c) a.p (a.p + 64))
-kept c = let st = start c in kept-wider (omega arith) (omega (arith, st.pre.0.few)) (copied-kept c.copy_within.ensures)
+kept : (c : tie.After-copy_within) → (let a = (start c).args in Kept (B (start c)) (B' c) a.p (a.p + 64))
+kept c = let st = start c in kept-wider (omega arith) (omega (arith, st.requires.0.few)) (copied-kept c.copy_within.ensures)
 
-abbrev copy_of : tie.After-add-each → tie.After-copy-within
+abbrev copy_of : tie.After-add_each → tie.After-copy_within
 copy_of c = c.before.before.before.before.before.before.before.before.before
 
-pub expr-add-spec : {M : Type 1} → statement M
-expr-add-spec =
+pub expr_add_spec : {M : Type 1} → statement M
+expr_add_spec =
     tie.close
     (tie.spec
     (λ c κs.
-    let st = c.before.before.before.before.before in
+    let st = c in
     let pre = st.requires in
     (pre.0.held.1.room, room-less {n = st.args.p + 64} (omega (arith, pre.0.few)) pre.2, apart-copy pre.0.apart))
     (λ c κs.
@@ -51,5 +51,5 @@ expr-add-spec =
     (λ c.
     let add = c.before.before.before.before.before in
     let copy = copy_of add in
-    let pre = (start copy).pre in
-    (kept_trans (kept copy) add.add-each.ensures.0, λ s t ls lt. add.add-each.ensures.1 s t (copied copy s ls) (lies-clear (kept copy) (clear pre.1.apart) lt))))
+    let pre = (start copy).requires in
+    (kept_trans (kept copy) add.add_each.ensures.0, λ s t ls lt. add.add_each.ensures.1 s t (copied copy s ls) (lies-clear (kept copy) (clear pre.1.apart) lt))))

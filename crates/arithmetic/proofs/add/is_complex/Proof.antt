@@ -13,43 +13,43 @@ use Rattle.arithmetic.proofs.add.Reading.{scan, scan-all, scan-found, scan-past,
 use Rattle.arithmetic.proofs.add.is_complex.Statement.{statement}
 use Rattle.arithmetic.proofs.add.is_complex.Tie as tie
 
-abbrev Inv : tie.invariant-loop
+abbrev Inv : tie.invariant-loop-k
 Inv kinds insides numbers i n end k₀ k =
     (i ≤ k) × (k ≤ i + n) × ((s : Sum) → Lies (book kinds insides numbers) i (i + n) 4 s → is_complex s ≡ scan (at (book kinds insides numbers)) k (i + n - k))
 
-abbrev μ : tie.decreases-loop
+abbrev μ : tie.decreases-loop-k
 μ kinds insides numbers i n end k₀ k = i + n - k
 
-abbrev from-loop : tie.At-loop Inv μ → tie.Start Inv μ
+abbrev from-loop : tie.At-loop-k Inv μ → tie.Start Inv μ
 from-loop c = c.before.before.before
 
 abbrev B : tie.Start Inv μ → Book
 B c = book c.args.kinds.now c.args.insides.now c.args.numbers.now
 
 -- the next cell was read
-told : (c : tie.After-load Inv μ) (b : Bool) → complex_entry c.load.result ≡ b → (let l = c.before.before in complex_entry (at (B (from-loop l)) l.loop.k) ≡ b)
-told c b e = ap complex_entry (sym c.load.ensures) ∙ e
+told : (c : tie.After-load-x Inv μ) (b : Bool) → complex_entry c.load-x.result ≡ b → (let l = c.before.before in complex_entry (at (B (from-loop l)) l.loop-k.k) ≡ b)
+told c b e = ap complex_entry (sym c.load-x.ensures) ∙ e
 
-pub is-complex-spec : {M : Type 1} → statement M
-is-complex-spec =
+pub is_complex_spec : {M : Type 1} → statement M
+is_complex_spec =
     tie.close
     (tie.spec
     Inv
     μ
-    (λ c. let st = c.before.before in omega (arith, st.requires.1.room.insides, st.well-formed))
+    (λ c. let st = c in omega (arith, st.requires.1.room.insides, st.well_formed))
     (λ c. (omega arith, omega arith, λ s ls. scan-all s ls))
-    (λ c κs. let l = c.before in readable l.loop.k (from-loop l).requires.1 l.loop.invariant.0 c.loop-test.true)
+    (λ c κs. let l = c.before in readable l.loop-k.k (from-loop l).requires.1 l.loop-k.invariant.0 c.loop-k-test.true)
     -- a cell that makes it so
     (λ c s ls.
     let read = c.before.before.before.before in
     let l = read.before.before in
-    sym (l.loop.invariant.2 s ls ∙ scan-found (at (B (from-loop l))) l.loop.k _ read.before.loop-test.true (told read true c.if1.true)))
+    sym (l.loop-k.invariant.2 s ls ∙ scan-found (at (B (from-loop l))) l.loop-k.k _ read.loop-k-test.true (told read true c.if-x.true)))
     -- one that does not
     (λ c. omega arith)
     (λ c. omega arith)
     (λ c.
     let read = c.before.before.before.before in
     let l = read.before.before in
-    (omega arith, omega arith, λ s ls. l.loop.invariant.2 s ls ∙ scan-past (at (B (from-loop l))) l.loop.k _ read.before.loop-test.true (told read false c.if1.false)))
+    (omega arith, omega arith, λ s ls. l.loop-k.invariant.2 s ls ∙ scan-past (at (B (from-loop l))) l.loop-k.k _ read.loop-k-test.true (told read false c.if-x.false)))
     -- nothing is left
-    (λ c s ls. let l = c.before in sym (l.loop.invariant.2 s ls ∙ scan-end (at (B (from-loop l))) l.loop.k _ c.loop-test.false)))
+    (λ c s ls. let l = c.before in sym (l.loop-k.invariant.2 s ls ∙ scan-end (at (B (from-loop l))) l.loop-k.k _ c.loop-k-test.false)))

@@ -6,13 +6,13 @@ use Rattle.arithmetic.proofs.add.Reading.{not-one, one}
 use Rattle.arithmetic.proofs.add.is_x.Statement.{statement}
 use Rattle.arithmetic.proofs.add.is_x.Tie as tie
 
-pub is-x-spec : {M : Type 1} → statement M
-is-x-spec =
+pub is_x_spec : {M : Type 1} → statement M
+is_x_spec =
     tie.close
     (tie.spec
     (λ c s ls. sym (not-one ls (λ e. omega arith)).1)
     (λ c κs.
-    let held = c.before.before.before.requires in
+    let held = c.requires in
     let n = next-at _ _ _ 4 held.0 held.1 (omega arith) in
     (n.readable, n.first.plain))
-    (λ c s ls. let read = c.before.before in sym (one read.load.result read.load.ensures ls (omega arith)).1))
+    (λ c s ls. let read = c in sym (one read.load-x.result read.load-x.ensures ls (omega arith)).1))

@@ -16,61 +16,61 @@ use Rattle.arithmetic.proofs.multiply.Laws.{whole, product-able, product-not}
 use Rattle.arithmetic.proofs.multiply.mul_some.Statement.{statement}
 use Rattle.arithmetic.proofs.multiply.mul_some.Tie as tie
 
-abbrev start : tie.After-can-mul → tie.Start
-start c = c.before.before.before.before.before.before.before.before.before.before
+abbrev start : tie.After-can_mul → tie.Start
+start c = c.before.before.before.before.before.before
 
 abbrev B : tie.Start → Book
 B s = book s.args.kinds.now s.args.insides.now s.args.numbers.now
 
 -- what was asked of any two sums that lie there
-asked : (c : tie.After-can-mul) (o : Bool) → c.can-mul.result ≡ o → (s t : Sum) → (let st = start c in
+asked : (c : tie.After-can_mul) (o : Bool) → c.can_mul.result ≡ o → (s t : Sum) → (let st = start c in
     Lies (B st) st.args.i (st.args.i + st.args.n) 4 s → Lies (B st) st.args.j (st.args.j + st.args.m) 4 t → mulable s t ≡ o)
-asked c o e s t ls lt = sym (c.can-mul.ensures s t (shape_of ls) (shape_of lt)) ∙ e
+asked c o e s t ls lt = sym (c.can_mul.ensures s t (shape_of ls) (shape_of lt)) ∙ e
 
-pub mul-some-spec : {M : Type 1} → statement M
-mul-some-spec =
+pub mul_some_spec : {M : Type 1} → statement M
+mul_some_spec =
     tie.close
     (tie.spec
-    (λ c κs. c.before.before.before.requires.0.held.1.room.kinds)
-    (λ c κs. let pre = c.before.before.before.before.before.requires in omega (arith, pre.0.held.1.room.kinds, pre.1.held.1.room.kinds))
+    (λ c κs. c.requires.0.held.1.room.kinds)
+    (λ c κs. let pre = c.requires in omega (arith, pre.0.held.1.room.kinds, pre.1.held.1.room.kinds))
     -- nothing but powers
     (λ c κs.
-    let both = c.before.before.before in
-    let second = both.before in
-    let first = second.before.before in
-    let pre = first.before.before.before.before.requires in
-    let only = and_both first.all-powers.result second.all-powers2.result both.if1.true in
-    (record { operand = pre.0; only = first.all-powers.ensures.0 only.0 }, record { operand = pre.1; only = second.all-powers2.ensures.0 only.1 }, pre.2))
-    (λ c. c.before.before.before.before.before.mul-powers.ensures.0.long.kinds)
-    (λ c. c.before.before.before.before.before.mul-powers.ensures.0.long.insides)
-    (λ c. c.before.before.before.before.before.mul-powers.ensures.0.long.numbers)
-    (λ c. c.before.before.before.before.before.mul-powers.ensures)
+    let both = c in
+    let second = both in
+    let first = second in
+    let pre = first.requires in
+    let only = and_both first.all_powers.result second.all_powers-2.result both.if-all_powers.true in
+    (record { operand = pre.0; only = first.all_powers.ensures.0 only.0 }, record { operand = pre.1; only = second.all_powers-2.ensures.0 only.1 }, pre.2))
+    (λ c. c.mul_powers.ensures.0.long.kinds)
+    (λ c. c.mul_powers.ensures.0.long.insides)
+    (λ c. c.mul_powers.ensures.0.long.numbers)
+    (λ c. c.mul_powers.ensures)
     -- any others
     (λ c κs.
-    let pre = c.before.before.before.before.before.before.before.before.before.requires in
+    let pre = c.requires in
     ((pre.0.held.0, shape_of pre.0.held.1), (pre.1.held.0, shape_of pre.1.held.1)))
     (λ c. search rules)
     (λ c. search rules)
     (λ c.
     let d = c.before in
     let st = start d in
-    (kept_refl (B st) _ _, λ s t ls lt. product-not (B st) st.args.p s t (asked d _ (not-true _ c.if2.true) s t ls lt)))
+    (kept_refl (B st) _ _, λ s t ls lt. product-not (B st) st.args.p s t (asked d _ c.if-not-can_mul.true s t ls lt)))
     (λ c κs.
-    let tested = c.before.before.before in
-    let d = tested.before in
+    let tested = c in
+    let d = tested.before.before.before.before in
     let pre = (start d).requires in
-    (whole pre.0 pre.1 (asked d _ (not-false _ tested.if2.false) pre.0.held.0 pre.1.held.0 pre.0.held.1 pre.1.held.1), pre.2))
-    (λ c. c.before.before.before.before.before.expr-mul.ensures.0.long.kinds)
-    (λ c. c.before.before.before.before.before.expr-mul.ensures.0.long.insides)
-    (λ c. c.before.before.before.before.before.expr-mul.ensures.0.long.numbers)
+    (whole pre.0 pre.1 (asked d _ tested.if-not-can_mul.false pre.0.held.0 pre.1.held.0 pre.0.held.1 pre.1.held.1), pre.2))
+    (λ c. c.expr_mul.ensures.0.long.kinds)
+    (λ c. c.expr_mul.ensures.0.long.insides)
+    (λ c. c.expr_mul.ensures.0.long.numbers)
     (λ c.
-    let e = c.before.before.before.before.before in
-    let tested = e.before.before.before.before in
-    let d = tested.before in
+    let e = c in
+    let tested = e in
+    let d = tested.before.before.before.before.before.before.before.before.before.before in
     let st = start d in
-    let last = e.expr-mul.new in (
-      e.expr-mul.ensures.0,
+    let last = e.expr_mul.new in (
+      e.expr_mul.ensures.0,
       λ s t ls lt.
-          product-able (book last.0 last.1.0 last.1.1.0) st.args.p s t e.expr-mul.result (asked d _ (not-false _ tested.if2.false) s t ls lt)
-          (e.expr-mul.ensures.1 s t ls lt),
+          product-able (book last.kinds last.insides last.numbers) st.args.p s t e.expr_mul.result (asked d _ tested.if-not-can_mul.false s t ls lt)
+          (e.expr_mul.ensures.1 s t ls lt),
     )))

@@ -4,8 +4,8 @@ use Rattle.arithmetic.proofs.multiply.Laws.{beside}
 use Rattle.arithmetic.proofs.multiply.side_by_side.Statement.{statement}
 use Rattle.arithmetic.proofs.multiply.side_by_side.Tie as tie
 
-pub side-by-side-spec : {M : Type 1} → statement M
-side-by-side-spec =
+pub side_by_side_spec : {M : Type 1} → statement M
+side_by_side_spec =
     tie.close
     (tie.spec
     (λ c κs. search rules)
@@ -14,7 +14,7 @@ side-by-side-spec =
     (λ c. search rules)
     (λ c. search rules)
     (λ c.
-    let second = c.before.before.before.before.before in
-    let first = second.before.before.before.before.before.before.before.before.before in
-    let pre = first.before.before.before.before.before.before.before.before.requires in
-    beside first.copy-in.ensures second.copy-in2.ensures pre.0 pre.4))
+    let second = c in
+    let first = second in
+    let pre = first.requires in
+    beside first.copy_in.ensures second.copy_in-2.ensures pre.0 pre.4))

@@ -12,36 +12,36 @@ use Rattle.calculus.proofs.derivative.Steps.{derive-div-is}
 use Rattle.calculus.proofs.derivative.derive_entry.Statement.{statement}
 use Rattle.calculus.proofs.derivative.derive_entry.Tie as tie
 
-pub derive-entry-spec : {M : Type 1} → statement M
-derive-entry-spec =
+pub derive_entry_spec : {M : Type 1} → statement M
+derive_entry_spec =
     tie.close
     (tie.spec
-    (λ c κs. ready-growing c.before.before.before.before.before.before.before.requires)
+    (λ c κs. ready-growing c.requires)
     (λ c. search rules)
     (λ c. search rules)
     (λ c. search rules)
     (λ c.
-    let call = c.before.before.before.before.before in
-    let test = call.before.before.before.before in
-    let st = test.before.before.before.before in
+    let call = c in
+    let test = call in
+    let st = test in
     let x = st.args.x in
-    let is_x = eq-eqb x.kind kinds.X test.if1.true in
+    let is_x = eq-eqb x.kind kinds.X test.if-x-eq-X.true in
     into_more
-    (into-power (derive_x x) st.requires.head test.if1.true (λ s. sym (derive-is-x x.kind x.inside x.num x.coef none s is_x)) call.derive-x.ensures.0
-    call.derive-x.ensures.1))
-    (λ c κs. let pre = c.before.before.before.before.before.before.before.before.before.requires in (pre, some-inside pre.head c.before.before.before.before.before.if1.false))
+    (into-power (derive_x x) st.requires.head test.if-x-eq-X.true (λ s. sym (derive-is-x x.kind x.inside x.num x.coef none s is_x)) call.derive_x.ensures.0
+    call.derive_x.ensures.1))
+    (λ c κs. let pre = c.requires in (pre, some-inside pre.head c.if-x-eq-X.false))
     (λ c. search rules)
     (λ c. search rules)
     (λ c. search rules)
     (λ c.
-    let call = c.before.before.before.before.before in
-    let test = call.before.before.before.before in
-    into-as (λ t s. derive-div-is test.before.before.before.before.before.before.args.x t s test.if2.true) call.derive-div.ensures)
+    let call = c in
+    let test = call in
+    into-as (λ t s. derive-div-is test.args.x t s test.if-x-eq-DIV.true) call.derive_div.ensures)
     (λ c κs.
-    let test = c.before.before.before in
-    let pre = test.before.before.before.before.before.before.requires in
-    (pre, omega (arith, pre.head.least, test.before.before.if1.false, test.if2.false)))
+    let test = c in
+    let pre = test.requires in
+    (pre, omega (arith, pre.head.least, test.if-x-eq-X.false, test.if-x-eq-DIV.false)))
     (λ c. search rules)
     (λ c. search rules)
     (λ c. search rules)
-    (λ c. into_more c.before.before.before.before.before.derive-function.ensures))
+    (λ c. into_more c.derive_function.ensures))

@@ -18,11 +18,11 @@ use Rattle.calculus.proofs.derivative.Steps.{turned_as, prime-not, prime-is, ln-
 use Rattle.calculus.proofs.derivative.derive_log.Statement.{statement}
 use Rattle.calculus.proofs.derivative.derive_log.Tie as tie
 
-abbrev start : tie.After-prime-of → tie.Start
-start c = c.before.before.before.before.before.before.before
+abbrev start : tie.After-prime_of → tie.Start
+start c = c.before.before.before.before
 
-abbrev B' : tie.After-put-block → Book
-B' c = let last = c.put-block.new in book last.0 last.1.0 last.1.1.0
+abbrev B' : tie.After-put_block → Book
+B' c = let last = c.put_block.new in book last.kinds last.insides last.numbers
 
 -- what becomes of the argument and the sum, with the argument's derivative and the base's logarithm
 abbrev with-ln : tie.Start → Complex → Sum → Sum → Float → Outcome
@@ -31,8 +31,8 @@ with-ln c d t s l = turned_to kinds.Div (complex.over_real (complex.times c.args
 abbrev with-prime : tie.Start → Sum → Sum → Complex → Outcome
 with-prime c t s d = by_ln (ln_of c.args.x.num) (with-ln c d t s)
 
-pub derive-log-spec : {M : Type 1} → statement M
-derive-log-spec =
+pub derive_log_spec : {M : Type 1} → statement M
+derive_log_spec =
     tie.close
     (tie.spec
     (λ c. search rules)
@@ -43,7 +43,7 @@ derive-log-spec =
     (λ c. search rules)
     (λ c. search rules)
     (λ c. search rules)
-    (λ c. let asked = c.before.before in into-refused (λ t lt s. prime-not t (with-prime (start asked) t s) (asked.prime-of.ensures t lt) c.enum_told.given.1))
+    (λ c. let asked = c.before.before in into-refused (λ t lt s. prime-not t (with-prime (start asked) t s) (asked.prime_of.ensures t lt) c.in_default.is))
     (λ c κs. search rules)
     (λ c. search rules)
     (λ c. search rules)
@@ -52,20 +52,20 @@ derive-log-spec =
     (λ c. search rules)
     (λ c. search rules)
     (λ c.
-    let found = c.before.before.before.before in
-    let asked = found.before.before in
+    let found = c in
+    let asked = found.before.before.before.before.before.before in
     let st = start asked in
     into-refused
     (λ t lt s.
-    prime-is t (with-prime st t s) (asked.prime-of.ensures t lt) found.d.given.1
-    ∙ ln-not st.args.x.num (with-ln st found.d.given.0.0 t s) c.before.before.ln-of.ensures c.enum-told2.given.1))
+    prime-is t (with-prime st t s) (asked.prime_of.ensures t lt) found.in-Is.is
+    ∙ ln-not st.args.x.num (with-ln st found.in-Is.d t s) c.ln_of.ensures c.in_default-ln_of.is))
     -- both
     (λ c κs. search rules)
     (λ c κs. search rules)
     (λ c κs.
-    let st = start c.before.before.before.before.before.before.before.before.before.before.before.before in
-    let y = st.pre.0 in (
-      (over-head kinds.Div st.args.x.inside c.before.before.before.div-real.result st.pre.1 (omega arith) (omega arith), y.argument.held, apart-result y.argument.apart),
+    let st = start c.before.before.before.before.before.before.before.before.before.before.before.before.before in
+    let y = st.requires.0 in (
+      (over-head kinds.Div st.args.x.inside c.div_real.result st.requires.1 (omega arith) (omega arith), y.argument.held, apart-result y.argument.apart),
       (y.few, room-result st.args.w y.room, y.held),
     ))
     (λ c. search rules)
@@ -73,20 +73,20 @@ derive-log-spec =
     (λ c. search rules)
     (λ c.
     let put = c.before.before.before.before.before in
-    let over = put.before.before.before.before in
-    let known = over.before.before.before in
-    let found = known.before.before.before.before in
-    let asked = found.before.before in
+    let over = put in
+    let known = over in
+    let found = known in
+    let asked = found.before.before.before.before.before.before.before.before.before.before.before.before.before.before in
     let st = start asked in
     record {
-      kept = put.put-block.ensures.0;
+      kept = put.put_block.ensures.0;
       agrees =
           λ s t ls lt.
           let sized : st.args.x.inside ≡ size t = omega (arith, lt.ends) in
-          let coef = over.div-real.ensures ∙ ap (λ (z : Complex). complex.over_real z known.l.given.0.0) over.before.mul.ensures in
-          subst (Agrees put.put-block.result (B' put) st.args.w)
+          let coef = over.div_real.ensures ∙ ap (λ (z : Complex). complex.over_real z known.in-Is-ln_of.l) over.mul.ensures in
+          subst (Agrees put.put_block.result (B' put) st.args.w)
           (turned_as t s refl refl coef sized
-          ∙ sym (prime-is t (with-prime st t s) (asked.prime-of.ensures t lt) found.d.given.1
-          ∙ ln-is st.args.x.num (with-ln st found.d.given.0.0 t s) known.before.before.ln-of.ensures known.l.given.1))
-          (put.put-block.ensures.1 s t ls lt);
+          ∙ sym (prime-is t (with-prime st t s) (asked.prime_of.ensures t lt) found.in-Is.is
+          ∙ ln-is st.args.x.num (with-ln st found.in-Is.d t s) known.ln_of.ensures known.in-Is-ln_of.is))
+          (put.put_block.ensures.1 s t ls lt);
     }))

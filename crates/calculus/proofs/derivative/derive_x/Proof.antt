@@ -13,19 +13,19 @@ use Rattle.calculus.proofs.derivative.derive_x.Tie as tie
 abbrev B : tie.Start → Book
 B c = book c.args.kinds.now c.args.insides.now c.args.numbers.now
 
-abbrev B' : tie.After-put-power → Book
-B' c = let last = c.put-power.new in book last.0 last.1.0 last.1.1.0
+abbrev B' : tie.After-put_power → Book
+B' c = let last = c.put_power.new in book last.kinds last.insides last.numbers
 
-pub derive-x-spec : {M : Type 1} → statement M
-derive-x-spec =
+pub derive_x_spec : {M : Type 1} → statement M
+derive_x_spec =
     tie.close
     (tie.spec
     (λ c κs. search rules)
     -- it is skipped
     (λ c.
-    let st = c.before.before.before.before in
+    let st = c.before.before.before.before.before in
     let a = st.args in
-    (kept_refl (B st) _ _, λ s ls. agree-done (B st) a.w a.len (derive_x a.x s) s (x-skipped a.x s c.before.vanishes.ensures c.if1.true) st.requires.few ls))
+    (kept_refl (B st) _ _, λ s ls. agree-done (B st) a.w a.len (derive_x a.x s) s (x-skipped a.x s c.vanishes.ensures c.if-vanishes.true) st.requires.few ls))
     -- or put in
     (λ c κs. search rules)
     (λ c κs. search rules)
@@ -34,11 +34,11 @@ derive-x-spec =
     (λ c. search rules)
     (λ c.
     let put = c.before.before.before.before.before in
-    let slope = put.before.before.before.before.before in
-    let test = slope.before in
-    let a = test.before.before.before.before.args in (
-      put.put-power.ensures.0,
+    let slope = put in
+    let test = slope in
+    let a = test.args in (
+      put.put_power.ensures.0,
       λ s ls.
-          subst (Agrees put.put-power.result (B' put) a.w) (x-put a.x s test.before.vanishes.ensures test.if1.false slope.slope.ensures)
-          (put.put-power.ensures.1 s ls),
+          subst (Agrees put.put_power.result (B' put) a.w) (x-put a.x s test.vanishes.ensures test.if-vanishes.false slope.slope-c.ensures)
+          (put.put_power.ensures.1 s ls),
     )))

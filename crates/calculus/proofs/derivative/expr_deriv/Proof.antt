@@ -9,18 +9,18 @@ use Rattle.calculus.proofs.derivative.Steps.{derive-refused, derive-nothing, der
 use Rattle.calculus.proofs.derivative.expr_deriv.Statement.{statement}
 use Rattle.calculus.proofs.derivative.expr_deriv.Tie as tie
 
-abbrev start : tie.After-derive-each → tie.Start
+abbrev start : tie.After-derive_each → tie.Start
 start c = c.before.before.before.before.before.before
 
 -- the book with each entry derived, and that with constant 0
-abbrev B' : tie.After-derive-each → Book
-B' c = let last = c.derive-each.new in book last.0 last.1.0 last.1.1.0
+abbrev B' : tie.After-derive_each → Book
+B' c = let last = c.derive_each.new in book last.kinds last.insides last.numbers
 
-abbrev B'' : tie.After-constant-sum → Book
-B'' c = let last = c.constant-sum.new in book last.0 last.1.0 last.1.1.0
+abbrev B'' : tie.After-constant_sum → Book
+B'' c = let last = c.constant_sum.new in book last.kinds last.insides last.numbers
 
-pub expr-deriv-spec : {M : Type 1} → statement M
-expr-deriv-spec =
+pub expr_deriv_spec : {M : Type 1} → statement M
+expr_deriv_spec =
     tie.close
     (tie.spec
     (λ c κs. search rules)
@@ -29,20 +29,20 @@ expr-deriv-spec =
     (λ c κs.
     let each = c.before.before.before.before.before.before.before.before.before.before.before.before in
     let st = start each in
-    room-same each.derive-each.ensures.0.long (room-result st.args.w st.pre.1))
+    room-same each.derive_each.ensures.0.long (room-result st.args.w st.requires.1))
     (λ c. search rules)
     (λ c. search rules)
     (λ c. search rules)
     (λ c.
     let zero = c.before.before.before.before.before in
-    let test = zero.before.before.before.before in
-    let each = test.before.before.before.before.before.before.before.before.before in
+    let test = zero in
+    let each = test.before.before.before.before.before.before.before.before.before.before.before.before.before in
     let w = (start each).args.w in (
-      kept_trans each.derive-each.ensures.0 (kept_result zero.constant-sum.ensures.0),
+      kept_trans each.derive_each.ensures.0 (kept_result zero.constant_sum.ensures.0),
       λ t lt.
-          subst (Agrees zero.constant-sum.result (B'' zero) w)
-          (derive-nothing (B' each) w each.derive-each.result t (each.derive-each.ensures.1 t lt) test.before.before.n.given.1 test.if1.true)
-          zero.constant-sum.ensures.1,
+          subst (Agrees zero.constant_sum.result (B'' zero) w)
+          (derive-nothing (B' each) w each.derive_each.result t (each.derive_each.ensures.1 t lt) test.in-Done.is test.if-n-eq0.true)
+          zero.constant_sum.ensures.1,
     ))
     (λ c. search rules)
     -- a sum
@@ -52,7 +52,7 @@ expr-deriv-spec =
     (λ c.
     let each = c.before.before.before.before.before.before.before.before.before in
     let w = (start each).args.w in
-    (each.derive-each.ensures.0, λ t lt. derive-done (B' each) w each.derive-each.result t (each.derive-each.ensures.1 t lt) c.before.before.n.given.1 c.if1.false))
+    (each.derive_each.ensures.0, λ t lt. derive-done (B' each) w each.derive_each.result t (each.derive_each.ensures.1 t lt) c.in-Done.is c.if-n-eq0.false))
     -- a refusal
     (λ c. search rules)
     (λ c. search rules)
@@ -60,4 +60,4 @@ expr-deriv-spec =
     (λ c.
     let each = c.before.before.before.before.before.before.before.before in
     let w = (start each).args.w in
-    (each.derive-each.ensures.0, λ t lt. derive-refused (B' each) w each.derive-each.result t (each.derive-each.ensures.1 t lt) c.before.r.given.1)))
+    (each.derive_each.ensures.0, λ t lt. derive-refused (B' each) w each.derive_each.result t (each.derive_each.ensures.1 t lt) c.in-Refused.is)))

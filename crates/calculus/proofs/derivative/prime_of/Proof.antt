@@ -10,30 +10,30 @@ use Rattle.calculus.proofs.derivative.Primes.{Priming, prime-start, prime-end, p
 use Rattle.calculus.proofs.derivative.prime_of.Statement.{statement}
 use Rattle.calculus.proofs.derivative.prime_of.Tie as tie
 
-abbrev Inv : tie.invariant-loop
+abbrev Inv : tie.invariant-loop-q
 Inv kinds insides numbers i n end q₀ acc₀ q acc =
     (i ≤ q) × (q ≤ i + n) × ((s : Sum) → Lies (book kinds insides numbers) i (i + n) 4 s → Priming (book kinds insides numbers) q (i + n) acc s)
 
-abbrev μ : tie.decreases-loop
+abbrev μ : tie.decreases-loop-q
 μ kinds insides numbers i n end q₀ acc₀ q acc = i + n - q
 
-abbrev loop-of : tie.After-load Inv μ → tie.At-loop Inv μ
+abbrev loop-of : tie.After-load-x Inv μ → tie.At-loop-q Inv μ
 loop-of c = c.before.before
 
-abbrev read : tie.After-prime-step Inv μ → tie.After-load Inv μ
-read c = c.before.before.before
+abbrev read : tie.After-prime_step Inv μ → tie.After-load-x Inv μ
+read c = c.before.before.before.before
 
-pub prime-of-spec : {M : Type 1} → statement M
-prime-of-spec =
+pub prime_of_spec : {M : Type 1} → statement M
+prime_of_spec =
     tie.close
     (tie.spec
     Inv
     μ
-    (λ c. let st = c.before.before in omega (arith, st.requires.1.room.insides, st.well-formed))
+    (λ c. let st = c in omega (arith, st.requires.1.room.insides, st.well_formed))
     (λ c. (omega arith, omega arith, λ s ls. prime-start ls))
-    (λ c κs. let l = c.before in readable l.loop.q l.before.before.before.requires.1 l.loop.invariant.0 c.loop-test.true)
+    (λ c κs. let l = c in readable l.loop-q.q l.requires.1 l.loop-q.invariant.0 c.loop-q-test.true)
     -- no power of x
-    (λ c s ls. let x = c.before.before in prime-other ((loop-of x).loop.invariant.2 s ls) x.load.result x.load.ensures x.before.loop-test.true c.if1.true)
+    (λ c s ls. let x = c.before.before in prime-other ((loop-of x).loop-q.invariant.2 s ls) x.load-x.result x.load-x.ensures x.loop-q-test.true c.if-x-ne-X.true)
     (λ c κs. search rules)
     (λ c. search rules)
     (λ c. search rules)
@@ -41,7 +41,7 @@ prime-of-spec =
     (λ c s ls.
     let step = c.before.before in
     let x = read step in
-    prime-none ((loop-of x).loop.inv.2 s ls) x.load.result x.load.ensures x.before.loop-test.taken step.before.if1.false step.prime-step.ensures c.enum_told.given.1)
+    prime-none ((loop-of x).loop-q.invariant.2 s ls) x.load-x.result x.load-x.ensures x.loop-q-test.true step.if-x-ne-X.false step.prime_step.ensures c.in_default.is)
     -- one whose derivative is a constant
     (λ c. omega arith)
     (λ c. omega arith)
@@ -51,8 +51,8 @@ prime-of-spec =
       omega arith,
       omega arith,
       λ s ls.
-          prime-next ((loop-of x).loop.inv.2 s ls) x.load.result x.load.ensures x.before.loop-test.taken step.before.if1.false step.prime-step.ensures
-          c.before.next.given.1,
+          prime-next ((loop-of x).loop-q.invariant.2 s ls) x.load-x.result x.load-x.ensures x.loop-q-test.true step.if-x-ne-X.false step.prime_step.ensures
+          c.in-Is.is,
     ))
     -- nothing is left
-    (λ c s ls. prime-end (c.before.loop.invariant.2 s ls) c.loop-test.false))
+    (λ c s ls. prime-end (c.loop-q.invariant.2 s ls) c.loop-q-test.false))

@@ -21,7 +21,7 @@ B c = book c.args.kinds.now c.args.insides.now c.args.numbers.now
 
 -- the book with x
 abbrev B' : tie.After-store → Book
-B' c = let last = c.store.new in book last.0 last.1.0 last.1.1.0
+B' c = let last = c.store.new in book last.kinds last.insides last.numbers
 
 kept : (c : tie.After-store) → (let w = (start c).args.w in Kept (B (start c)) (B' c) w (w + (64 + 64)))
 kept c = kept-wider (omega arith) (omega arith) (put-kept c.store.ensures)
@@ -29,10 +29,10 @@ kept c = kept-wider (omega arith) (omega arith) (put-kept c.store.ensures)
 -- there is a place for x, whose numbers are finite
 store-requires : tie.Need-store-requires
 unfolding of_bits
-store-requires c κs = let st = c.before.before.before.before.before in (room-less {n = st.args.w + (64 + 64)} (omega arith) st.requires.1, record { num = tt; re = tt; im = tt })
+store-requires c κs = let st = c in (room-less {n = st.args.w + (64 + 64)} (omega arith) st.requires.1, record { num = tt; re = tt; im = tt })
 
-pub expr-integral-spec : {M : Type 1} → statement M
-expr-integral-spec =
+pub expr_integral_spec : {M : Type 1} → statement M
+expr_integral_spec =
     tie.close
     (tie.spec
     (λ c. search rules)
@@ -40,13 +40,13 @@ expr-integral-spec =
     (λ c κs.
     let put = c.before.before.before.before.before.before.before.before in
     let st = start put in
-    (source-kept (kept put) st.pre.0, room-same (kept put).long st.pre.1, x-laid st.args.w st.pre.1 put.store.ensures))
+    (source-kept (kept put) st.requires.0, room-same (kept put).long st.requires.1, x-laid st.args.w st.requires.1 put.store.ensures))
     (λ c. search rules)
     (λ c. search rules)
     (λ c. search rules)
     (λ c.
-    let each = c.before.before.before.before.before in
-    let put = each.before.before.before.before.before.before.before.before.before in (
-      kept_trans (kept put) (kept_result each.integrate-each.ensures.0),
-      λ t lt. each.integrate-each.ensures.1 t (lies-clear (kept put) (clear (start put).requires.0.apart) lt),
+    let each = c in
+    let put = each.before.before.before.before.before.before.before.before.before.before.before.before.before.before in (
+      kept_trans (kept put) (kept_result each.integrate_each.ensures.0),
+      λ t lt. each.integrate_each.ensures.1 t (lies-clear (kept put) (clear (start put).requires.0.apart) lt),
     )))

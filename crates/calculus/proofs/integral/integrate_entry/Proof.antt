@@ -11,23 +11,23 @@ use Rattle.calculus.proofs.integral.Storing.{integrate-not}
 use Rattle.calculus.proofs.integral.integrate_entry.Statement.{statement}
 use Rattle.calculus.proofs.integral.integrate_entry.Tie as tie
 
-pub integrate-entry-spec : {M : Type 1} → statement M
-integrate-entry-spec =
+pub integrate_entry_spec : {M : Type 1} → statement M
+integrate_entry_spec =
     tie.close
     (tie.spec
-    (λ c κs. let pre = c.before.before.before.before.before.before.before.requires in (ready-growing pre.0, pre.1))
+    (λ c κs. let pre = c.requires in (ready-growing pre.0, pre.1))
     (λ c. search rules)
     (λ c. search rules)
     (λ c. search rules)
     (λ c.
-    let call = c.before.before.before.before.before in
-    let test = call.before.before.before.before in
-    let st = test.before.before.before.before in
+    let call = c in
+    let test = call in
+    let st = test in
     let x = st.args.x in
-    let is_x = eq-eqb x.kind kinds.X test.if1.true in
-    into-power (integrate_x x) st.requires.0.head test.if1.true (λ s. sym (integrate-is-x x.kind x.inside x.num x.coef none s is_x)) call.integrate-x.ensures.0
-    call.integrate-x.ensures.1)
-    (λ c. into-refused (λ t lt s. integrate-not c.before.before.before.before.before.before.args.x t s c.before.before.if1.false c.if2.true))
+    let is_x = eq-eqb x.kind kinds.X test.if-x-eq-X.true in
+    into-power (integrate_x x) st.requires.0.head test.if-x-eq-X.true (λ s. sym (integrate-is-x x.kind x.inside x.num x.coef none s is_x)) call.integrate_x.ensures.0
+    call.integrate_x.ensures.1)
+    (λ c. into-refused (λ t lt s. integrate-not c.args.x t s c.if-x-eq-X.false c.if-x-lt-SIN.true))
     (λ c κs. search rules)
     (λ c. search rules)
     (λ c. search rules)

@@ -10,21 +10,21 @@ use Rattle.calculus.proofs.integral.Storing.{log-head, log-stored, power-stored}
 use Rattle.calculus.proofs.integral.integrate_x.Statement.{statement}
 use Rattle.calculus.proofs.integral.integrate_x.Tie as tie
 
-abbrev B-log : tie.After-put-block → Book
-B-log c = let last = c.put-block.new in book last.0 last.1.0 last.1.1.0
+abbrev B-log : tie.After-put_block → Book
+B-log c = let last = c.put_block.new in book last.kinds last.insides last.numbers
 
-abbrev B-power : tie.After-put-power → Book
-B-power c = let last = c.put-power.new in book last.0 last.1.0 last.1.1.0
+abbrev B-power : tie.After-put_power → Book
+B-power c = let last = c.put_power.new in book last.kinds last.insides last.numbers
 
-pub integrate-x-spec : {M : Type 1} → statement M
-integrate-x-spec =
+pub integrate_x_spec : {M : Type 1} → statement M
+integrate_x_spec =
     tie.close
     (tie.spec
     -- it is: the natural logarithm of x
     (λ c κs. search rules)
     (λ c. search rules)
     (λ c κs.
-    let st = c.before.before.before.before.before.before.before.before.before in
+    let st = c in
     let sum = st.requires.0 in
     ((log-head st.args.x.coef, (x, st.requires.1), over (omega arith)), (sum.few, sum.room, sum.held)))
     (λ c. search rules)
@@ -32,12 +32,12 @@ integrate-x-spec =
     (λ c. search rules)
     (λ c.
     let put = c.before.before.before.before.before in
-    let base = put.before.before.before.before in
-    let st = base.before.before.before.before.before.before in (
-      put.put-block.ensures.0,
+    let base = put in
+    let st = base in (
+      put.put_block.ensures.0,
       λ s ls.
-          subst (Agrees put.put-block.result (B-log put) st.args.w) (log-stored st.args.x s base.before.if1.true base.e.ensures)
-          (put.put-block.ensures.1 s x ls st.requires.1),
+          subst (Agrees put.put_block.result (B-log put) st.args.w) (log-stored st.args.x s base.if-p.true base.e.ensures)
+          (put.put_block.ensures.1 s x ls st.requires.1),
     ))
     -- it isn't
     (λ c κs. search rules)
@@ -47,10 +47,10 @@ integrate-x-spec =
     (λ c. search rules)
     (λ c.
     let put = c.before.before.before.before.before in
-    let divided = put.before.before.before.before in
-    let a = divided.before.before.before.before.before.before.args in (
-      put.put-power.ensures.0,
+    let divided = put in
+    let a = divided.args in (
+      put.put_power.ensures.0,
       λ s ls.
-          subst (Agrees put.put-power.result (B-power put) a.w) (power-stored a.x s divided.before.if1.false divided.div-real.ensures)
-          (put.put-power.ensures.1 s ls),
+          subst (Agrees put.put_power.result (B-power put) a.w) (power-stored a.x s divided.if-p.false divided.div_real-divided.ensures)
+          (put.put_power.ensures.1 s ls),
     )))

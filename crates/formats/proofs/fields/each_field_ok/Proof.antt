@@ -26,16 +26,16 @@ four false false false w z = one w z
 returns : tie.Need-returns
 unfolding fields_ok
 returns c =
-    let r = c.before.before.before.before.before.before.before.before.before.before.before.before.before.before.args.r in
+    let r = c.args.r in
     rw (
-      c.before.before.before.before.before.before.before.before.before.before.before.before.before.is_Known.ensures,
-      c.before.before.before.before.before.before.before.before.before.before.before.before.is-a.ensures,
-      c.before.before.before.before.before.before.before.before.before.before.before.is-a2.ensures,
-      c.before.before.before.before.before.before.before.before.before.before.is-a3.ensures,
-      c.before.before.before.before.before.before.before.before.before.is-a4.ensures,
-      c.before.before.before.before.before.before.before.before.is-a5.ensures,
-      c.before.before.before.before.before.before.before.is-a6.ensures,
-      c.before.before.before.before.before.before.is-a7.ensures,
+      c.is_Known.ensures,
+      c.is_a-real.ensures,
+      c.is_a-complex.ensures,
+      c.is_a-primitive.ensures,
+      c.is_a-modifier.ensures,
+      c.is_a-body.ensures,
+      c.is_a-run.ensures,
+      c.is_a-custom.ensures,
     )
     (ap₂ ◌&&◌
     (ap₂ ◌&&◌
@@ -44,8 +44,8 @@ returns c =
     (two (is_a r RealPush) (is_a r ComplexPush) (eqb r.re 0)))
     (one (is_a r ComplexPush) (eqb r.im 0)))
 
-pub each-field-ok-spec : {M : Type 1} → statement M
-each-field-ok-spec =
+pub each_field_ok_spec : {M : Type 1} → statement M
+each_field_ok_spec =
     tie.close
     (tie.spec
     (λ c κs. search rules)

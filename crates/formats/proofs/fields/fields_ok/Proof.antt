@@ -28,15 +28,15 @@ of-body r k = rw k (by (eqb r.blank 0) (eqb r.code 0) (eqb r.re 0) (eqb r.im 0))
     by true false r s = refl
     by false q r s = refl
 
-pub fields-ok-spec : {M : Type 1} → statement M
-fields-ok-spec =
+pub fields_ok_spec : {M : Type 1} → statement M
+fields_ok_spec =
     tie.close
     (tie.spec
     (λ c κs. search rules)
-    (λ c. of-modifier c.before.before.before.before.before.before.args.r
-    (eqb-true _ _ (sym c.before.before.before.before.before.is-a.ensures ∙ c.before.before.before.before.if1.true)))
+    (λ c. of-modifier c.args.r
+    (eqb-true _ _ (sym c.is_a.ensures ∙ c.if-is_a.true)))
     (λ c κs. search rules)
-    (λ c. of-body c.before.before.before.before.before.before.before.before.args.r
-    (eqb-true _ _ (sym c.before.before.before.before.before.is-a2.ensures ∙ c.before.before.before.before.if2.true)))
+    (λ c. of-body c.args.r
+    (eqb-true _ _ (sym c.is_a-2.ensures ∙ c.if-is_a-2.true)))
     (λ c κs. search rules)
     (λ c. search rules))

@@ -3,12 +3,12 @@ use borrow.Author.Rules.{rules}
 use Rattle.formats.proofs.fields.is_known.Statement.{statement}
 use Rattle.formats.proofs.fields.is_known.Tie as tie
 
-pub is-known-spec : {M : Type 1} → statement M
-is-known-spec =
+pub is_known_spec : {M : Type 1} → statement M
+is_known_spec =
     tie.close
     (tie.spec
     (λ c κs. search rules)
     (λ c. search rules)
     (λ c. search rules)
-    (λ c. rw (← c.before.before.kind-of.ensures, c.enum_told.given.1))
-    (λ c. rw (← c.before.before.kind-of.ensures, c.enum-told2.given.1)))
+    (λ c. rw (← c.kind_of.ensures, c.in-Known.is))
+    (λ c. rw (← c.kind_of.ensures, c.in_default.is)))

@@ -5,8 +5,8 @@ use Rattle.formats.proofs.record.Stands.{words-simple}
 use Rattle.formats.proofs.fields.is_simple.Statement.{statement}
 use Rattle.formats.proofs.fields.is_simple.Tie as tie
 
-pub is-simple-spec : {M : Type 1} → statement M
-is-simple-spec =
+pub is_simple_spec : {M : Type 1} → statement M
+is_simple_spec =
     tie.close
     (tie.spec
     (λ c. search rules)
@@ -16,8 +16,8 @@ is-simple-spec =
     (λ c. search rules)
     (λ c κs. search rules)
     (λ c.
-    let a = c.before.before.before.before.args in
-    words-simple a.list.now (λ j. (c.before.before.before.shared-slice-known.given j).fits) a.i (omega arith) _ _ _
-    c.before.before.eight.ensures
-    c.before.eight2.ensures
-    c.eight3.ensures))
+    let a = c.args in
+    words-simple a.list.now (λ j. (c.shared_slice_known-1.given j).fits) a.i (omega arith) _ _ _
+    c.eight-head.ensures
+    c.eight-re.ensures
+    c.eight-im.ensures))

@@ -4,9 +4,9 @@ use Rattle.formats.specs.Contract.Measure.{may_stand}
 use Rattle.formats.proofs.fields.may_stand.Statement.{statement}
 use Rattle.formats.proofs.fields.may_stand.Tie as tie
 
-pub may-stand-spec : {M : Type 1} → statement M
+pub may_stand_spec : {M : Type 1} → statement M
 unfolding may_stand
-may-stand-spec =
+may_stand_spec =
     tie.close
     (tie.spec
     (λ c. search rules)
@@ -14,4 +14,4 @@ may-stand-spec =
     (λ c. search rules)
     (λ c κs. search rules)
     (λ c κs. search rules)
-    (λ c. rw (c.fields-ok.ensures, c.before.is-a.ensures)))
+    (λ c. rw (c.fields_ok.ensures, c.is_a-body.ensures)))

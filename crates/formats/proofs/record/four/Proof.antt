@@ -5,8 +5,8 @@ use Rattle.formats.proofs.record.Bytes.{number-four}
 use Rattle.formats.proofs.record.four.Statement.{statement}
 use Rattle.formats.proofs.record.four.Tie as tie
 
-pub four-spec : {M : Type 1} → statement M
-four-spec =
+pub four_spec : {M : Type 1} → statement M
+four_spec =
     tie.close
     (tie.spec
     (λ c. search rules)
@@ -27,6 +27,6 @@ four-spec =
     (λ c. search rules)
     (λ c. search rules)
     (λ c.
-    let a = c.before.before.before.before.before.before.before.before.before.args in
+    let a = c.args in
     let e = number-four a.s.now a.at (omega arith) in
     (omega arith, omega arith)))

@@ -4,11 +4,11 @@ use Rattle.formats.specs.Names.{kind_of}
 use Rattle.formats.proofs.record.kind_of.Statement.{statement}
 use Rattle.formats.proofs.record.kind_of.Tie as tie
 
-otherwise : tie.Need-returns-14
+otherwise : tie.Need-returns-in_default
 unfolding kind_of
 otherwise c =
-    let b = c.before.args.b in
-    let n = c.match.rest in
+    let b = c.args.b in
+    let n = c.in_default.rest in
     rw (
       ne_eqb b 1 n.0.0.0.0.0.0.0.0.0.0.0.0.1,
       ne_eqb b 2 n.0.0.0.0.0.0.0.0.0.0.0.1,
@@ -27,22 +27,22 @@ otherwise c =
       ne_eqb b 13 n.1,
     )
 
-pub kind-of-spec : {M : Type 1} → statement M
+pub kind_of_spec : {M : Type 1} → statement M
 unfolding kind_of
-kind-of-spec =
+kind_of_spec =
     tie.close
     (tie.spec
-    (λ c. rw c.match.keys1)
-    (λ c. rw c.match.keys2)
-    (λ c. rw c.match.keys3)
-    (λ c. rw c.match.keys4)
-    (λ c. rw c.match.keys5)
-    (λ c. rw c.match.keys6)
-    (λ c. rw c.match.keys7)
-    (λ c. rw c.match.keys8)
-    (λ c. rw c.match.keys9)
-    (λ c. rw c.match.keys10)
-    (λ c. rw c.match.keys11)
-    (λ c. rw c.match.keys12)
-    (λ c. rw c.match.keys13)
+    (λ c. rw c.in-1.is)
+    (λ c. rw c.in-2.is)
+    (λ c. rw c.in-3.is)
+    (λ c. rw c.in-4.is)
+    (λ c. rw c.in-5.is)
+    (λ c. rw c.in-6.is)
+    (λ c. rw c.in-7.is)
+    (λ c. rw c.in-8.is)
+    (λ c. rw c.in-9.is)
+    (λ c. rw c.in-10.is)
+    (λ c. rw c.in-11.is)
+    (λ c. rw c.in-12.is)
+    (λ c. rw c.in-13.is)
     otherwise)

@@ -4,11 +4,11 @@ use Rattle.formats.specs.Names.{modifier_of}
 use Rattle.formats.proofs.record.modifier_of.Statement.{statement}
 use Rattle.formats.proofs.record.modifier_of.Tie as tie
 
-otherwise : tie.Need-returns-8
+otherwise : tie.Need-returns-in_default
 unfolding modifier_of
 otherwise c =
-    let b = c.before.args.code in
-    let n = c.match.rest in
+    let b = c.args.code in
+    let n = c.in_default.rest in
     rw (
       ne_eqb b 1 n.0.0.0.0.0.0.1,
       ne_eqb b 2 n.0.0.0.0.0.1,
@@ -19,16 +19,16 @@ otherwise c =
       ne_eqb b 7 n.1,
     )
 
-pub modifier-of-spec : {M : Type 1} → statement M
+pub modifier_of_spec : {M : Type 1} → statement M
 unfolding modifier_of
-modifier-of-spec =
+modifier_of_spec =
     tie.close
     (tie.spec
-    (λ c. rw c.match.keys1)
-    (λ c. rw c.match.keys2)
-    (λ c. rw c.match.keys3)
-    (λ c. rw c.match.keys4)
-    (λ c. rw c.match.keys5)
-    (λ c. rw c.match.keys6)
-    (λ c. rw c.match.keys7)
+    (λ c. rw c.in-1.is)
+    (λ c. rw c.in-2.is)
+    (λ c. rw c.in-3.is)
+    (λ c. rw c.in-4.is)
+    (λ c. rw c.in-5.is)
+    (λ c. rw c.in-6.is)
+    (λ c. rw c.in-7.is)
     otherwise)

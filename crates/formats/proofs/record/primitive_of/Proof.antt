@@ -4,11 +4,11 @@ use Rattle.formats.specs.Names.{primitive_of}
 use Rattle.formats.proofs.record.primitive_of.Statement.{statement}
 use Rattle.formats.proofs.record.primitive_of.Tie as tie
 
-otherwise : tie.Need-returns-29
+otherwise : tie.Need-returns-in_default
 unfolding primitive_of
 otherwise c =
-    let b = c.before.args.code in
-    let n = c.match.rest in
+    let b = c.args.code in
+    let n = c.in_default.rest in
     rw (
       ne_eqb b 1 n.0.0.0.0.0.0.0.0.0.0.0.0.0.0.0.0.0.0.0.0.0.0.0.0.0.0.0.1,
       ne_eqb b 2
@@ -46,37 +46,37 @@ otherwise c =
       ne_eqb b 39 n.1,
     )
 
-pub primitive-of-spec : {M : Type 1} → statement M
+pub primitive_of_spec : {M : Type 1} → statement M
 unfolding primitive_of
-primitive-of-spec =
+primitive_of_spec =
     tie.close
     (tie.spec
-    (λ c. rw c.match.keys1)
-    (λ c. rw c.match.keys2)
-    (λ c. rw c.match.keys3)
-    (λ c. rw c.match.keys4)
-    (λ c. rw c.match.keys5)
-    (λ c. rw c.match.keys6)
-    (λ c. rw c.match.keys7)
-    (λ c. rw c.match.keys8)
-    (λ c. rw c.match.keys9)
-    (λ c. rw c.match.keys10)
-    (λ c. rw c.match.keys11)
-    (λ c. rw c.match.keys12)
-    (λ c. rw c.match.keys13)
-    (λ c. rw c.match.keys14)
-    (λ c. rw c.match.keys15)
-    (λ c. rw c.match.keys16)
-    (λ c. rw c.match.keys17)
-    (λ c. rw c.match.keys18)
-    (λ c. rw c.match.keys19)
-    (λ c. rw c.match.keys20)
-    (λ c. rw c.match.keys21)
-    (λ c. rw c.match.keys22)
-    (λ c. rw c.match.keys23)
-    (λ c. rw c.match.keys24)
-    (λ c. rw c.match.keys25)
-    (λ c. rw c.match.keys26)
-    (λ c. rw c.match.keys27)
-    (λ c. rw c.match.keys28)
+    (λ c. rw c.in-1.is)
+    (λ c. rw c.in-2.is)
+    (λ c. rw c.in-3.is)
+    (λ c. rw c.in-4.is)
+    (λ c. rw c.in-5.is)
+    (λ c. rw c.in-6.is)
+    (λ c. rw c.in-7.is)
+    (λ c. rw c.in-8.is)
+    (λ c. rw c.in-9.is)
+    (λ c. rw c.in-10.is)
+    (λ c. rw c.in-11.is)
+    (λ c. rw c.in-12.is)
+    (λ c. rw c.in-13.is)
+    (λ c. rw c.in-14.is)
+    (λ c. rw c.in-15.is)
+    (λ c. rw c.in-16.is)
+    (λ c. rw c.in-17.is)
+    (λ c. rw c.in-18.is)
+    (λ c. rw c.in-19.is)
+    (λ c. rw c.in-20.is)
+    (λ c. rw c.in-32.is)
+    (λ c. rw c.in-33.is)
+    (λ c. rw c.in-34.is)
+    (λ c. rw c.in-35.is)
+    (λ c. rw c.in-36.is)
+    (λ c. rw c.in-37.is)
+    (λ c. rw c.in-38.is)
+    (λ c. rw c.in-39.is)
     otherwise)

@@ -10,11 +10,11 @@ use Rattle.formats.proofs.record.put_four.Tie as tie
 
 returns : tie.Need-returns
 unfolding bytes
-returns c = rw (c.before.before.before.low.ensures, c.before.before.low2.ensures, c.before.low3.ensures, c.low4.ensures)
-    (sym (sets-four c.before.before.before.before.before.args.out.now c.before.before.before.before.before.args.at _ _ _ _))
+returns c = rw (c.low.ensures, c.low-2.ensures, c.low-3.ensures, c.low-4.ensures)
+    (sym (sets-four c.args.out.now c.args.at _ _ _ _))
 
-pub put-four-spec : {M : Type 1} → statement M
-put-four-spec =
+pub put_four_spec : {M : Type 1} → statement M
+put_four_spec =
     tie.close
     (tie.spec
     (λ c κs. search rules)

@@ -13,7 +13,7 @@ use Rattle.formats.proofs.record.Codes.{stores-record, put-read}
 use Rattle.formats.proofs.record.put_record.Statement.{statement}
 use Rattle.formats.proofs.record.put_record.Tie as tie
 
-module _ (c : tie.After-slice-known4) where
+module _ (c : tie.After-slice_known-4-1) where
   stored : c.before.before.put-eight2.new.0 ≡ sets c.before.before.before.before.before.before.before.before.before.before.before.before.before.before.args.out.now
       (24 * c.before.before.before.before.before.before.before.before.before.before.before.before.before.before.args.i)
       (encode_rec c.before.before.before.before.before.before.before.before.before.before.before.before.before.before.args.r)
@@ -31,12 +31,12 @@ module _ (c : tie.After-slice-known4) where
 
 returns : tie.Need-returns
 returns c =
-    let a = c.before.before.before.before.before.before.before.before.before.before.before.before.before.before.args in
-    let f : Fields a.r = omega (arith, c.before.before.before.before.before.before.before.before.before.before.before.struct_known.given) in
+    let a = c.args in
+    let f : Fields a.r = omega (arith, c.struct_known-1.given) in
     record { stored = stored c; back = ap (λ (l : List ℕ). rec_at l a.i) (stored c) ∙ put-read a.out.now a.i a.r f (omega arith) }
 
-pub put-record-spec : {M : Type 1} → statement M
-put-record-spec =
+pub put_record_spec : {M : Type 1} → statement M
+put_record_spec =
     tie.close
     (tie.spec
     (λ c. search rules)
@@ -51,8 +51,8 @@ put-record-spec =
     (λ c. search rules)
     (λ c κs. simp length-set (omega arith))
     (λ c. search rules)
-    (λ c κs. omega (arith, simp length-set at c.before.before.before.put_four.auto.0))
+    (λ c κs. omega (arith, simp length-set at c.put_four.auto.0))
     (λ c. search rules)
-    (λ c κs. omega (arith, c.before.before.before.put-eight.auto.0, simp length-set at c.before.before.before.before.before.before.before.put_four.auto.0))
+    (λ c κs. omega (arith, c.put_eight.auto.0, simp length-set at c.put_four.auto.0))
     long
     returns)

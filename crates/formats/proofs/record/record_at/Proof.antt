@@ -4,8 +4,8 @@ use Rattle.formats.proofs.record.Codes.{rec-fields}
 use Rattle.formats.proofs.record.record_at.Statement.{statement}
 use Rattle.formats.proofs.record.record_at.Tie as tie
 
-pub record-at-spec : {M : Type 1} → statement M
-record-at-spec =
+pub record_at_spec : {M : Type 1} → statement M
+record_at_spec =
     tie.close
     (tie.spec
     (λ c. search rules)
@@ -23,6 +23,6 @@ record-at-spec =
     (λ c. search rules)
     (λ c. search rules)
     (λ c.
-    let a = c.before.before.before.before.before.before.before.before.args in
+    let a = c.args in
     let e = rec-fields a.list.now a.i in
     ((cc), search rules)))

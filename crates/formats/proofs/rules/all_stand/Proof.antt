@@ -15,7 +15,7 @@ use Rattle.formats.proofs.record.Stands.{low-none, low-more, low-split, low-leaf
 use Rattle.formats.proofs.rules.all_stand.Statement.{statement}
 use Rattle.formats.proofs.rules.all_stand.Tie as tie
 
-abbrev Inv : tie.invariant-loop
+abbrev Inv : tie.invariant-loop-at
 Inv list from n ends₀ of-bodies₀ depth₀ at₀ end₀ bodies₀ ends of-bodies depth at end bodies =
     (at ≤ end)
     × Within ends n depth end
@@ -24,31 +24,31 @@ Inv list from n ends₀ of-bodies₀ depth₀ at₀ end₀ bodies₀ ends of-bod
     × (length of-bodies ≡ 128)
     × ((Low list at end bodies (129 - depth) × Owed list ends of-bodies depth end) ↔ Low list from n false 129)
 
-abbrev μ : tie.decreases-loop
+abbrev μ : tie.decreases-loop-at
 μ list from n ends₀ of-bodies₀ depth₀ at₀ end₀ bodies₀ ends of-bodies depth at end bodies = 2 * (n - at) + depth
 
 -- no stretch lies around the one that ends here
-done : tie.Need-returns Inv μ
+done : tie.Need-returns-then-depth-eq0 Inv μ
 done c =
-    let a = c.before.before.before.before.before.args in
-    let l = c.before.before.before.loop in
-    let p = c.before.before.past-simple in
+    let a = c.args in
+    let l = c.loop-at in
+    let p = c.past_simple-at in
     let k : 0 < 129 - l.depth = omega arith in
     let i = p.ensures.2 (129 - l.depth) k in
     let y = i.0 (low-none a.list.now p.result l.end l.bodies (129 - l.depth) (omega arith)) in
-    (λ _. l.invariant.5.0 (y, owed_none a.list.now l.ends l.of-bodies l.depth l.end c.if2.true), λ _. refl)
+    (λ _. l.invariant.5.0 (y, owed_none a.list.now l.ends l.of-bodies l.depth l.end c.if-depth-eq0.true), λ _. refl)
 
 -- the one around it goes on
-out : tie.Need-loop-preserved Inv μ
+out : tie.Need-loop-at-preserved-then-at-end Inv μ
 out c =
-    let a = c.before.before.before.before.before.args in
-    let l = c.before.before.before.loop in
-    let p = c.before.before.past-simple in
+    let a = c.args in
+    let l = c.loop-at in
+    let p = c.past_simple-at in
     let k : 0 < 129 - l.depth = omega arith in
     let i = p.ensures.2 (129 - l.depth) k in
     let w = within-pop l.ends a.n l.depth l.end (omega arith) l.invariant.1 in
     let o = owed-pop a.list.now l.ends l.of-bodies l.depth l.end (omega arith) in
-    let q = c.before.if1.true in
+    let q = c.if-at-end.true in
     let z = i.0 (low-none a.list.now p.result l.end l.bodies (129 - l.depth) (omega arith)) in (
       omega (arith, w.0),
       w.1,
@@ -59,29 +59,29 @@ out c =
     )
 
 -- a record that may not stand there
-bad : tie.Need-returns-2 Inv μ
+bad : tie.Need-returns-then-not-may_stand Inv μ
 bad c =
-    let a = c.before.before.before.before.before.before.before.args in
-    let l = c.before.before.before.before.before.loop in
-    let p = c.before.before.before.before.past-simple in
+    let a = c.args in
+    let l = c.loop-at in
+    let p = c.past_simple-at in
     let k : 0 < 129 - l.depth = omega arith in
     let i = p.ensures.2 (129 - l.depth) k in
-    let r = c.before.before.record-at in
+    let r = c.record_at-r in
     let h : p.result < l.end = omega arith in
-    let m = sym c.before.may-stand.ensures ∙ not-true _ c.if3.true in
+    let m = sym c.may_stand.ensures ∙ c.if-not-may_stand.true in
     let t = low-split a.list.now p.result l.end l.bodies (129 - l.depth) r.result h r.ensures.0 in
     (λ e. absurd (true≢false (sym e)), λ y. absurd (true≢false (sym (t (i.1 (l.invariant.5.1 y).0)).1 ∙ m)))
 
 -- a record that holds nothing
-past : tie.Need-loop-preserved-2 Inv μ
+past : tie.Need-loop-at-preserved-then-r-eq0 Inv μ
 past c =
-    let a = c.before.before.before.before.before.before.before.before.before.args in
-    let l = c.before.before.before.before.before.before.before.loop in
-    let p = c.before.before.before.before.before.before.past-simple in
+    let a = c.args in
+    let l = c.loop-at in
+    let p = c.past_simple-at in
     let k : 0 < 129 - l.depth = omega arith in
     let i = p.ensures.2 (129 - l.depth) k in
-    let r = c.before.before.before.before.record-at in
-    let m = sym c.before.before.before.may-stand.ensures ∙ not-false _ c.before.before.if3.false in
+    let r = c.record_at-r in
+    let m = sym c.may_stand.ensures ∙ c.if-not-may_stand.false in
     let g = low-leaf a.list.now p.result l.end l.bodies (129 - l.depth) r.result (omega arith) r.ensures.0 m (omega arith) k in (
       omega (arith, stands-within r.result p.result l.end l.bodies m),
       l.invariant.1,
@@ -92,14 +92,14 @@ past c =
     )
 
 -- a record that holds others, and lies inside as many as may be
-deep : tie.Need-returns-3 Inv μ
+deep : tie.Need-returns-then-depth-eq-NODE_INSIDE Inv μ
 deep c =
-    let a = c.before.before.before.before.before.before.before.before.before.before.args in
-    let l = c.before.before.before.before.before.before.before.before.loop in
-    let p = c.before.before.before.before.before.before.before.past-simple in
+    let a = c.args in
+    let l = c.loop-at in
+    let p = c.past_simple-at in
     let k : 0 < 129 - l.depth = omega arith in
     let i = p.ensures.2 (129 - l.depth) k in
-    let r = c.before.before.before.before.before.record-at in
+    let r = c.record_at-r in
     let h : p.result < l.end = omega arith in (
       λ e. absurd (true≢false (sym e)),
       λ y.
@@ -110,16 +110,16 @@ deep c =
     )
 
 -- a record that holds others
-into : tie.Need-loop-preserved-3 Inv μ
+into : tie.Need-loop-at-preserved Inv μ
 into c =
-    let a = c.before.before.before.before.before.before.before.before.before.before.before.before.args in
-    let l = c.before.before.before.before.before.before.before.before.before.before.loop in
-    let p = c.before.before.before.before.before.before.before.before.before.past-simple in
+    let a = c.args in
+    let l = c.loop-at in
+    let p = c.past_simple-at in
     let k : 0 < 129 - l.depth = omega arith in
     let i = p.ensures.2 (129 - l.depth) k in
-    let r = c.before.before.before.before.before.before.before.record-at in
+    let r = c.record_at-r in
     let h : p.result < l.end = omega arith in
-    let m = sym c.before.before.before.before.before.before.may-stand.ensures ∙ not-false _ c.before.before.before.before.before.if3.false in
+    let m = sym c.may_stand.ensures ∙ c.if-not-may_stand.false in
     let x : ℕ = p.result + 1 + r.result.inside in
     let f : x ≤ l.end = stands-within r.result p.result l.end l.bodies m in
     let d : l.depth < 128 = omega arith in
@@ -134,51 +134,51 @@ into c =
         λ y.
             let v = u.0 y.1 in
             l.invariant.5.0
-            (i.0 (low-more a.list.now p.result l.end l.bodies (129 - l.depth) r.result h r.ensures.0 k m (rw (c.is-a.ensures, q) at y.0) v.0), v.1),
+            (i.0 (low-more a.list.now p.result l.end l.bodies (129 - l.depth) r.result h r.ensures.0 k m (rw (c.is_a-bodies.ensures, q) at y.0) v.0), v.1),
         λ y.
             let v = l.invariant.5.1 y in
             let t = low-split a.list.now p.result l.end l.bodies (129 - l.depth) r.result h r.ensures.0 (i.1 v.0) in
-            (rw (c.is-a.ensures, q) t.2, u.1 (t.3, v.1)),
+            (rw (c.is_a-bodies.ensures, q) t.2, u.1 (t.3, v.1)),
       ),
     )
 
-pub all-stand-spec : {M : Type 1} → statement M
-all-stand-spec =
+pub all_stand_spec : {M : Type 1} → statement M
+all_stand_spec =
     tie.close
     (tie.spec
     Inv
     μ
     (λ c. (omega arith, within_none _ _ _ (omega arith), omega arith, refl, refl, (λ y. y.0, λ y. (y, owed_none _ _ _ _ _ refl))))
-    (λ c κs. let w = within_all _ _ _ _ c.loop.invariant.1 in (omega arith, omega arith, omega arith))
+    (λ c κs. let w = within_all _ _ _ _ c.loop-at.invariant.1 in (omega arith, omega arith, omega arith))
     done
     (λ c. omega arith)
     (λ c. omega arith)
     (λ c. omega arith)
     (λ c.
-    let l = c.before.before.before.loop in
-    let w = within-pop l.ends c.before.before.before.before.before.args.n _ _ (omega arith) l.invariant.1 in
+    let l = c.loop-at in
+    let w = within-pop l.ends c.args.n _ _ (omega arith) l.invariant.1 in
     omega (arith, within_all _ _ _ _ w.1))
     (λ c. omega arith)
     (λ c. omega arith)
     out
-    (λ c κs. omega (arith, within_all _ _ _ _ c.before.before.loop.invariant.1))
-    (λ c κs. let w = within_all _ _ _ _ c.before.before.before.loop.invariant.1 in (omega arith, omega arith, omega arith))
+    (λ c κs. omega (arith, within_all _ _ _ _ c.loop-at.invariant.1))
+    (λ c κs. let w = within_all _ _ _ _ c.loop-at.invariant.1 in (omega arith, omega arith, omega arith))
     bad
-    (λ c. omega (arith, within_all _ _ _ _ c.before.before.before.before.before.loop.invariant.1))
-    (λ c. omega (arith, within_all _ _ _ _ c.before.before.before.before.before.before.before.loop.invariant.1))
+    (λ c. omega (arith, within_all _ _ _ _ c.loop-at.invariant.1))
+    (λ c. omega (arith, within_all _ _ _ _ c.loop-at.invariant.1))
     past
     deep
-    (λ c. omega (arith, within_all _ _ _ _ c.before.before.before.before.before.before.before.before.loop.invariant.1))
+    (λ c. omega (arith, within_all _ _ _ _ c.loop-at.invariant.1))
     (λ c. omega arith)
     (λ c. omega arith)
     (λ c. omega arith)
     (λ c. omega arith)
     (λ c. search rules)
     (λ c.
-    let f = stands-within _ _ _ _ (sym c.before.before.before.before.before.may-stand.ensures ∙ not-false _ c.before.before.before.before.if3.false) in
-    omega (arith, within_all _ _ _ _ c.before.before.before.before.before.before.before.before.before.loop.invariant.1))
+    let f = stands-within _ _ _ _ (sym c.may_stand.ensures ∙ c.if-not-may_stand.false) in
+    omega (arith, within_all _ _ _ _ c.loop-at.invariant.1))
     (λ c κs. tt)
     (λ c.
-    let f = stands-within _ _ _ _ (sym c.before.before.before.before.before.before.may-stand.ensures ∙ not-false _ c.before.before.before.before.before.if3.false) in
-    omega (arith, within_all _ _ _ _ c.before.before.before.before.before.before.before.before.before.before.loop.invariant.1))
+    let f = stands-within _ _ _ _ (sym c.may_stand.ensures ∙ c.if-not-may_stand.false) in
+    omega (arith, within_all _ _ _ _ c.loop-at.invariant.1))
     into)

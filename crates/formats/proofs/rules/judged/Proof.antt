@@ -13,38 +13,38 @@ use Rattle.formats.proofs.record.Forest.{below}
 use Rattle.formats.proofs.rules.judged.Statement.{statement}
 use Rattle.formats.proofs.rules.judged.Tie as tie
 
-not-whole : tie.Need-returns
+not-whole : tie.Need-returns-then-list-ne0
 unfolding verdict
-not-whole c = rw (ne_eqb (length c.before.before.args.list.now % 24) 0 c.if1.true)
+not-whole c = rw (ne_eqb (length c.args.list.now % 24) 0 c.if-list-ne0.true)
 
-too_many : tie.Need-returns-2
+too_many : tie.Need-returns-then-n-gt-LIST_RECORDS
 unfolding verdict
-too_many c = let n = length c.before.before.before.args.list.now in rw (eq-eqb (n % 24) 0 (omega arith), lt-leb (n / 24) 2048 (omega arith))
+too_many c = let n = length c.args.list.now in rw (eq-eqb (n % 24) 0 (omega arith), lt-leb (n / 24) 2048 (omega arith))
 
-good : tie.Need-returns-3
+good : tie.Need-returns-then-all_good
 unfolding verdict parse shape_of
 good c =
-    let n = length c.before.before.before.before.before.args.list.now in
-    let y = c.before.all-good.ensures.0 c.if3.true in
+    let n = length c.args.list.now in
+    let y = c.all_good.ensures.0 c.if-all_good.true in
     rw (eq-eqb (n % 24) 0 (omega arith), le-leb (n / 24) 2048 (omega arith), y.ok, le-leb _ _ y.low)
 
 -- well-formed, and not low
-deep : tie.Need-returns-4
+deep : tie.Need-returns-then-all_nest
 unfolding verdict parse shape_of
 deep c =
-    let s = c.before.before.before.before.before.before.before.args.list.now in
+    let s = c.args.list.now in
     let n = length s in
-    let o = sym c.before.all-nest.ensures ∙ c.if4.true in
+    let o = sym c.all_nest.ensures ∙ c.if-all_nest.true in
     let t = forest s 0 (n / 24) in
-    let never : height t ≤ 129 → ⊥ = λ k. true≢false (sym (c.before.before.before.all-good.ensures.1 (record { ok = o; low = k })) ∙ c.before.before.if3.false) in
+    let never : height t ≤ 129 → ⊥ = λ k. true≢false (sym (c.all_good.ensures.1 (record { ok = o; low = k })) ∙ c.if-all_good.false) in
     let h : 129 < height t = ⊎_elim (λ k. k) (λ k. absurd (never k)) (below 129 (height t)) in
     rw (eq-eqb (n % 24) 0 (omega arith), le-leb (n / 24) 2048 (omega arith), o, lt-leb _ _ h)
 
-bad : tie.Need-returns-5
+bad : tie.Need-returns
 unfolding verdict parse shape_of
 bad c =
-    let n = length c.before.before.before.before.before.before.before.args.list.now in
-    rw (eq-eqb (n % 24) 0 (omega arith), le-leb (n / 24) 2048 (omega arith), sym c.before.all-nest.ensures ∙ c.if4.false)
+    let n = length c.args.list.now in
+    rw (eq-eqb (n % 24) 0 (omega arith), le-leb (n / 24) 2048 (omega arith), sym c.all_nest.ensures ∙ c.if-all_nest.false)
 
-pub judged-spec : {M : Type 1} → statement M
-judged-spec = tie.close (tie.spec not-whole too_many (λ c κs. search rules) good (λ c κs. search rules) deep bad)
+pub judged_spec : {M : Type 1} → statement M
+judged_spec = tie.close (tie.spec not-whole too_many (λ c κs. search rules) good (λ c κs. search rules) deep bad)

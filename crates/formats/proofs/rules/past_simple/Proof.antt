@@ -10,18 +10,18 @@ use Rattle.formats.proofs.record.Stands.{low-simple}
 use Rattle.formats.proofs.rules.past_simple.Statement.{statement}
 use Rattle.formats.proofs.rules.past_simple.Tie as tie
 
-abbrev Inv : tie.invariant-loop
+abbrev Inv : tie.invariant-loop-at
 Inv list from to bodies at₀ at = (from ≤ at) × (at ≤ to) × ((l : ℕ) → 0 < l → Low list at to bodies l ↔ Low list from to bodies l)
 
-abbrev μ : tie.decreases-loop
+abbrev μ : tie.decreases-loop-at
 μ list from to bodies at₀ at = to - at
 
-again : tie.Need-loop-preserved Inv μ
+again : tie.Need-loop-at-preserved Inv μ
 again c =
-    let a = c.before.before.before.before.before.before.args in
-    let l = c.before.before.before.loop in
-    let b : a.bodies ≡ false = c.before.before.before.before.if1.false in
-    let f = c.before.is-simple.ensures (not-false _ c.if2.false) in (
+    let a = c.args in
+    let l = c.loop-at in
+    let b : a.bodies ≡ false = c.if-bodies.false in
+    let f = c.is_simple.ensures c.if-not-is_simple.false in (
       omega arith,
       omega arith,
       λ k h.
@@ -30,8 +30,8 @@ again c =
           (λ y. i.0 (rw b (g.0 (rw b at y))), λ y. rw b (g.1 (rw b at (i.1 y)))),
     )
 
-pub past-simple-spec : {M : Type 1} → statement M
-past-simple-spec =
+pub past_simple_spec : {M : Type 1} → statement M
+past_simple_spec =
     tie.close
     (tie.spec
     Inv
@@ -39,8 +39,8 @@ past-simple-spec =
     (λ c. (omega arith, omega arith, λ l h. (λ y. y, λ y. y)))
     (λ c. (omega arith, omega arith, λ l h. (λ y. y, λ y. y)))
     (λ c κs. omega arith)
-    (λ c. c.before.before.before.loop.invariant)
+    (λ c. c.loop-at.invariant)
     (λ c. omega arith)
     (λ c. omega arith)
     again
-    (λ c. c.before.loop.invariant))
+    (λ c. c.loop-at.invariant))

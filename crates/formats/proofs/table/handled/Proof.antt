@@ -5,5 +5,5 @@ use Rattle.formats.proofs.record.Table.{unpacked}
 use Rattle.formats.proofs.table.handled.Statement.{statement}
 use Rattle.formats.proofs.table.handled.Tie as tie
 
-pub handled-spec : {M : Type 1} → statement M
-handled-spec = tie.close (tie.spec (λ c κs. search rules) (λ c. rw (c.row_of.ensures, (unpacked (primitive_of c.before.args.code)).2)))
+pub handled_spec : {M : Type 1} → statement M
+handled_spec = tie.close (tie.spec (λ c κs. search rules) (λ c. rw (c.row_of.ensures, (unpacked (primitive_of c.args.code)).2)))

@@ -12,8 +12,8 @@ use Rattle.formats.proofs.table.row_of.Tie as tie
 known : {p q r : Primitive} → p ≡ q → p ≡ r → packed (row q) ≡ packed (row r)
 known e f = ap (λ (p : Primitive). packed (row p)) (sym e ∙ f)
 
-pub row-of-spec : {M : Type 1} → statement M
-row-of-spec =
+pub row_of_spec : {M : Type 1} → statement M
+row_of_spec =
     tie.close
     (tie.spec
     (λ c κs. search rules)
@@ -28,14 +28,14 @@ row-of-spec =
     (λ c. search rules)
     (λ c. search rules)
     (λ c κs. search rules)
-    (λ c. known c.enum_told.given.1 c.before.before.primitive-of.ensures)
-    (λ c. known c.enum-told2.given.1 c.before.before.primitive-of.ensures)
-    (λ c. known c.enum-told3.given.1 c.before.before.primitive-of.ensures)
-    (λ c. known c.enum-told4.given.1 c.before.before.primitive-of.ensures)
-    (λ c. known c.enum-told5.given.1 c.before.before.primitive-of.ensures)
-    (λ c. known c.enum-told6.given.1 c.before.before.primitive-of.ensures)
-    (λ c. known c.enum-told7.given.1 c.before.before.primitive-of.ensures)
-    (λ c. known c.enum-told8.given.1 c.before.before.primitive-of.ensures)
-    (λ c. known c.enum-told9.given.1 c.before.before.primitive-of.ensures)
-    (λ c. known c.enum-told10.given.1 c.before.before.primitive-of.ensures)
+    (λ c. known c.in-Pop.is c.primitive_of.ensures)
+    (λ c. known c.in-Dup.is c.primitive_of.ensures)
+    (λ c. known c.in-Flip.is c.primitive_of.ensures)
+    (λ c. known c.in-Over.is c.primitive_of.ensures)
+    (λ c. known c.in-Neg.is c.primitive_of.ensures)
+    (λ c. known c.in-Sqrt.is c.primitive_of.ensures)
+    (λ c. known c.in-Add.is c.primitive_of.ensures)
+    (λ c. known c.in-Sub.is c.primitive_of.ensures)
+    (λ c. known c.in-Mul.is c.primitive_of.ensures)
+    (λ c. known c.in-Pow.is c.primitive_of.ensures)
     (λ c. search rules))

@@ -6,6 +6,6 @@ use Rattle.formats.proofs.record.Table.{places, place}
 use Rattle.formats.proofs.table.table_at.Statement.{statement}
 use Rattle.formats.proofs.table.table_at.Tie as tie
 
-pub table-at-spec : {M : Type 1} → statement M
+pub table_at_spec : {M : Type 1} → statement M
 unfolding places primitive_of
-table-at-spec = tie.close (tie.spec (λ c. search rules) (λ c. place c.args.code (omega arith)))
+table_at_spec = tie.close (tie.spec (λ c. search rules) (λ c. place c.args.code (omega arith)))

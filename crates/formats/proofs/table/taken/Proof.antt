@@ -5,5 +5,5 @@ use Rattle.formats.proofs.record.Table.{unpacked}
 use Rattle.formats.proofs.table.taken.Statement.{statement}
 use Rattle.formats.proofs.table.taken.Tie as tie
 
-pub taken-spec : {M : Type 1} → statement M
-taken-spec = tie.close (tie.spec (λ c κs. search rules) (λ c. search rules) (λ c. rw (c.row_of.ensures, (unpacked (primitive_of c.before.args.code)).0)))
+pub taken_spec : {M : Type 1} → statement M
+taken_spec = tie.close (tie.spec (λ c κs. search rules) (λ c. search rules) (λ c. rw (c.row_of.ensures, (unpacked (primitive_of c.args.code)).0)))

@@ -6,15 +6,15 @@ use Rattle.modifiers.proofs.begin.hold_for.Tie as tie
 
 returns : tie.Need-returns
 returns c =
-    let after-hold-and-lend = c.before.before.before.before.before.before.before in
-    let after-lent-by = after-hold-and-lend.before.before.before.before.before in
-    let after-held-by = after-lent-by.before in
-    let start = after-held-by.before.before.before.before in
+    let after-hold-and-lend = c in
+    let after-lent-by = after-hold-and-lend in
+    let after-held-by = after-lent-by in
+    let start = after-held-by in
     let args = start.args in
-    begins-held args.at args.n args.m after-held-by.held_by.ensures after-lent-by.lent_by.ensures after-hold-and-lend.hold-and-lend.ensures
+    begins-held args.at args.n args.m after-held-by.held_by-k.ensures after-lent-by.lent_by-c.ensures after-hold-and-lend.hold_and_lend.ensures
 
-pub hold-for-spec : {M : Type 1} → statement M
-hold-for-spec =
+pub hold_for_spec : {M : Type 1} → statement M
+hold_for_spec =
     tie.close
     (tie.spec
     (λ c κs. search rules)

@@ -5,35 +5,35 @@ use Rattle.modifiers.proofs.hold.Moves.{begins-is, not-held, held-few, lend-asks
 use Rattle.modifiers.proofs.lend.hold_and_lend.Statement.{statement}
 use Rattle.modifiers.proofs.lend.hold_and_lend.Tie as tie
 
-returns : tie.Need-returns
+returns : tie.Need-returns-in_default
 returns c =
-    let after-hold = c.before.before.before.before.before.before.before.before.before in
-    let s = after-hold.before.before.before.before.before.before.before.before in
-    not-held s.args.at s.args.k s.args.c c.enum_told.given.0.0 c.enum_told.given.0.1.0 c.enum_told.given.0.1.1.0 c.enum_told.given.1 after-hold.hold.ensures
+    let after-hold = c in
+    let s = after-hold in
+    not-held s.args.at s.args.k s.args.c c.in_default.field-0 c.in_default.field-1 c.in_default.field-2 c.in_default.is after-hold.hold-h.ensures
 
-returns-2 : tie.Need-returns-2
+returns-2 : tie.Need-returns-in-Went
 returns-2 c =
-    let place = c.before.before.before.before.before.before.before.before.before.before in
-    let after-h = place.before.before.before.before.before.before in
-    let after-hold = after-h.before.before.before.before.before.before.before.before.before in
-    let s = after-hold.before.before.before.before.before.before.before.before in
+    let place = c in
+    let after-h = place in
+    let after-hold = after-h in
+    let s = after-hold in
     let l = place in
-    held-and-lent s.args.at s.args.k s.args.c l.lend-deepest.result (Went c.before.l.given.0.0) c.before.l.given.1 s.requires
-    (begins-is after-h.h.given.1 after-hold.hold.ensures) l.lend-deepest.ensures
+    held-and-lent s.args.at s.args.k s.args.c l.lend_deepest-l.result (Went c.in-Went.g) c.in-Went.is s.requires
+    (begins-is after-h.in-Held.is after-hold.hold-h.ensures) l.lend_deepest-l.ensures
 
-returns-3 : tie.Need-returns-3
+returns-3 : tie.Need-returns-in-Stopped
 returns-3 c =
-    let place = c.before.before.before.before.before.before.before.before.before.before in
-    let after-h = place.before.before.before.before.before.before in
-    let after-hold = after-h.before.before.before.before.before.before.before.before.before in
-    let s = after-hold.before.before.before.before.before.before.before.before in
+    let place = c in
+    let after-h = place in
+    let after-hold = after-h in
+    let s = after-hold in
     let l = place in
-    let x = c.before.l2.given.0 in
-    held-and-lent s.args.at s.args.k s.args.c l.lend-deepest.result (Stopped x.0 x.1.0 x.1.1.0) c.before.l2.given.1 s.requires
-    (begins-is after-h.h.given.1 after-hold.hold.ensures) l.lend-deepest.ensures
+    let x = c.l-in-Stopped-1.given.0 in
+    held-and-lent s.args.at s.args.k s.args.c l.lend_deepest-l.result (Stopped x.0 x.1.0 x.1.1.0) c.in-Stopped.is s.requires
+    (begins-is after-h.in-Held.is after-hold.hold-h.ensures) l.lend_deepest-l.ensures
 
-pub hold-and-lend-spec : {M : Type 1} → statement M
-hold-and-lend-spec =
+pub hold_and_lend_spec : {M : Type 1} → statement M
+hold_and_lend_spec =
     tie.close
     (tie.spec
     (λ c κs. search rules)
@@ -44,11 +44,11 @@ hold-and-lend-spec =
     (λ c. (returns c).kept.long.cells.numbers)
     (λ c. (returns c).kept.long.sizes)
     returns
-    (λ c. held-few c.before.before.before.before.before.before.before.before.before.before.before.before.before.before.before.before.before.before.requires
-    (begins-is c.before.h.given.1 c.before.before.before.before.before.before.before.before.before.before.hold.ensures))
-    (λ c κs. let s = c.before.before.before.before.before.before.before.before.before.before.before.before.before.before.before.before.before.before.before.before.before.before in lend-asks s.args.at s.args.k s.pre
-    (begins-is c.before.before.before.before.before.h.given.1
-    c.before.before.before.before.before.before.before.before.before.before.before.before.before.before.hold.ensures))
+    (λ c. held-few c.requires
+    (begins-is c.in-Held.is c.hold-h.ensures))
+    (λ c κs. let s = c in lend-asks s.args.at s.args.k s.requires
+    (begins-is c.in-Held.is
+    c.hold-h.ensures))
     (λ c. search rules)
     (λ c. search rules)
     (λ c. (returns-2 c).kept.long.cells.kinds)

@@ -17,65 +17,65 @@ entry s = arena s.args.kinds s.args.insides s.args.numbers s.args.sizes
 abbrev Sought : tie.Start → Deep → Type 0
 Sought s r = Found (entry s) s.args.v (s.args.v + s.args.m) (s.args.k - s.args.c) r
 
-abbrev start : tie.After-d → tie.Start
-start c = c.before.before.before.before.before.before.before.before
+abbrev start : tie.In-From-2 → tie.Start
+start c = c.before.before.before.before.before.before.before
 
-found : (c : tie.After-d) → Sought (start c) (From c.d.given.0.0)
+found : (c : tie.In-From-2) → Sought (start c) (From c.in-From.w)
 found c =
-    let after-measure = c.before.before in
-    let after_Less = after-measure.before in
+    let after-measure = c in
+    let after_Less = after-measure in
     let s = start c in
-    let r = From c.d.given.0.0 in
-    let e = after-measure.measure.ensures in
-    found-for (entry s) s.args.v (s.args.v + s.args.m) r after_Less.less.ensures (found-is (entry s) s.args.v (s.args.v + s.args.m) after_Less.less.result c.d.given.1 e)
+    let r = From c.in-From.w in
+    let e = after-measure.measure-d.ensures in
+    found-for (entry s) s.args.v (s.args.v + s.args.m) r after_Less.less.ensures (found-is (entry s) s.args.v (s.args.v + s.args.m) after_Less.less.result c.in-From.is e)
 
-missed : (c : tie.After-enum-told) → Sought c.before.before.before.before.before.before.before.before Short
+missed : (c : tie.In_default) → Sought c.before.before.before.before.before.before.before Short
 missed c =
-    let after-measure = c.before.before in
-    let after_Less = after-measure.before in
-    let s = after_Less.before.before.before.before.before in
+    let after-measure = c in
+    let after_Less = after-measure in
+    let s = after_Less.before.before.before.before.before.before.before in
     found-for (entry s) s.args.v (s.args.v + s.args.m) Short after_Less.less.ensures
-    (found-is (entry s) s.args.v (s.args.v + s.args.m) after_Less.less.result c.enum_told.given.1 after-measure.measure.ensures)
+    (found-is (entry s) s.args.v (s.args.v + s.args.m) after_Less.less.result c.in_default.is after-measure.measure-d.ensures)
 
-abbrev Within : tie.After-d → Type 0
-Within c = let s = start c in (s.args.v ≤ c.d.given.0.0) × (s.args.v + (c.d.given.0.0 - s.args.v) ≤ s.args.v + s.args.m)
+abbrev Within : tie.In-From-2 → Type 0
+Within c = let s = start c in (s.args.v ≤ c.in-From.w) × (s.args.v + (c.in-From.w - s.args.v) ≤ s.args.v + s.args.m)
 
-within : (c : tie.After-d) → Within c
-within c = let s = start c in lowest-within (s.args.k - s.args.c) c.d.given.0.0 s.pre.2.0 (found c) s.pre.2.1
+within : (c : tie.In-From-2) → Within c
+within c = let s = start c in lowest-within (s.args.k - s.args.c) c.in-From.w s.requires.2.0 (found c) s.requires.2.1
 
-returns-3 : tie.Need-returns-3
+returns-3 : tie.Need-returns
 returns-3 c ss up len =
-    let after-sink = c.before.before.before.before.before.before.before in
-    let after-if1 = after-sink.before.before.before.before.before in
-    let d = after-if1.before.before in
+    let after-sink = c in
+    let after-if1 = after-sink in
+    let d = after-if1.before.before.before.before.before.before.before.before.before.before.before.before.before.before in
     let s = start d in
-    let w = d.d.given.0.0 in
-    lent_fits s.args.at (w - s.args.v) (deepest s.args.c ss) s.pre.0 (space-less (within d).1 s.pre.1)
-    (lowest-at s.args.k s.args.c w ss (found d) len up) after-if1.if1.false after-sink.sink.ensures
+    let w = d.in-From.w in
+    lent_fits s.args.at (w - s.args.v) (deepest s.args.c ss) s.requires.0 (space-less (within d).1 s.requires.1)
+    (lowest-at s.args.k s.args.c w ss (found d) len up) after-if1.if-v-used.false after-sink.sink.ensures
 
-pub lend-deepest-spec : {M : Type 1} → statement M
-lend-deepest-spec =
+pub lend_deepest_spec : {M : Type 1} → statement M
+lend_deepest_spec =
     tie.close
     (tie.spec
     (λ c. search rules)
     (λ c κs. search rules)
-    (λ c κs. let s = c.before.before.before.before.before in search-held s.args.v (s.args.v + s.args.m) s.requires.2.0 s.requires.1 s.requires.2.1)
+    (λ c κs. let s = c in search-held s.args.v (s.args.v + s.args.m) s.requires.2.0 s.requires.1 s.requires.2.1)
     (λ c. search rules)
     (λ c. search rules)
     (λ c. search rules)
-    (λ c ss up len. let s = c.before.before.before.before.before.before.before.before in absurd (lent_never s.args.k s.args.c ss (missed c) len up))
+    (λ c ss up len. let s = c in absurd (lent_never s.args.k s.args.c ss (missed c) len up))
     (λ c. (within c.before).0)
     (λ c. search rules)
     (λ c. search rules)
     (λ c ss up len.
     let d = c.before.before in
     let s = start d in
-    let w = d.d.given.0.0 in
-    lent-full s.args.at (w - s.args.v) (deepest s.args.c ss) s.pre.0 (lowest-at s.args.k s.args.c w ss (found d) len up) c.if1.true)
+    let w = d.in-From.w in
+    lent-full s.args.at (w - s.args.v) (deepest s.args.c ss) s.requires.0 (lowest-at s.args.k s.args.c w ss (found d) len up) c.if-v-used.true)
     (λ c κs.
     let d = c.before.before.before.before.before.before in
     let s = start d in
-    (s.pre.0.some.1.below, space-less (within d).1 s.pre.1))
+    (s.requires.0.some.1.below, space-less (within d).1 s.requires.1))
     (λ c. search rules)
     (λ c. search rules)
     (λ c. search rules)

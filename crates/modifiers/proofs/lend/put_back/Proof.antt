@@ -6,11 +6,11 @@ use Rattle.modifiers.proofs.lend.put_back.Tie as tie
 
 returns : tie.Need-returns
 returns c =
-    let after-sink = c.before.before.before.before.before.before.before in
-    let s = after-sink.before.before.before.before.before.before.before.before in put_back s.args.m s.requires.0 s.requires.1 after-sink.sink.ensures
+    let after-sink = c in
+    let s = after-sink in put_back s.args.m s.requires.0 s.requires.1 after-sink.sink.ensures
 
-pub put-back-spec : {M : Type 1} → statement M
-put-back-spec =
+pub put_back_spec : {M : Type 1} → statement M
+put_back_spec =
     tie.close
     (tie.spec
     (λ c κs. search rules)

@@ -4,11 +4,11 @@ use Rattle.numbers.proofs.radical.Patterns.{le-no-nan}
 use Rattle.numbers.proofs.radical.guess.Statement.{statement}
 use Rattle.numbers.proofs.radical.guess.Tie as tie
 
-float-to-bits-result : tie.Need-float-to-bits-result
-float-to-bits-result c = le-no-nan _ c.before.near-root.result c.if1.true
+float-to-bits-result : tie.Need-float_to_bits-result
+float-to-bits-result c = le-no-nan _ c.near_root-g.result c.if-g.true
 
-pub guess-spec : {M : Type 1} → statement M
-guess-spec =
+pub guess_spec : {M : Type 1} → statement M
+guess_spec =
     tie.close
     (tie.spec
     (λ c. search rules)

@@ -25,31 +25,31 @@ parts : (q h l m : ℕ) → h * 2 ^ 27 + l ≡ q → h * h * 4 ≤ m → h * l *
     → q * q + (((m - h * h * 4) * 2 ^ 25 - h * l * 2) * 2 ^ 27 - l * l) ≡ m * 2 ^ 52
 parts q h l m e a b c = subst (λ (z : ℕ). z * z + (((m - h * h * 4) * 2 ^ 25 - h * l * 2) * 2 ^ 27 - l * l) ≡ m * 2 ^ 52) e (omega arith)
 
-mul-first : tie.Need-overflow-mul-first
+mul-first : tie.Need-overflow_mul-first
 mul-first c = record { fits = omega (arith, high-high c.args.q c.requires.1) }
 
-mul-first-2 : tie.Need-overflow-mul-first-2
+mul-first-2 : tie.Need-overflow_mul-first-2
 mul-first-2 c = record { fits = omega (arith, high-high c.args.q c.requires.1) }
 
-mul-second : tie.Need-overflow-mul-second
-mul-second c = let start = c.before.before in record { fits = omega (arith, high-low start.args.q start.requires.1) }
+mul-second : tie.Need-overflow_mul-second
+mul-second c = let start = c in record { fits = omega (arith, high-low start.args.q start.requires.1) }
 
-mul-second-2 : tie.Need-overflow-mul-second-2
-mul-second-2 c = let start = c.before.before in record { fits = omega (arith, high-low start.args.q start.requires.1) }
+mul-second-2 : tie.Need-overflow_mul-second-2
+mul-second-2 c = let start = c in record { fits = omega (arith, high-low start.args.q start.requires.1) }
 
-mul-third : tie.Need-overflow-mul-third
-mul-third c = let start = c.before.before.before.before in record { fits = omega (arith, low-low start.args.q start.requires.1) }
+mul-third : tie.Need-overflow_mul-third
+mul-third c = let start = c in record { fits = omega (arith, low-low start.args.q start.requires.1) }
 
-returns-6 : tie.Need-returns-6
+returns-6 : tie.Need-returns
 returns-6 c =
-    let start = c.before.before.before.before.before in
+    let start = c in
     let q = start.args.q in
     let taken = parts q (q / 2 ^ 27) (q % 2 ^ 27) start.args.m (div-add-mod' q (2 ^ 27))
-    (omega (arith, c.before.before.before.before.if1.false)) (omega (arith, c.before.before.if3.false)) (omega (arith, c.if5.false)) in
-    (taken, refl, omega (arith, c.before.if4.false))
+    (omega (arith, c.if-m-first.false)) (omega (arith, c.if-after_first-second.false)) (omega (arith, c.if-after_second-third.false)) in
+    (taken, refl, omega (arith, c.if-after_first-second-ge-LITTLE.false))
 
-pub left-by-spec : {M : Type 1} → statement M
-left-by-spec =
+pub left_by_spec : {M : Type 1} → statement M
+left_by_spec =
     tie.close
     (tie.spec
     mul-first

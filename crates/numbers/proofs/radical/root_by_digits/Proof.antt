@@ -7,12 +7,12 @@ use lib.Pow.{pow_pos}
 use Rattle.numbers.proofs.radical.root_by_digits.Statement.{statement}
 use Rattle.numbers.proofs.radical.root_by_digits.Tie as tie
 
-abbrev invariant-loop : tie.invariant-loop
+abbrev invariant-loop : tie.invariant-loop-left
 invariant-loop m a₀ d₀ left₀ a d left =
     (((d.root * d.root + d.rem) * 2 ^ 54 + a) * (2 ^ left * 2 ^ left) ≡ m * (2 ^ 53 * 2 ^ 53))
     × (d.rem ≤ 2 * d.root) × (a < 2 ^ 54) × ((d.root + 1) * 2 ^ left ≤ 2 ^ 53) × (left ≤ 53)
 
-abbrev decreases-loop : tie.decreases-loop
+abbrev decreases-loop : tie.decreases-loop-left
 decreases-loop m a₀ d₀ left₀ a d left = left
 
 -- two digits h of the number taken in: l are the others
@@ -32,32 +32,32 @@ few r left e = omega (arith, mul-le-mul_left (r + 1) (pow_pos left), e)
 begins : (m w : ℕ) → ((0 * 0 + 0) * 2 ^ 54 + m) * w ≡ m * w
 begins m w = omega arith
 
-loop-holds : tie.Need-loop-init invariant-loop decreases-loop
+loop-holds : tie.Need-loop-left-init invariant-loop decreases-loop
 loop-holds c = (begins c.args.m (2 ^ 53 * 2 ^ 53), omega arith, c.requires, omega arith, omega arith)
 
-digit-requires : tie.Need-digit-requires invariant-loop decreases-loop
-digit-requires c κs = (omega arith, few _ _ c.before.loop.invariant.3, omega arith)
+digit-requires : tie.Need-digit-d-requires invariant-loop decreases-loop
+digit-requires c κs = (omega arith, few _ _ c.loop-left.invariant.3, omega arith)
 
-mul-a : tie.Need-overflow-mul-a invariant-loop decreases-loop
+mul-a : tie.Need-overflow_mul-a invariant-loop decreases-loop
 mul-a c = omega arith
 
-sub-left : tie.Need-overflow-sub-left invariant-loop decreases-loop
+sub-left : tie.Need-overflow_sub-left invariant-loop decreases-loop
 sub-left c = omega arith
 
-loop-less : tie.Need-loop-smaller invariant-loop decreases-loop
+loop-less : tie.Need-loop-left-smaller invariant-loop decreases-loop
 loop-less c = omega arith
 
-loop-again : tie.Need-loop-preserved invariant-loop decreases-loop
+loop-again : tie.Need-loop-left-preserved invariant-loop decreases-loop
 loop-again c =
-    let i = c.before.before.loop.invariant in
-    let e = c.digit.ensures in
+    let i = c.loop-left.invariant in
+    let e = c.digit-d.ensures in
     (turned _ _ _ _ _ _ (omega arith) e.0 i.0, e.1, omega arith, room _ _ _ _ (omega arith) e.2 i.3, omega arith)
 
 returns : tie.Need-returns invariant-loop decreases-loop
 returns c =
-    let z : c.before.loop.left ≡ 0 = omega arith in
-    let i = rw z at c.before.loop.invariant in
-    record { square = omega (arith, i.0, i.2); left = c.before.loop.invariant.1 }
+    let z : c.loop-left.left ≡ 0 = omega arith in
+    let i = rw z at c.loop-left.invariant in
+    record { square = omega (arith, i.0, i.2); left = c.loop-left.invariant.1 }
 
-pub root-by-digits-spec : {M : Type 1} → statement M
-root-by-digits-spec = tie.close (tie.spec invariant-loop decreases-loop loop-holds digit-requires mul-a sub-left loop-less loop-again returns)
+pub root_by_digits_spec : {M : Type 1} → statement M
+root_by_digits_spec = tie.close (tie.spec invariant-loop decreases-loop loop-holds digit-requires mul-a sub-left loop-less loop-again returns)

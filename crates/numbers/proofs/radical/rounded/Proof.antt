@@ -45,25 +45,25 @@ module _ (s : Scaled) (d : Rooted) (least : 2 ^ 52 ≤ s.digits) (most : s.digit
       let more : d.root + 1 < 2 ^ 53 = no_more m d.root d.rem is.square is.left below r in
       record { q = d.root; rem = d.rem; square = is.square; left = is.left; long = many; fits = omega arith; gives = inr (r, e, more) }
 
-add_low : tie.Need-overflow-add-low
+add_low : tie.Need-overflow_add-low
 add_low c =
-    let pre = c.before.before.before.before.requires in
-    record { fits = omega (arith, few _ _ pre.0 pre.1 c.before.before.whole-root.ensures, pre.3) }
+    let pre = c.requires in
+    record { fits = omega (arith, few _ _ pre.0 pre.1 c.whole_root-d.ensures, pre.3) }
 
-add-result : tie.Need-overflow-add-result
+add-result : tie.Need-overflow_add-result
 add-result c =
-    let pre = c.before.before.before.before.before.before.requires in
-    record { fits = omega (arith, few _ _ pre.0 pre.1 c.before.before.before.before.whole-root.ensures, pre.3) }
+    let pre = c.requires in
+    record { fits = omega (arith, few _ _ pre.0 pre.1 c.whole_root-d.ensures, pre.3) }
 
-returns : tie.Need-returns
+returns : tie.Need-returns-then-d
 returns c =
-    let pre = c.before.before.before.before.before.before.requires in
-    up _ _ pre.0 pre.1 c.before.before.before.before.whole-root.ensures _ _ (omega (arith, pre.3)) (omega (arith, c.if1.true)) (omega arith)
+    let pre = c.requires in
+    up _ _ pre.0 pre.1 c.whole_root-d.ensures _ _ (omega (arith, pre.3)) (omega (arith, c.if-d.true)) (omega arith)
 
-returns-2 : tie.Need-returns-2
+returns-2 : tie.Need-returns-else-d
 returns-2 c =
-    let pre = c.before.before.before.before.before.before.requires in
-    down _ _ pre.0 pre.1 c.before.before.before.before.whole-root.ensures _ _ (omega (arith, pre.3)) (omega (arith, c.if1.false)) (omega arith)
+    let pre = c.requires in
+    down _ _ pre.0 pre.1 c.whole_root-d.ensures _ _ (omega (arith, pre.3)) (omega (arith, c.if-d.false)) (omega arith)
 
-pub rounded-spec : {M : Type 1} → statement M
-rounded-spec = tie.close (tie.spec (λ c κs. search rules) (λ c. search rules) (λ c. search rules) add_low add-result returns returns-2)
+pub rounded_spec : {M : Type 1} → statement M
+rounded_spec = tie.close (tie.spec (λ c κs. search rules) (λ c. search rules) (λ c. search rules) add_low add-result returns returns-2)

@@ -8,14 +8,14 @@ use Rattle.numbers.proofs.radical.Scaling.{units-none, units-some}
 use Rattle.numbers.proofs.radical.scale.Statement.{statement}
 use Rattle.numbers.proofs.radical.scale.Tie as tie
 
-returns : tie.Need-returns
-returns c = subst (λ (n : ℕ). Scales c.moved_up.result (n * 2 ^ 1074)) (sym (units-none _ c.before.if1.true)) c.moved_up.ensures
+returns : tie.Need-returns-then-field-eq0
+returns c = subst (λ (n : ℕ). Scales c.moved_up.result (n * 2 ^ 1074)) (sym (units-none _ c.if-field-eq0.true)) c.moved_up.ensures
 
-returns-2 : tie.Need-returns-2
+returns-2 : tie.Need-returns
 returns-2 c =
-    let b = c.before.args.bits in
-    let pre = c.before.requires in
-    let some : 0 < b / 2 ^ 52 = omega (arith, c.if1.false) in
+    let b = c.args.bits in
+    let pre = c.requires in
+    let some : 0 < b / 2 ^ 52 = omega (arith, c.if-field-eq0.false) in
     record {
       least = omega arith;
       most = omega arith;
@@ -24,5 +24,5 @@ returns-2 c =
       high = omega (arith, pre.1);
     }
 
-pub scale-spec : {M : Type 1} → statement M
-scale-spec = tie.close (tie.spec (λ c κs. search rules) returns (λ c. search rules) (λ c. search rules) (λ c. search rules) returns-2)
+pub scale_spec : {M : Type 1} → statement M
+scale_spec = tie.close (tie.spec (λ c κs. search rules) returns (λ c. search rules) (λ c. search rules) (λ c. search rules) returns-2)

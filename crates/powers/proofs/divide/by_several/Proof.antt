@@ -7,14 +7,14 @@ use Rattle.powers.proofs.divide.Divisors.{constant-is, constant-other}
 use Rattle.powers.proofs.divide.by_several.Statement.{statement}
 use Rattle.powers.proofs.divide.by_several.Tie as tie
 
-abbrev start : tie.After-as-constant → tie.Start
-start c = c.before.before.before.before.before.before
+abbrev start : tie.After-as_constant → tie.Start
+start c = c.before.before.before
 
-pub by-several-spec : {M : Type 1} → statement M
-by-several-spec =
+pub by_several_spec : {M : Type 1} → statement M
+by_several_spec =
     tie.close
     (tie.spec
-    (λ c κs. c.before.before.before.before.before.requires.left.held)
+    (λ c κs. c.requires.left.held)
     (λ c. search rules)
     (λ c κs. (start c.before.before.before.before.before.before).requires)
     (λ c. search rules)
@@ -22,11 +22,11 @@ by-several-spec =
     (λ c. search rules)
     (λ c. search rules)
     (λ c.
-    let put = c.before.before.before.before.before in
-    let told = put.before.before.before.before.before in
-    let asked = told.before.before in
-    (put.constant_by_lem.ensures.0, λ s t ls lt. rw (constant-is (as_constant s) (sym (asked.as-constant.ensures s ls) ∙ told.c.given.1)) (put.constant_by_lem.ensures.1 s t ls lt)))
+    let put = c in
+    let told = put in
+    let asked = told in
+    (put.constant_by_lem.ensures.0, λ s t ls lt. rw (constant-is (as_constant s) (sym (asked.as_constant.ensures s ls) ∙ told.in-Is.is)) (put.constant_by_lem.ensures.1 s t ls lt)))
     (λ c. search rules)
     (λ c. search rules)
     (λ c. search rules)
-    (λ c. (kept_refl _ _ _, λ s t ls lt. rw (constant-other (as_constant s) (sym (c.before.before.as-constant.ensures s ls) ∙ c.enum_told.given.1)))))
+    (λ c. (kept_refl _ _ _, λ s t ls lt. rw (constant-other (as_constant s) (sym (c.as_constant.ensures s ls) ∙ c.in-Other.is)))))

@@ -20,15 +20,15 @@ use Rattle.powers.proofs.divide.Heads.{div-head}
 use Rattle.powers.proofs.divide.constant_by.Statement.{statement}
 use Rattle.powers.proofs.divide.constant_by.Tie as tie
 
-abbrev start : tie.After-is-one → tie.Start
+abbrev start : tie.After-is_one-one → tie.Start
 start c = c.before.before.before.before
 
 -- the book of the answer for 1
 abbrev B' : tie.After-alone → Book
-B' c = let last = c.alone.new in book last.0 last.1.0 last.1.1.0
+B' c = let last = c.alone.new in book last.kinds last.insides last.numbers
 
-pub constant-by-spec : {M : Type 1} → statement M
-constant-by-spec =
+pub constant_by_spec : {M : Type 1} → statement M
+constant_by_spec =
     tie.close
     (tie.spec
     (λ c κs. tt)
@@ -36,42 +36,42 @@ constant-by-spec =
     -- 0
     (λ c κs.
     let st = start c.before.before.before.before in
-    let source = st.pre.left in
-    (source.held.1.room, room-less {n = st.args.w + (64 + 64)} (omega (arith, source.few)) st.pre.room, apart-copy (apart-result source.apart)))
+    let source = st.requires.left in
+    (source.held.1.room, room-less {n = st.args.w + (64 + 64)} (omega (arith, source.few)) st.requires.room, apart-copy (apart-result source.apart)))
     (λ c. search rules)
     (λ c. search rules)
     (λ c. search rules)
     (λ c.
-    let copied = c.before.before.before.before.before in
-    let test = copied.before.before.before.before in
-    let asked = test.before in
+    let copied = c in
+    let test = copied in
+    let asked = test.before.before.before.before.before.before.before.before.before.before in
     let st = start asked in
-    let few = st.pre.left.few in (
+    let few = st.requires.left.few in (
       kept-wider (omega arith) (omega arith) (copied-kept copied.copy_within.ensures),
       λ s t ls lt.
-          rw (← asked.before.is_zero.ensures, test.if1.true)
-          (few, lies-copied copied.copy_within.ensures (room-less {n = st.args.w + (64 + 64)} (omega arith) st.pre.room) ls),
+          rw (← asked.is_zero-zero.ensures, test.if-zero.true)
+          (few, lies-copied copied.copy_within.ensures (room-less {n = st.args.w + (64 + 64)} (omega arith) st.requires.room) ls),
     ))
     -- neither 0 nor 1
     (λ c.
-    let asked = c.before.before in
-    (kept_refl _ _ _, λ s t ls lt. rw (← asked.before.is_zero.ensures, c.before.if1.false, ← asked.is_one.ensures, not-true asked.is_one.result c.if2.true)))
+    let asked = c in
+    (kept_refl _ _ _, λ s t ls lt. rw (← asked.is_zero-zero.ensures, c.if-zero.false, ← asked.is_one-one.ensures, not-true asked.is_one-one.result c.if-not-one.true)))
     -- 1
     (λ c. omega (arith, (start c.before.before).requires.right.few))
     (λ c κs.
     let st = start c.before.before.before.before.before in
-    let source = st.pre.right in
-    (div-head st.args.m complex.one st.pre.some, source.held, apart-result source.apart, room-result st.args.w st.pre.room))
+    let source = st.requires.right in
+    (div-head st.args.m complex.one st.requires.some, source.held, apart-result source.apart, room-result st.args.w st.requires.room))
     (λ c. search rules)
     (λ c. search rules)
     (λ c. search rules)
     (λ c.
     let put = c.before.before.before.before.before in
-    let test = put.before.before.before.before in
-    let asked = test.before.before in
+    let test = put in
+    let asked = test.before.before.before.before.before.before in
     let st = start asked in (
       kept_result put.alone.ensures.0,
       λ s t ls lt.
-          rw (← asked.before.is_zero.ensures, test.before.if1.false, ← asked.is_one.ensures, not-false asked.is_one.result test.if2.false)
+          rw (← asked.is_zero-zero.ensures, test.if-zero.false, ← asked.is_one-one.ensures, not-false asked.is_one-one.result test.if-not-one.false)
           (subst (λ (n : ℕ). Agrees put.alone.result (B' put) st.args.w (formed Store (entry Div n zero64 complex.one) t none)) (omega (arith, lt.ends)) (put.alone.ensures.1 t lt)),
     )))

@@ -22,68 +22,68 @@ use Rattle.powers.proofs.divide.div_each.Tie as tie
 abbrev step : Entry → Sum → Entry → Sum → Sum → Outcome
 step y v x t u = div_term y v x u
 
-abbrev Inv : tie.invariant-loop
+abbrev Inv : tie.invariant-loop-q
 Inv kinds₀ insides₀ numbers₀ i n y j w end q₀ len₀ kinds insides numbers q len =
     Kept (book kinds₀ insides₀ numbers₀) (book kinds insides numbers) w (w + (64 + 64)) × (i ≤ q) × (len ≤ 64)
     × ((s v : Sum) → Lies (book kinds₀ insides₀ numbers₀) i (i + n) 4 s → Divisor (book kinds₀ insides₀ numbers₀) y j v
     → Folding (step y v) any (book kinds insides numbers) w len q (i + n) 4 none s)
 
-abbrev μ : tie.decreases-loop
+abbrev μ : tie.decreases-loop-q
 μ kinds₀ insides₀ numbers₀ i n y j w end q₀ len₀ kinds insides numbers q len = i + n - q
 
-abbrev from-loop : tie.At-loop Inv μ → tie.Start Inv μ
+abbrev from-loop : tie.At-loop-q Inv μ → tie.Start Inv μ
 from-loop c = c.before.before.before
 
 abbrev B : tie.Start Inv μ → Book
 B c = book c.args.kinds.now c.args.insides.now c.args.numbers.now
 
-abbrev N : tie.At-loop Inv μ → Book
-N c = book c.loop.kinds c.loop.insides c.loop.numbers
+abbrev N : tie.At-loop-q Inv μ → Book
+N c = book c.loop-q.kinds c.loop-q.insides c.loop-q.numbers
 
-abbrev N' : tie.After-div-term Inv μ → Book
-N' c = let last = c.div-term.new in book last.0 last.1.0 last.1.1.0
+abbrev N' : tie.After-div_term Inv μ → Book
+N' c = let last = c.div_term.new in book last.kinds last.insides last.numbers
 
 -- what is left of the sum that the contract asks for
-left-now : (c : tie.At-loop Inv μ) → (let st = from-loop c in
-    Folding (step st.args.y st.pre.1.held.0) any (N c) st.args.w c.loop.len c.loop.q (st.args.i + st.args.n) 4 none st.pre.0.held.0)
-left-now c = let pre = (from-loop c).requires in c.loop.invariant.3 pre.0.held.0 pre.1.held.0 pre.0.held.1 pre.1.held.1
+left-now : (c : tie.At-loop-q Inv μ) → (let st = from-loop c in
+    Folding (step st.args.y st.requires.1.held.0) any (N c) st.args.w c.loop-q.len c.loop-q.q (st.args.i + st.args.n) 4 none st.requires.0.held.0)
+left-now c = let pre = (from-loop c).requires in c.loop-q.invariant.3 pre.0.held.0 pre.1.held.0 pre.0.held.1 pre.1.held.1
 
 -- its next entry, which was read
-abbrev in-loop : tie.After-load Inv μ → tie.In-loop Inv μ
-in-loop c = c.before.before.before.before
+abbrev in-loop : tie.After-load-x Inv μ → tie.In-loop-q Inv μ
+in-loop c = c.before
 
-first : (c : tie.After-load Inv μ) → (let l = (in-loop c).before in let st = from-loop l in Next (N l) l.loop.q (st.args.i + st.args.n) 4 (left-now l).v' c.load.result)
-first c = here c.load.result (left-now (in-loop c).before) c.load.ensures (in-loop c).loop-test.true
+first : (c : tie.After-load-x Inv μ) → (let l = (in-loop c).before in let st = from-loop l in Next (N l) l.loop-q.q (st.args.i + st.args.n) 4 (left-now l).v' c.load-x.result)
+first c = here c.load-x.result (left-now (in-loop c).before) c.load-x.ensures (in-loop c).loop-q-test.true
 
 -- the next place fits
-bound : (c : tie.After-load Inv μ) → (in-loop c).before.loop.q + 1 + c.load.result.inside < 2 ^ 64
-bound c = let st = from-loop (in-loop c).before in omega (arith, (first c).within, st.pre.0.held.1.room.insides, st.good)
+bound : (c : tie.After-load-x Inv μ) → (in-loop c).loop-q.q + 1 + c.load-x.result.inside < 2 ^ 64
+bound c = let st = from-loop (in-loop c).before in omega (arith, (first c).within, st.requires.0.held.1.room.insides, st.well_formed)
 
-abbrev read : tie.After-div-term Inv μ → tie.After-load Inv μ
+abbrev read : tie.After-div_term Inv μ → tie.After-load-x Inv μ
 read c = c.before.before.before.before
 
 -- what is left lies clear of the quotient's places
-apart : (c : tie.At-loop Inv μ) → (let st = from-loop c in Clear c.loop.q (st.args.i + st.args.n) st.args.w (st.args.w + (64 + 64)))
-apart c = clear-part c.loop.invariant.1 (omega arith) (clear (from-loop c).requires.0.apart)
+apart : (c : tie.At-loop-q Inv μ) → (let st = from-loop c in Clear c.loop-q.q (st.args.i + st.args.n) st.args.w (st.args.w + (64 + 64)))
+apart c = clear-part c.loop-q.invariant.1 (omega arith) (clear (from-loop c).requires.0.apart)
 
 -- what the call answered
-call : (c : tie.After-div-term Inv μ) (v : Sum) → (let x = read c in let l = (in-loop x).before in let st = from-loop l in
-    Divisor (B st) st.args.y st.args.j v → (t u : Sum) → Lies (N l) (l.loop.q + 1) (l.loop.q + 1 + x.load.result.inside) (4 - 1) t
-    → Lies (N l) st.args.w (st.args.w + l.loop.len) 4 u → Agrees c.div-term.result (N' c) st.args.w (step st.args.y v x.load.result t u))
+call : (c : tie.After-div_term Inv μ) (v : Sum) → (let x = read c in let l = (in-loop x).before in let st = from-loop l in
+    Divisor (B st) st.args.y st.args.j v → (t u : Sum) → Lies (N l) (l.loop-q.q + 1) (l.loop-q.q + 1 + x.load-x.result.inside) (4 - 1) t
+    → Lies (N l) st.args.w (st.args.w + l.loop-q.len) 4 u → Agrees c.div_term.result (N' c) st.args.w (step st.args.y v x.load-x.result t u))
 call c v d t u lt lu =
     let l = (in-loop (read c)).before in
-    c.div-term.ensures.1 u v lu (divisor-kept l.loop.inv.0 (from-loop l).pre.1.apart d)
+    c.div_term.ensures.1 u v lu (divisor-kept l.loop-q.invariant.0 (from-loop l).requires.1.apart d)
 
-kept : (c : tie.After-div-term Inv μ) → (let st = from-loop (in-loop (read c)).before in Kept (B st) (N' c) st.args.w (st.args.w + (64 + 64)))
-kept c = kept_trans (in-loop (read c)).before.loop.inv.0 c.div-term.ensures.0
+kept : (c : tie.After-div_term Inv μ) → (let st = from-loop (in-loop (read c)).before in Kept (B st) (N' c) st.args.w (st.args.w + (64 + 64)))
+kept c = kept_trans (in-loop (read c)).loop-q.invariant.0 c.div_term.ensures.0
 
-abbrev put_refused : tie.After-known-told2 Inv μ → tie.After-div-term Inv μ
+abbrev put_refused : tie.In-Refused Inv μ → tie.After-div_term Inv μ
 put_refused c = c.before.before.before.before.before.before.before.before
 
-abbrev put-done : tie.After-struct-known Inv μ → tie.After-div-term Inv μ
+abbrev put-done : tie.After-struct_known-1 Inv μ → tie.After-div_term Inv μ
 put-done c = c.before.before.before.before.before.before.before.before.before
 
-again : tie.Need-loop-preserved Inv μ
+again : tie.Need-loop-q-preserved Inv μ
 again c =
     let put = put-done c in
     let x = read put in
@@ -91,18 +91,18 @@ again c =
     let st = from-loop l in
     let w = st.args.w in
     let on : (s v : Sum) → Lies (B st) st.args.i (st.args.i + st.args.n) 4 s → Divisor (B st) st.args.y st.args.j v → _
-    = λ s v ls d. turned (step st.args.y v) (N l) (N' put) w l.loop.len l.loop.q (st.args.i + st.args.n) 4 w (w + (64 + 64)) none s x.load.result put.div-term.result _
-    (l.loop.inv.3 s v ls d) x.load.ensures (in-loop x).loop-test.taken (call put v d) put.div-term.ensures.0 (apart l) c.before.before.k.given.1 in
-    let few = (on st.pre.0.held.0 st.pre.1.held.0 st.pre.0.held.1 st.pre.1.held.1).0 in
-    (kept put, omega (arith, l.loop.inv.1), few, λ s v ls d. (on s v ls d).1)
+    = λ s v ls d. turned (step st.args.y v) (N l) (N' put) w l.loop-q.len l.loop-q.q (st.args.i + st.args.n) 4 w (w + (64 + 64)) none s x.load-x.result put.div_term.result _
+    (l.loop-q.invariant.3 s v ls d) x.load-x.ensures (in-loop x).loop-q-test.true (call put v d) put.div_term.ensures.0 (apart l) c.in-Done.is in
+    let few = (on st.requires.0.held.0 st.requires.1.held.0 st.requires.0.held.1 st.requires.1.held.1).0 in
+    (kept put, omega (arith, l.loop-q.invariant.1), few, λ s v ls d. (on s v ls d).1)
 
-pub div-each-spec : {M : Type 1} → statement M
-div-each-spec =
+pub div_each_spec : {M : Type 1} → statement M
+div_each_spec =
     tie.close
     (tie.spec
     Inv
     μ
-    (λ c. let st = c.before.before in omega (arith, st.requires.0.held.1.room.insides, st.well-formed))
+    (λ c. let st = c in omega (arith, st.requires.0.held.1.room.insides, st.well_formed))
     (λ c.
     let st = c.before.before in
     let w = st.args.w in (
@@ -112,7 +112,7 @@ div-each-spec =
       λ s v ls d. outset (step st.args.y v) any (lies_empty (B st) w 4 (room-less {n = w + (64 + 64)} (omega arith) st.requires.2)) ls,
     ))
     -- the next entry
-    (λ c κs. let l = c.before.before.before in let w = left-now l.before in let n = next-at _ _ _ _ w.v' w.lies-v l.loop-test.true in (n.readable, n.first.plain))
+    (λ c κs. let l = c in let w = left-now l.before in let n = next-at _ _ _ _ w.v' w.lies-v l.loop-q-test.true in (n.readable, n.first.plain))
     (λ c κs.
     let x = c.before.before.before in
     let l = (in-loop x).before in
@@ -121,8 +121,8 @@ div-each-spec =
     let good = (first x).first.entry-good in (
       good.least,
       good.most,
-      by-kept l.loop.inv.0 st.pre.1,
-      record { few = l.loop.inv.2; room = room-same l.loop.inv.0.long st.pre.2; held = (w.s', w.lies-s) },
+      by-kept l.loop-q.invariant.0 st.requires.1,
+      record { few = l.loop-q.invariant.2; room = room-same l.loop-q.invariant.0.long st.requires.2; held = (w.s', w.lies-s) },
     ))
     (λ c. search rules)
     (λ c. search rules)
@@ -137,23 +137,23 @@ div-each-spec =
     let st = from-loop l in (
       kept put,
       λ s v ls d.
-          halted (step st.args.y v) (N l) (N' put) st.args.w l.loop.len l.loop.q (st.args.i + st.args.n) 4 none s x.load.result put.div-term.result
-          (l.loop.inv.3 s v ls d) x.load.ensures (in-loop x).loop-test.taken (call put v d) c.before.r.given.1,
+          halted (step st.args.y v) (N l) (N' put) st.args.w l.loop-q.len l.loop-q.q (st.args.i + st.args.n) 4 none s x.load-x.result put.div_term.result
+          (l.loop-q.invariant.3 s v ls d) x.load-x.ensures (in-loop x).loop-q-test.true (call put v d) c.in-Refused.is,
     ))
     -- or added
     (λ c. omega (arith, bound (read c.before.before.before.before.before.before.before.before)))
     (λ c. omega (arith, bound (read (put-done c))))
     (λ c. omega (arith, bound (read (put-done c))))
-    (λ c. let x = read (put-done c) in omega (arith, (first x).within, (in-loop x).loop-test.taken))
+    (λ c. let x = read (put-done c) in omega (arith, (first x).within, (in-loop x).loop-q-test.true))
     again
     -- nothing is left
-    (λ c. c.before.loop.invariant.0.long.kinds)
-    (λ c. c.before.loop.invariant.0.long.insides)
-    (λ c. c.before.loop.invariant.0.long.numbers)
+    (λ c. c.loop-q.invariant.0.long.kinds)
+    (λ c. c.loop-q.invariant.0.long.insides)
+    (λ c. c.loop-q.invariant.0.long.numbers)
     (λ c.
     let l = c.before in
     let st = from-loop l in (
-      l.loop.invariant.0,
+      l.loop-q.invariant.0,
       λ s v ls d.
-          ended (step st.args.y v) any (N l) st.args.w l.loop.len l.loop.q (st.args.i + st.args.n) 4 none s (l.loop.invariant.3 s v ls d) l.loop.invariant.2 c.loop-test.false,
+          ended (step st.args.y v) any (N l) st.args.w l.loop-q.len l.loop-q.q (st.args.i + st.args.n) 4 none s (l.loop-q.invariant.3 s v ls d) l.loop-q.invariant.2 c.loop-q-test.false,
     )))

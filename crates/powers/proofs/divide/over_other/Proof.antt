@@ -29,10 +29,10 @@ B c = book c.args.kinds.now c.args.insides.now c.args.numbers.now
 
 -- the book with the divisor laid out, and that of the answer
 abbrev B' : tie.After-insert → Book
-B' c = let last = c.insert.new in book last.0 last.1.0 last.1.1.0
+B' c = let last = c.insert.new in book last.kinds last.insides last.numbers
 
-abbrev B'' : tie.After-put-block → Book
-B'' c = let last = c.put-block.new in book last.0 last.1.0 last.1.1.0
+abbrev B'' : tie.After-put_block → Book
+B'' c = let last = c.put_block.new in book last.kinds last.insides last.numbers
 
 -- only working places were written
 kept : (c : tie.After-insert) → (let w = (start c).args.w in Kept (B (start c)) (B' c) (w + 64) (w + 64 + 64))
@@ -40,22 +40,22 @@ kept c = let few = (start c).requires.0.held.1.few in kept-wider (omega arith) (
 
 laid : (c : tie.After-insert) (v : Sum) → (let a = (start c).args in
     Divisor (B (start c)) a.y a.j v → Lies (B' c) (a.w + 64) (a.w + 64 + (a.y.inside + 1)) 4 (single a.y.kind a.y.num v complex.one))
-laid c v d = let st = start c in single-lies v (room-working st.args.w st.pre.1.room) c.insert.ensures d
+laid c v d = let st = start c in single-lies v (room-working st.args.w st.requires.1.room) c.insert.ensures d
 
 -- the sum still lies
 stays : (c : tie.After-insert) (s : Sum) → (let a = (start c).args in Lies (B (start c)) a.w (a.w + a.n) 4 s → Lies (B' c) a.w (a.w + a.n) 4 s)
 stays c s ls = let a = (start c).args in let few = (start c).requires.1.few in lies-below a.w (a.w + a.n) 4 s (kept c) (omega arith) ls
 
-abbrev inserted : tie.After-put-block → tie.After-insert
+abbrev inserted : tie.After-put_block → tie.After-insert
 inserted c = c.before.before.before.before.before.before.before.before.before.before
 
-pub over-other-spec : {M : Type 1} → statement M
-over-other-spec =
+pub over_other_spec : {M : Type 1} → statement M
+over_other_spec =
     tie.close
     (tie.spec
-    (λ c. let st = c.before.before in omega (arith, st.requires.1.room.insides, st.well-formed))
+    (λ c. let st = c in omega (arith, st.requires.1.room.insides, st.well_formed))
     (λ c κs.
-    let st = c.before.before.before.before.before in
+    let st = c in
     let w = st.args.w in
     let d = st.requires.0.held.1 in
     let few = d.few in
@@ -67,8 +67,8 @@ over-other-spec =
     (λ c κs.
     let put = c.before.before.before.before.before.before.before.before.before in
     let st = start put in
-    let d = st.pre.0.held in
-    let work = st.pre.1 in
+    let d = st.requires.0.held in
+    let work = st.requires.1 in
     let few = d.1.few in (
       (div-head (st.args.y.inside + 1) st.args.c (omega arith), (_, laid put d.0 d.1), over (omega arith)),
       (work.few, room-same (kept put).long (room-result st.args.w work.room), (work.held.0, stays put work.held.0 work.held.1)),
@@ -80,9 +80,9 @@ over-other-spec =
     let put = c.before.before.before.before.before in
     let ins = inserted put in
     let st = start ins in (
-      kept_trans (kept-working (kept ins)) (kept_result put.put-block.ensures.0),
+      kept_trans (kept-working (kept ins)) (kept_result put.put_block.ensures.0),
       λ s v ls d.
           let t = single st.args.y.kind st.args.y.num v complex.one in
-          subst (λ (n : ℕ). Agrees put.put-block.result (B'' put) st.args.w (formed Add (entry Div n zero64 st.args.c) t s)) (single-size d)
-          (put.put-block.ensures.1 s t (stays ins s ls) (laid ins v d)),
+          subst (λ (n : ℕ). Agrees put.put_block.result (B'' put) st.args.w (formed Add (entry Div n zero64 st.args.c) t s)) (single-size d)
+          (put.put_block.ensures.1 s t (stays ins s ls) (laid ins v d)),
     )))

@@ -19,35 +19,35 @@ use Rattle.powers.proofs.divide.Divisors.{One, one-term, one-by-itself, reciproc
 use Rattle.powers.proofs.divide.recip.Statement.{statement}
 use Rattle.powers.proofs.divide.recip.Tie as tie
 
-abbrev start : tie.After-load → tie.Start
-start c = c.before.before.before.before.before.before
+abbrev start : tie.After-load-y → tie.Start
+start c = c.before.before.before
 
 abbrev B : tie.Start → Book
 B c = book c.args.kinds.now c.args.insides.now c.args.numbers.now
 
 -- the book of each answer
 abbrev B-several : tie.After-alone → Book
-B-several c = let last = c.alone.new in book last.0 last.1.0 last.1.1.0
+B-several c = let last = c.alone.new in book last.kinds last.insides last.numbers
 
-abbrev B-one : tie.After-div-term → Book
-B-one c = let last = c.div-term.new in book last.0 last.1.0 last.1.1.0
+abbrev B-one : tie.After-div_term → Book
+B-one c = let last = c.div_term.new in book last.kinds last.insides last.numbers
 
 -- the divisor is one term, which was read
-abbrev read : tie.Else1 → tie.After-load
+abbrev read : tie.Else-y-n → tie.After-load-y
 read c = c.before.before
 
-one : (c : tie.Else1) (s : Sum) → (let st = start (read c) in Lies (B st) st.args.i (st.args.i + st.args.n) 4 s → One (B st) st.args.i (read c).load.result s)
-one c s ls = let st = start (read c) in one-term (read c).load.result (read c).load.ensures ls st.pre.0 st.pre.1.few c.if1.false
+one : (c : tie.Else-y-n) (s : Sum) → (let st = start (read c) in Lies (B st) st.args.i (st.args.i + st.args.n) 4 s → One (B st) st.args.i (read c).load-y.result s)
+one c s ls = let st = start (read c) in one-term (read c).load-y.result (read c).load-y.ensures ls st.requires.0 st.requires.1.few c.if-y-n.false
 
 nothing : (c : tie.Start) → Lies (B c) c.args.w (c.args.w + 0) 4 none
 nothing c = lies_empty (B c) c.args.w 4 (room-less {n = c.args.w + (64 + 64)} (omega arith) c.requires.2)
 
-pub recip-spec : {M : Type 1} → statement M
-recip-spec =
+pub recip_spec : {M : Type 1} → statement M
+recip_spec =
     tie.close
     (tie.spec
     (λ c κs.
-    let pre = c.before.before.before.before.before.requires in
+    let pre = c.requires in
     let held = pre.1.held in
     let n = next-at _ _ _ _ held.0 held.1 (omega (arith, pre.0)) in
     (n.readable, n.first.plain))
@@ -57,31 +57,31 @@ recip-spec =
     (λ c. omega (arith, (start c.before.before).requires.1.few))
     (λ c κs.
     let st = start c.before.before.before.before.before in
-    let source = st.pre.1 in
-    (div-head st.args.n complex.one st.pre.0, source.held, apart-result source.apart, room-result st.args.w st.pre.2))
+    let source = st.requires.1 in
+    (div-head st.args.n complex.one st.requires.0, source.held, apart-result source.apart, room-result st.args.w st.requires.2))
     (λ c. search rules)
     (λ c. search rules)
     (λ c. search rules)
     (λ c.
     let put = c.before.before.before.before.before in
-    let test = put.before.before.before.before in
-    let y = test.before.before in
+    let test = put in
+    let y = test.before.before.before.before.before.before in
     let st = start y in (
       kept_result put.alone.ensures.0,
       λ s ls.
-          subst (Agrees put.alone.result (B-several put) st.args.w) (sym (reciprocal-several y.load.result y.load.ensures ls st.pre.0 test.if1.true))
+          subst (Agrees put.alone.result (B-several put) st.args.w) (sym (reciprocal-several y.load-y.result y.load-y.ensures ls st.requires.0 test.if-y-n.true))
           (subst (λ (n : ℕ). Agrees put.alone.result (B-several put) st.args.w (formed Store (entry Div n zero64 complex.one) s none)) (omega (arith, ls.ends)) (put.alone.ensures.1 s ls)),
     ))
     -- by one
-    (λ c. let st = start c.before.before.before.before.before in omega (arith, st.pre.0, st.pre.1.held.1.room.insides, st.good))
+    (λ c. let st = start c.before.before.before.before.before in omega (arith, st.requires.0, st.requires.1.held.1.room.insides, st.well_formed))
     (λ c κs.
     let e = c.before.before.before in
     let st = start (read e) in
-    let held = st.pre.1.held in (
+    let held = st.requires.1.held in (
       omega arith,
       omega arith,
-      one-by-itself e.if1.false st.pre.1 (one e held.0 held.1),
-      record { few = omega arith; room = st.pre.2; held = (none, nothing st) },
+      one-by-itself e.if-y-n.false st.requires.1 (one e held.0 held.1),
+      record { few = omega arith; room = st.requires.2; held = (none, nothing st) },
     ))
     (λ c. search rules)
     (λ c. search rules)
@@ -90,8 +90,8 @@ recip-spec =
     let put = c.before.before.before.before.before in
     let e = put.before.before.before.before in
     let st = start (read e) in (
-      put.div-term.ensures.0,
+      put.div_term.ensures.0,
       λ s ls.
           let o = one e s ls in
-          subst (Agrees put.div-term.result (B-one put) st.args.w) (sym (reciprocal_one o)) (put.div-term.ensures.1 none o.v (nothing st) o.divisor),
+          subst (Agrees put.div_term.result (B-one put) st.args.w) (sym (reciprocal_one o)) (put.div_term.ensures.1 none o.v (nothing st) o.divisor),
     )))

@@ -14,19 +14,19 @@ use Rattle.powers.proofs.raise.Reals.{log-real, log-not, log-head}
 use Rattle.powers.proofs.raise.log.Statement.{statement}
 use Rattle.powers.proofs.raise.log.Tie as tie
 
-abbrev start : tie.After-real-of → tie.Start
-start c = c.before.before.before.before.before.before.before
+abbrev start : tie.After-real_of → tie.Start
+start c = c.before.before.before.before
 
 abbrev B : tie.Start → Book
 B c = book c.args.kinds.now c.args.insides.now c.args.numbers.now
 
 -- what real number the base is
-real-number : (c : tie.After-real-of) (r : Real) → c.Real-of.result ≡ r → (t : Sum)
+real-number : (c : tie.After-real_of) (r : Real) → c.Real-of.result ≡ r → (t : Sum)
     → (let st = start c in Lies (B st) st.args.j (st.args.j + st.args.m) 4 t → real_of (constant_of (as_constant t)) ≡ r)
-real-number c r h t lt = ap real_of (sym (c.before.as-constant.ensures t lt)) ∙ sym c.Real-of.ensures ∙ h
+real-number c r h t lt = ap real_of (sym (c.as_constant.ensures t lt)) ∙ sym c.Real-of.ensures ∙ h
 
-pub log-spec : {M : Type 1} → statement M
-log-spec =
+pub log_spec : {M : Type 1} → statement M
+log_spec =
     tie.close
     (tie.spec
     (λ c κs. search rules)
@@ -38,12 +38,12 @@ log-spec =
     (λ c. search rules)
     (λ c. search rules)
     (λ c.
-    let one = c.before.before.before.before.before in
-    let base = one.before.before.before.before.before in
-    (one.over.ensures.0, λ s t ls lt. rw (log-real s t _ (real-number base.before.before _ base.base.given.1 t lt)) (one.over.ensures.1 s ls)))
+    let one = c in
+    let base = one in
+    (one.over.ensures.0, λ s t ls lt. rw (log-real s t _ (real-number base.before.before.before.before.before.before.before.before.before.before.before.before _ base.in-Is.is t lt)) (one.over.ensures.1 s ls)))
     (λ c. search rules)
     (λ c. search rules)
     (λ c. search rules)
     (λ c.
     let real = c.before.before in
-    (kept_refl (B (start real)) _ _, λ s t ls lt. rw (log-not s t (real-number real _ c.enum_told.given.1 t lt)) refl)))
+    (kept_refl (B (start real)) _ _, λ s t ls lt. rw (log-not s t (real-number real _ c.in-Other.is t lt)) refl)))

@@ -28,10 +28,10 @@ B c = book c.args.kinds.now c.args.insides.now c.args.numbers.now
 
 -- the other book with the number in it, and with its power
 abbrev T' : tie.After-store → Book
-T' c = let last = c.store.new in book last.0 last.1.0 last.1.1.0
+T' c = let last = c.store.new in book last.kinds last.insides last.numbers
 
-abbrev T'' : tie.After-power-by → Book
-T'' c = let last = c.power-by.new in book last.0 last.1.0 last.1.1.0
+abbrev T'' : tie.After-power_by-raised → Book
+T'' c = let last = c.power_by-raised.new in book last.kinds last.insides last.numbers
 
 room-there : (c : tie.After-store) → Room (T' c) 192
 room-there c = room-same c.store.ensures.long (room-fresh 192)
@@ -39,26 +39,26 @@ room-there c = room-same c.store.ensures.long (room-fresh 192)
 number : (c : tie.After-store) → Lies (T' c) 0 (0 + 1) 4 (constant (real (start c).args.base))
 number c = constant-lies _ (start c).requires.0 0 (room-less {n = 192} (omega arith) (room-fresh 192)) (fitting (start c)) c.store.ensures
 
-abbrev stored : tie.After-power-by → tie.After-store
+abbrev stored : tie.After-power_by-raised → tie.After-store
 stored c = c.before.before.before.before.before.before.before
 
-told : (c : tie.After-power-by) → (let a = (start (stored c)).args in Agrees c.power-by.result.formed (T'' c) 64 (power (constant (real a.base)) a.e))
-told c = c.power-by.ensures.1.0 _ (number (stored c))
+told : (c : tie.After-power_by-raised) → (let a = (start (stored c)).args in Agrees c.power_by-raised.result.formed (T'' c) 64 (power (constant (real a.base)) a.e))
+told c = c.power_by-raised.ensures.1.0 _ (number (stored c))
 
-abbrev raised : tie.After-known-told → tie.After-power-by
+abbrev raised : tie.In-Done → tie.After-power_by-raised
 raised c = c.before.before.before.before.before.before
 
-made : (c : tie.After-known-told) → (let a = (start (stored (raised c))).args in Agreed (T'' (raised c)) 64 c.before.formed.given.0.0 (power (constant (real a.base)) a.e))
-made c = agreed-done (T'' (raised c)) 64 _ (raised c).power-by.result.formed _ (told (raised c)) c.before.formed.given.1
+made : (c : tie.In-Done) → (let a = (start (stored (raised c))).args in Agreed (T'' (raised c)) 64 c.in-Done.m (power (constant (real a.base)) a.e))
+made c = agreed-done (T'' (raised c)) 64 _ (raised c).power_by-raised.result.formed _ (told (raised c)) c.in-Done.is
 
-pub number-power-spec : {M : Type 1} → statement M
-number-power-spec =
+pub number_power_spec : {M : Type 1} → statement M
+number_power_spec =
     tie.close
     (tie.spec
     (λ c. search rules)
     (λ c. search rules)
     (λ c. search rules)
-    (λ c κs. let st = c.before.before.before.before.before in (room-less {n = 192} (omega arith) (room-fresh 192), constant-plain _ st.requires.0))
+    (λ c κs. let st = c in (room-less {n = 192} (omega arith) (room-fresh 192), constant-plain _ st.requires.0))
     (λ c. search rules)
     (λ c. search rules)
     (λ c. search rules)
@@ -74,23 +74,23 @@ number-power-spec =
     let up = raised t in
     let st = start (stored up) in
     let few = (made t).few in
-    (room-less {n = 192} (omega arith) (room-same up.power-by.ensures.0.long (room-there (stored up))), room-less {n = st.args.p + 64} (omega arith) st.pre.2))
+    (room-less {n = 192} (omega arith) (room-same up.power_by-raised.ensures.0.long (room-there (stored up))), room-less {n = st.args.p + 64} (omega arith) st.requires.2))
     (λ c. search rules)
     (λ c. search rules)
     (λ c. search rules)
     (λ c. search rules)
     (λ c.
-    let back = c.before.before.before.before.before in
-    let t = back.before.before.before.before.before.before.before in
+    let back = c in
+    let t = back.before.before.before.before.before.before.before.before.before.before.before.before in
     let a = made t in
     let few = a.few in
     let st = start (stored (raised t)) in
-    let last = back.copy-in.new.1.1.1.1.1 in (
-      kept-wider (omega arith) (omega arith) (copied-kept back.copy-in.ensures),
-      agree-done (book last.0 last.1.0 last.1.1.0) st.args.p _ _ a.s a.is a.few
-          (lies-copied back.copy-in.ensures (room-less {n = st.args.p + 64} (omega arith) st.pre.2) a.lies),
+    let last = back.copy_in.new.1.1.1.1.1 in (
+      kept-wider (omega arith) (omega arith) (copied-kept back.copy_in.ensures),
+      agree-done (book last.kinds last.insides last.numbers) st.args.p _ _ a.s a.is a.few
+          (lies-copied back.copy_in.ensures (room-less {n = st.args.p + 64} (omega arith) st.requires.2) a.lies),
     ))
     (λ c.
     let up = c.before.before.before.before.before.before in
     let st = start (stored up) in
-    (kept_refl (B st) _ _, agree-refused (B st) st.args.p _ _ (agreed-refused (T'' up) 64 _ up.power-by.result.formed _ (told up) c.before.formed2.given.1))))
+    (kept_refl (B st) _ _, agree-refused (B st) st.args.p _ _ (agreed-refused (T'' up) 64 _ up.power_by-raised.result.formed _ (told up) c.in-Refused.is))))

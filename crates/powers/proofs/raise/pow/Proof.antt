@@ -20,10 +20,10 @@ use Rattle.powers.proofs.raise.Pairs.{counted-agrees, counted_is, counted-refuse
 use Rattle.powers.proofs.raise.pow.Statement.{statement}
 use Rattle.powers.proofs.raise.pow.Tie as tie
 
-abbrev euler : tie.After-is-x → tie.After-is-euler
-euler c = c.before.before.before.before
+abbrev euler : tie.After-is_x → tie.After-is_euler
+euler c = c.before
 
-abbrev start : tie.After-is-x → tie.Start
+abbrev start : tie.After-is_x → tie.Start
 start c = (euler c).before.before.before.before.before.before.before
 
 abbrev B : tie.Start → Book
@@ -36,19 +36,19 @@ abbrev Power : tie.Start → Sum → Type 0
 Power c t = Lies (B c) c.args.j (c.args.j + c.args.m) 4 t
 
 -- whether it is E to a single x
-asked : (c : tie.After-is-x) (b : Bool) → (euler c).is-euler.result && c.is_x.result ≡ b → (s t : Sum) → Base (start c) s → Power (start c) t → is_euler (as_constant s) && is_x t ≡ b
+asked : (c : tie.After-is_x) (b : Bool) → (euler c).is_euler.result && c.is_x.result ≡ b → (s t : Sum) → Base (start c) s → Power (start c) t → is_euler (as_constant s) && is_x t ≡ b
 asked c b h s t ls lt =
-    ap₂ ◌&&◌ (sym ((euler c).is-euler.ensures ∙ ap euler_is ((euler c).before.as-constant.ensures s ls) ∙ euler-is (as_constant s))) (sym (c.is_x.ensures t lt)) ∙ h
+    ap₂ ◌&&◌ (sym ((euler c).is_euler.ensures ∙ ap euler_is ((euler c).as_constant.ensures s ls) ∙ euler-is (as_constant s))) (sym (c.is_x.ensures t lt)) ∙ h
 
-abbrev tested : tie.After-real-of → tie.Else1
-tested c = c.before.before.before.before.before
+abbrev tested : tie.After-real_of → tie.Else-is_euler-is_x
+tested c = c.before.before
 
 -- what real number the power is
-real-number : (c : tie.After-real-of) (r : Real) → c.Real-of.result ≡ r → (t : Sum) → Power (start (tested c).before) t → real_of (constant_of (as_constant t)) ≡ r
-real-number c r h t lt = ap real_of (sym (c.before.as-constant2.ensures t lt)) ∙ sym c.Real-of.ensures ∙ h
+real-number : (c : tie.After-real_of) (r : Real) → c.Real-of.result ≡ r → (t : Sum) → Power (start (tested c).before) t → real_of (constant_of (as_constant t)) ≡ r
+real-number c r h t lt = ap real_of (sym (c.as_constant-2.ensures t lt)) ∙ sym c.Real-of.ensures ∙ h
 
-pub pow-spec : {M : Type 1} → statement M
-pow-spec =
+pub pow_spec : {M : Type 1} → statement M
+pow_spec =
     tie.close
     (tie.spec
     (λ c κs. search rules)
@@ -58,24 +58,24 @@ pow-spec =
     (λ c κs.
     let asks = c.before.before.before.before in
     let st = start asks in
-    let ls = st.pre.0.held in
-    let lt = st.pre.1.held in
-    let one = and_both (is_euler (as_constant ls.0)) (is_x lt.0) (asked asks _ c.before.before.before.if1.true ls.0 lt.0 ls.1 lt.1) in
+    let ls = st.requires.0.held in
+    let lt = st.requires.1.held in
+    let one = and_both (is_euler (as_constant ls.0)) (is_x lt.0) (asked asks _ c.if-is_euler-is_x.true ls.0 lt.0 ls.1 lt.1) in
     let some = x-some lt.0 one.1 in
     let ends = lt.1.ends in
-    (exp-head _ (omega arith), result-operand st.pre.1, room-result st.args.w st.pre.2))
+    (exp-head _ (omega arith), result-operand st.requires.1, room-result st.args.w st.requires.2))
     (λ c κs. search rules)
     (λ c. search rules)
     (λ c. search rules)
     (λ c. search rules)
     (λ c.
-    let made = c.before.before.before.before.before.before in
-    let test = made.before.before.before.before in
+    let made = c in
+    let test = made in
     let told = c.counted.ensures in (
       kept_result made.over.ensures.0,
       (
-        λ s t ls lt. counted-agrees _ _ _ _ told (rw (pow-exp s t (asked test.before _ test.if1.true s t ls lt)) (made.over.ensures.1 t lt)),
-        λ s t ls lt. counted_is told (sym (pow-pairs-exp s t (asked test.before _ test.if1.true s t ls lt))),
+        λ s t ls lt. counted-agrees _ _ _ _ told (rw (pow-exp s t (asked test.before.before.before.before.before.before.before.before.before.before.before _ test.if-is_euler-is_x.true s t ls lt)) (made.over.ensures.1 t lt)),
+        λ s t ls lt. counted_is told (sym (pow-pairs-exp s t (asked test.before.before.before.before.before.before.before.before.before.before.before _ test.if-is_euler-is_x.true s t ls lt))),
       ),
     ))
     (λ c κs. search rules)
@@ -83,25 +83,25 @@ pow-spec =
     (λ c. search rules)
     -- a real power
     (λ c κs.
-    let given = c.before.before.before.before in
-    let real = given.before.before in
+    let given = c in
+    let real = given.before.before.before.before.before.before in
     let st = start (tested real).before in
-    let lt = st.pre.1.held in
-    (real-finite lt.0 _ lt.1.good (real-number real _ given.e.given.1 lt.0 lt.1), st.pre.0, st.pre.2))
+    let lt = st.requires.1.held in
+    (real-finite lt.0 _ lt.1.good (real-number real _ given.in-Is.is lt.0 lt.1), st.requires.0, st.requires.2))
     (λ c. search rules)
     (λ c κs. search rules)
     (λ c. search rules)
     (λ c. search rules)
     (λ c. search rules)
     (λ c.
-    let made = c.before.before.before.before.before in
-    let given = made.before.before.before.before.before in
-    let real = given.before.before in
+    let made = c in
+    let given = made in
+    let real = given.before.before.before.before.before.before.before.before.before.before.before.before in
     let test = tested real in (
-      made.power-by.ensures.0,
+      made.power_by.ensures.0,
       (
-        λ s t ls lt. rw (pow-real s t (asked test.before _ test.if1.left s t ls lt) _ (real-number real _ given.e.given.1 t lt)) (made.power-by.ensures.1.0 s ls),
-        λ s t ls lt. rw (pow-pairs-real s t (asked test.before _ test.if1.left s t ls lt) _ (real-number real _ given.e.given.1 t lt)) (made.power-by.ensures.1.1 s ls),
+        λ s t ls lt. rw (pow-real s t (asked test.before _ test.if-is_euler-is_x.left s t ls lt) _ (real-number real _ given.in-Is.is t lt)) (made.power_by.ensures.1.0 s ls),
+        λ s t ls lt. rw (pow-pairs-real s t (asked test.before _ test.if-is_euler-is_x.left s t ls lt) _ (real-number real _ given.in-Is.is t lt)) (made.power_by.ensures.1.1 s ls),
       ),
     ))
     -- any other
@@ -109,13 +109,13 @@ pow-spec =
     (λ c. search rules)
     (λ c. search rules)
     (λ c.
-    let none = c.before in
-    let real = none.before.before in
+    let none = c in
+    let real = none.before.before.before in
     let test = tested real in
-    let told = c.counted2.ensures in (
+    let told = c.counted-in-Other.ensures in (
       kept_refl (B (start test.before)) _ _,
       (
-        λ s t ls lt. counted-agrees _ _ _ _ told (rw (pow-not s t (asked test.before _ test.if1.left s t ls lt) (real-number real _ none.enum_told.given.1 t lt)) refl),
+        λ s t ls lt. counted-agrees _ _ _ _ told (rw (pow-not s t (asked test.before _ test.if-is_euler-is_x.left s t ls lt) (real-number real _ none.in-Other.is t lt)) refl),
         λ s t ls lt. counted-refused told,
       ),
     )))

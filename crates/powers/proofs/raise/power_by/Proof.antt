@@ -19,7 +19,7 @@ use Rattle.powers.proofs.raise.Pairs.{counted-agrees, counted_is, counted-refuse
 use Rattle.powers.proofs.raise.power_by.Statement.{statement}
 use Rattle.powers.proofs.raise.power_by.Tie as tie
 
-abbrev start : tie.After-is-whole → tie.Start
+abbrev start : tie.After-is_whole → tie.Start
 start c = c.before.before.before
 
 abbrev B : tie.Start → Book
@@ -29,27 +29,27 @@ abbrev Lying : tie.Start → Sum → Type 0
 Lying c s = Lies (B c) c.args.i (c.args.i + c.args.n) 4 s
 
 -- whether the power is whole and not negative
-asked : (c : tie.After-is-whole) (b : Bool) → (let e = (start c).args.e in c.is_whole.result && le zero64 e ≡ b → is_whole e && le zero64 e ≡ b)
+asked : (c : tie.After-is_whole) (b : Bool) → (let e = (start c).args.e in c.is_whole.result && le zero64 e ≡ b → is_whole e && le zero64 e ≡ b)
 asked c b h = let e = (start c).args.e in ap (λ (w : Bool). w && le zero64 e) (sym c.is_whole.ensures) ∙ h
 
 -- the sum is one term that has a root
-abbrev of-root : tie.After-can-root → tie.Else1
-of-root c = c.before.before.before.before
+abbrev of-root : tie.After-can_root → tie.Else-is_whole-e
+of-root c = c.before
 
-single : (c : tie.Else2) (s : Sum) → Lying (start (of-root c.before).before) s → rootable s ≡ true
-single c s l = sym (c.before.can-root.ensures s l) ∙ not-false _ c.if2.false
+single : (c : tie.Else-not-can_root) (s : Sum) → Lying (start (of-root c.before).before) s → rootable s ≡ true
+single c s l = sym (c.can_root.ensures s l) ∙ c.if-not-can_root.false
 
 -- and its coefficients are 1
-abbrev of-units : tie.After-unit-coefs → tie.Else2
-of-units c = c.before.before.before.before
+abbrev of-units : tie.After-unit_coefs → tie.Else-not-can_root
+of-units c = c.before
 
-rooting : (c : tie.Else3) (s : Sum) → (let st = start (of-root (of-units c.before).before).before in Lying st s → Rooting (B st) st.args.i st.args.n s)
+rooting : (c : tie.Else-not-unit_coefs) (s : Sum) → (let st = start (of-root (of-units c.before).before).before in Lying st s → Rooting (B st) st.args.i st.args.n s)
 rooting c s l =
     let test = of-units c.before in
-    record { lies = l; few = (start (of-root test.before).before).requires.1.few; single = single test s l; units = sym (c.before.unit-coefs.ensures s l) ∙ not-false _ c.if3.false }
+    record { lies = l; few = (start (of-root test.before).before).requires.1.few; single = single test s l; units = sym (c.unit_coefs.ensures s l) ∙ c.if-not-unit_coefs.false }
 
-pub power-by-spec : {M : Type 1} → statement M
-power-by-spec =
+pub power_by_spec : {M : Type 1} → statement M
+power_by_spec =
     tie.close
     (tie.spec
     (λ c κs. search rules)
@@ -59,14 +59,14 @@ power-by-spec =
     (λ c. search rules)
     (λ c. search rules)
     (λ c.
-    let whole = c.before.before.before.before.before in
-    let test = whole.before.before.before.before in
-    let w = test.before in
-    let is = asked w _ test.if1.true in (
-      whole.whole-power.ensures.0,
+    let whole = c in
+    let test = whole in
+    let w = test.before.before.before.before.before.before.before.before.before.before in
+    let is = asked w _ test.if-is_whole-e.true in (
+      whole.whole_power.ensures.0,
       (
-        λ s l. rw (power-whole s (start w).args.e is) (whole.whole-power.ensures.1.0 s l),
-        λ s l. rw (power-pairs-whole s (start w).args.e is) (whole.whole-power.ensures.1.1 s l),
+        λ s l. rw (power-whole s (start w).args.e is) (whole.whole_power.ensures.1.0 s l),
+        λ s l. rw (power-pairs-whole s (start w).args.e is) (whole.whole_power.ensures.1.1 s l),
       ),
     ))
     (λ c κs. search rules)
@@ -76,14 +76,14 @@ power-by-spec =
     (λ c. search rules)
     (λ c. search rules)
     (λ c.
-    let asks = c.before in
-    let test = of-root asks.before in
+    let asks = c in
+    let test = of-root asks.before.before in
     let w = test.before in
     let told = c.counted.ensures in (
       kept_refl (B (start w)) _ _,
       (
         λ s l. counted-agrees _ _ _ _ told
-            (rw (power-several s (start w).args.e (asked w _ test.if1.left) (sym (asks.before.can-root.ensures s l) ∙ not-true _ asks.if2.true)) refl),
+            (rw (power-several s (start w).args.e (asked w _ test.if-is_whole-e.left) (sym (asks.can_root.ensures s l) ∙ asks.if-not-can_root.true)) refl),
         λ s l. counted-refused told,
       ),
     ))
@@ -94,15 +94,15 @@ power-by-spec =
     (λ c. search rules)
     (λ c. search rules)
     (λ c.
-    let asks = c.before in
-    let rooted = of-units asks.before in
+    let asks = c in
+    let rooted = of-units asks.before.before in
     let test = of-root rooted.before in
     let w = test.before in
-    let told = c.counted2.ensures in (
+    let told = c.counted-then-not-unit_coefs.ensures in (
       kept_refl (B (start w)) _ _,
       (
         λ s l. counted-agrees _ _ _ _ told
-            (rw (power-math s (start w).args.e (asked w _ test.if1.left) (single rooted s l) (sym (asks.before.unit-coefs.ensures s l) ∙ not-true _ asks.if3.true)) refl),
+            (rw (power-math s (start w).args.e (asked w _ test.if-is_whole-e.left) (single rooted s l) (sym (asks.unit_coefs.ensures s l) ∙ asks.if-not-unit_coefs.true)) refl),
         λ s l. counted-refused told,
       ),
     ))
@@ -110,19 +110,19 @@ power-by-spec =
     (λ c κs.
     let units = c.before.before.before in
     let st = start (of-root (of-units units.before).before).before in
-    let held = st.pre.1.held in
-    (st.pre.0, (held.0, rooting units held.0 held.1), apart-result st.pre.1.apart, room-result st.args.w st.pre.2))
+    let held = st.requires.1.held in
+    (st.requires.0, (held.0, rooting units held.0 held.1), apart-result st.requires.1.apart, room-result st.args.w st.requires.2))
     (λ c κs. search rules)
     (λ c. search rules)
     (λ c. search rules)
     (λ c. search rules)
     (λ c.
-    let done = c.before.before.before.before.before.before in
-    let units = done.before.before.before.before in
+    let done = c in
+    let units = done.before.before.before.before.before.before.before.before.before.before in
     let test = of-root (of-units units.before).before in
     let w = test.before in
-    let other = asked w _ test.if1.left in
-    let told = c.counted3.ensures in (
+    let other = asked w _ test.if-is_whole-e.left in
+    let told = c.counted-2.ensures in (
       kept_result done.root.ensures.0,
       (
         λ s l.

@@ -15,12 +15,12 @@ use Rattle.powers.proofs.raise.Pairs.{counted-agrees, counted-power}
 use Rattle.powers.proofs.raise.raise_one.Statement.{statement}
 use Rattle.powers.proofs.raise.raise_one.Tie as tie
 
-pub raise-one-spec : {M : Type 1} → statement M
-raise-one-spec =
+pub raise_one_spec : {M : Type 1} → statement M
+raise_one_spec =
     tie.close
     (tie.spec
     (λ c κs.
-    let held = c.before.before.before.before.before.requires.2.held in
+    let held = c.requires.2.held in
     let n = next-at _ _ _ 4 held.0 held.1 (omega arith) in
     (n.readable, n.first.plain))
     -- a power of x
@@ -30,23 +30,23 @@ raise-one-spec =
     (λ c. search rules)
     (λ c. search rules)
     (λ c.
-    let made = c.before.before.before.before.before.before in
-    let tested = made.before.before.before.before in
-    let read = tested.before.before in
-    let st = read.before.before.before.before.before.before in
-    let last = made.raise-power.new in
-    let after = book last.0 last.1.0 last.1.1.0 in
+    let made = c in
+    let tested = made in
+    let read = tested in
+    let st = read in
+    let last = made.raise_power.new in
+    let after = book last.kinds last.insides last.numbers in
     let told = c.counted.ensures in (
-      made.raise-power.ensures.0,
+      made.raise_power.ensures.0,
       (
         λ s ls.
-            let alone = power-alone read.load.result read.load.ensures ls tested.if1.true in
+            let alone = power-alone read.load-x.result read.load-x.ensures ls tested.if-x-eq-X.true in
             subst (λ (t : Sum). Agrees c.counted.result.formed after st.args.w (raised st.args.times t t)) (sym alone.1)
-            (counted-agrees after st.args.w _ _ told (made.raise-power.ensures.1 alone.0)),
+            (counted-agrees after st.args.w _ _ told (made.raise_power.ensures.1 alone.0)),
         λ s ls.
-            let alone = power-alone read.load.result read.load.ensures ls tested.if1.true in
+            let alone = power-alone read.load-x.result read.load-x.ensures ls tested.if-x-eq-X.true in
             subst (λ (t : Sum). Counted c.counted.result (raised_pairs st.args.times t t)) (sym alone.1)
-            (counted-power after st.args.w st.args.times _ alone.0 _ told (made.raise-power.ensures.1 alone.0)),
+            (counted-power after st.args.w st.args.times _ alone.0 _ told (made.raise_power.ensures.1 alone.0)),
       ),
     ))
     -- any other

@@ -25,14 +25,14 @@ use Rattle.powers.proofs.raise.Singles.{raise-on, raise-18, raise-15, raise-last
 use Rattle.powers.proofs.raise.raise_power.Statement.{statement}
 use Rattle.powers.proofs.raise.raise_power.Tie as tie
 
-abbrev invariant-loop : tie.invariant-loop
+abbrev invariant-loop : tie.invariant-loop-left
 invariant-loop kinds insides numbers times x w num₀ c₀ left₀ num c left = (j : Sum) →
     (i : Sum) × (raised times (single X x.num j x.coef) (single X x.num j x.coef) ≡ raised (suc left) (single X num i c) (single X x.num j x.coef))
 
-abbrev decreases-loop : tie.decreases-loop
+abbrev decreases-loop : tie.decreases-loop-left
 decreases-loop kinds insides numbers times x w num₀ c₀ left₀ num c left = left
 
-abbrev start : tie.At-loop invariant-loop decreases-loop → tie.Start invariant-loop decreases-loop
+abbrev start : tie.At-loop-left invariant-loop decreases-loop → tie.Start invariant-loop decreases-loop
 start c = c.before.before.before.before
 
 abbrev B : tie.Start invariant-loop decreases-loop → Book
@@ -42,34 +42,34 @@ nothing : (c : tie.Start invariant-loop decreases-loop) → Lies (B c) c.args.w 
 nothing c = lies_empty (B c) c.args.w 4 (room-less {n = c.args.w + (64 + 64)} (omega arith) c.requires.1)
 
 -- the coefficient of a product
-coef : (c : tie.After-add invariant-loop decreases-loop) → (let l = c.before.before.before.before in
-    c.add.result ≡ complex.plus complex.zero (complex.times l.loop.c (start l).args.x.coef))
-coef c = c.add.ensures ∙ ap (λ (v : Complex). complex.plus complex.zero v) c.before.mul.ensures
+coef : (c : tie.After-add-c invariant-loop decreases-loop) → (let l = c.before.before.before.before.before in
+    c.add-c.result ≡ complex.plus complex.zero (complex.times l.loop-left.c (start l).args.x.coef))
+coef c = c.add-c.ensures ∙ ap (λ (v : Complex). complex.plus complex.zero v) c.mul.ensures
 
 -- there is one more product
-more : (c : tie.After-add invariant-loop decreases-loop) → (let l = c.before.before.before.before in suc l.loop.left ≡ suc (suc (l.loop.left - 1)))
-more c = omega (arith, c.before.before.before.loop-test.true)
+more : (c : tie.After-add-c invariant-loop decreases-loop) → (let l = c in suc l.loop-left.left ≡ suc (suc (l.loop-left.left - 1)))
+more c = omega (arith, c.loop-left-test.true)
 
 -- what all products are, where there is one more
-so_far : (c : tie.After-add invariant-loop decreases-loop) (j : Sum) → (let l = c.before.before.before.before in
+so_far : (c : tie.After-add-c invariant-loop decreases-loop) (j : Sum) → (let l = c.before.before.before.before.before in
     let x = (start l).args.x in
     let s = single X x.num j x.coef in
-    raised (start l).args.times s s ≡ raised (suc (suc (l.loop.left - 1))) (single X l.loop.num (l.loop.invariant j).0 l.loop.c) s)
+    raised (start l).args.times s s ≡ raised (suc (suc (l.loop-left.left - 1))) (single X l.loop-left.num (l.loop-left.invariant j).0 l.loop-left.c) s)
 so_far c j =
-    let l = c.before.before.before.before in
+    let l = c.before.before.before.before.before in
     let x = (start l).args.x in
-    (l.loop.invariant j).1 ∙ ap (λ n. raised n (single X l.loop.num (l.loop.invariant j).0 l.loop.c) (single X x.num j x.coef)) (more c)
+    (l.loop-left.invariant j).1 ∙ ap (λ n. raised n (single X l.loop-left.num (l.loop-left.invariant j).0 l.loop-left.c) (single X x.num j x.coef)) (more c)
 
-pub raise-power-spec : {M : Type 1} → statement M
+pub raise_power_spec : {M : Type 1} → statement M
 unfolding size
-raise-power-spec =
+raise_power_spec =
     tie.close
     (tie.spec
     invariant-loop
     decreases-loop
-    (λ c. let st = c.before.before.before in omega (arith, st.requires.0))
+    (λ c. let st = c in omega (arith, st.requires.0))
     (λ c j.
-    let st = c.before.before.before in
+    let st = c in
     let x = st.args.x in
     let s = single X x.num j x.coef in
     let one : st.args.times ≡ suc (st.args.times - 1) = omega (arith, st.requires.0) in
@@ -80,64 +80,64 @@ raise-power-spec =
     -- the power isn't finite
     (λ c.
     let made = c.before.before in
-    let l = made.before.before.before.before in
+    let l = made.before.before.before.before.before in
     let st = start l in
     let x = st.args.x in
-    let bad = sym c.before.is_finite.ensures ∙ not-true _ c.if1.true in (
+    let bad = sym c.is_finite.ensures ∙ c.if-not-is_finite.true in (
       kept_refl (B st) _ _,
       λ j.
-          let stops = so_far made j ∙ raise-18 x.num j x.coef (suc (l.loop.left - 1)) l.loop.num (l.loop.invariant j).0 l.loop.c bad in
+          let stops = so_far made j ∙ raise-18 x.num j x.coef (suc (l.loop-left.left - 1)) l.loop-left.num (l.loop-left.invariant j).0 l.loop-left.c bad in
           agree-refused (B st) st.args.w PowerNotFinite _ stops,
     ))
     (λ c κs. search rules)
     -- the coefficient isn't
     (λ c.
-    let tested = c.before.before in
-    let made = tested.before.before in
-    let l = made.before.before.before.before in
+    let tested = c in
+    let made = tested.before.before.before.before in
+    let l = made.before.before.before.before.before in
     let st = start l in
     let x = st.args.x in
-    let fine = sym tested.before.is_finite.ensures ∙ not-false _ tested.if1.false in
-    let bad = ap complex.all_finite (sym (coef made)) ∙ sym c.before.is-finite2.ensures ∙ not-true _ c.if2.true in (
+    let fine = sym tested.is_finite.ensures ∙ tested.if-not-is_finite.false in
+    let bad = ap complex.all_finite (sym (coef made)) ∙ sym c.is_finite-in-loop-left.ensures ∙ c.if-not-is_finite-2.true in (
       kept_refl (B st) _ _,
       λ j.
-          let stops = so_far made j ∙ raise-15 x.num j x.coef (suc (l.loop.left - 1)) l.loop.num (l.loop.invariant j).0 l.loop.c fine bad in
+          let stops = so_far made j ∙ raise-15 x.num j x.coef (suc (l.loop-left.left - 1)) l.loop-left.num (l.loop-left.invariant j).0 l.loop-left.c fine bad in
           agree-refused (B st) st.args.w NotFinite _ stops,
     ))
-    (λ c. let made = c.before.before.before.before in omega (arith, made.before.before.before.loop-test.true))
-    (λ c. let made = c.before.before.before.before in omega (arith, made.before.before.before.loop-test.true))
+    (λ c. let made = c in omega (arith, made.loop-left-test.true))
+    (λ c. let made = c in omega (arith, made.loop-left-test.true))
     (λ c j.
-    let tested = c.before.before in
-    let made = tested.before.before in
-    let l = made.before.before.before.before in
+    let tested = c in
+    let made = tested.before.before.before.before in
+    let l = made.before.before.before.before.before in
     let x = (start l).args.x in
-    let fine = sym tested.before.is_finite.ensures ∙ not-false _ tested.if1.false in
-    let good = ap complex.all_finite (sym (coef made)) ∙ sym c.before.is-finite2.ensures ∙ not-false _ c.if2.false in
+    let fine = sym tested.is_finite.ensures ∙ tested.if-not-is_finite.false in
+    let good = ap complex.all_finite (sym (coef made)) ∙ sym c.is_finite-in-loop-left.ensures ∙ c.if-not-is_finite-2.false in
     let s = single X x.num j x.coef in (
       none,
-      so_far made j ∙ raise-on x.num j x.coef (suc (l.loop.left - 1)) l.loop.num (l.loop.invariant j).0 l.loop.c fine good
-          ∙ ap (λ (v : Complex). raised (suc (l.loop.left - 1)) (single X (l.loop.num ⊕ x.num) none v) s) (sym (coef made)),
+      so_far made j ∙ raise-on x.num j x.coef (suc (l.loop-left.left - 1)) l.loop-left.num (l.loop-left.invariant j).0 l.loop-left.c fine good
+          ∙ ap (λ (v : Complex). raised (suc (l.loop-left.left - 1)) (single X (l.loop-left.num ⊕ x.num) none v) s) (sym (coef made)),
     ))
     -- the last product
     (λ c κs. search rules)
-    (λ c κs. let st = c.before.before.before.before.before.before.before.before.before.before in
+    (λ c κs. let st = c.before.before.before.before.before.before.before.before.before.before.before in
     (omega arith, room-less {n = st.args.w + (64 + 64)} (omega arith) st.requires.1, (none, nothing st)))
     (λ c. search rules)
     (λ c. search rules)
     (λ c. search rules)
     (λ c.
-    let put = c.before.before.before.before.before in
-    let times = put.before.before.before.before.before in
-    let l = times.before.before in
+    let put = c in
+    let times = put in
+    let l = times.before.before.before.before.before.before.before.before.before.before.before.before.before in
     let st = start l in
     let x = st.args.x in
-    let last = put.put-power.new in
-    let end : suc l.loop.left ≡ 1 = omega (arith, times.before.loop-test.false) in (
-      kept-wider (omega arith) (omega arith) put.put-power.ensures.0,
+    let last = put.put_power.new in
+    let end : suc l.loop-left.left ≡ 1 = omega (arith, times.loop-left-test.false) in (
+      kept-wider (omega arith) (omega arith) put.put_power.ensures.0,
       λ j.
           let s = single X x.num j x.coef in
-          let i = (l.loop.invariant j).0 in
-          let all = (l.loop.invariant j).1 ∙ ap (λ n. raised n (single X l.loop.num i l.loop.c) s) end ∙ raise-last x.num j x.coef l.loop.num i l.loop.c in
-          let same = ap (λ (v : Complex). formed Add (entry X 0 (l.loop.num ⊕ x.num) v) none none) times.mul2.ensures in
-          subst (λ (o : Outcome). Agrees put.put-power.result (book last.0 last.1.0 last.1.1.0) st.args.w o) (same ∙ sym all) (put.put-power.ensures.1 none (nothing st)),
+          let i = (l.loop-left.invariant j).0 in
+          let all = (l.loop-left.invariant j).1 ∙ ap (λ n. raised n (single X l.loop-left.num i l.loop-left.c) s) end ∙ raise-last x.num j x.coef l.loop-left.num i l.loop-left.c in
+          let same = ap (λ (v : Complex). formed Add (entry X 0 (l.loop-left.num ⊕ x.num) v) none none) times.mul-last.ensures in
+          subst (λ (o : Outcome). Agrees put.put_power.result (book last.kinds last.insides last.numbers) st.args.w o) (same ∙ sym all) (put.put_power.ensures.1 none (nothing st)),
     )))

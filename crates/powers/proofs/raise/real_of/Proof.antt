@@ -6,13 +6,13 @@ use Rattle.powers.proofs.raise.Reals.{real-yes, real-no}
 use Rattle.powers.proofs.raise.real_of.Statement.{statement}
 use Rattle.powers.proofs.raise.real_of.Tie as tie
 
-pub real-of-spec : {M : Type 1} → statement M
-real-of-spec =
+pub real_of_spec : {M : Type 1} → statement M
+real_of_spec =
     tie.close
     (tie.spec
     (λ c. search rules)
     (λ c κs. search rules)
-    (λ c. real-no _ _ c.before.before.before.c.given.1 (sym c.before.is_real.ensures ∙ not-true c.before.is_real.result c.if1.true))
+    (λ c. real-no _ _ c.in-Is.is (sym c.is_real.ensures ∙ not-true c.is_real.result c.if-not-is_real.true))
     (λ c. search rules)
-    (λ c. real-yes _ _ c.before.before.before.c.given.1 (sym c.before.is_real.ensures ∙ not-false c.before.is_real.result c.if1.false))
+    (λ c. real-yes _ _ c.in-Is.is (sym c.is_real.ensures ∙ not-false c.is_real.result c.if-not-is_real.false))
     (λ c. search rules))

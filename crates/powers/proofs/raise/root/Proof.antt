@@ -12,28 +12,28 @@ use Rattle.powers.proofs.raise.Rooting.{rooting-copied}
 use Rattle.powers.proofs.raise.root.Statement.{statement}
 use Rattle.powers.proofs.raise.root.Tie as tie
 
-abbrev start : tie.After-copy-within → tie.Start
+abbrev start : tie.After-copy_within → tie.Start
 start c = c.before.before.before.before.before.before
 
 abbrev B : tie.Start → Book
 B c = book c.args.kinds.now c.args.insides.now c.args.numbers.now
 
-abbrev B' : tie.After-copy-within → Book
-B' c = let last = c.copy_within.new in book last.0 last.1.0 last.1.1.0
+abbrev B' : tie.After-copy_within → Book
+B' c = let last = c.copy_within.new in book last.kinds last.insides last.numbers
 
-copied : (c : tie.After-copy-within) (s : Sum) → (let a = (start c).args in Rooting (B (start c)) a.i a.n s → Rooting (B' c) a.p a.n s)
-copied c s r = let st = start c in rooting-copied c.copy_within.ensures (room-less {n = st.args.p + 64} (omega (arith, r.few)) st.pre.3) r
+copied : (c : tie.After-copy_within) (s : Sum) → (let a = (start c).args in Rooting (B (start c)) a.i a.n s → Rooting (B' c) a.p a.n s)
+copied c s r = let st = start c in rooting-copied c.copy_within.ensures (room-less {n = st.args.p + 64} (omega (arith, r.few)) st.requires.3) r
 
 -- nothing but the room of a sum is written
-wider : {b b' : Book} (c : tie.After-copy-within) → (let a = (start c).args in Kept b b' a.p (a.p + a.n) → Kept b b' a.p (a.p + 64))
+wider : {b b' : Book} (c : tie.After-copy_within) → (let a = (start c).args in Kept b b' a.p (a.p + a.n) → Kept b b' a.p (a.p + 64))
 wider c k = let st = start c in kept-wider (omega arith) (omega (arith, st.pre.1.1.few)) k
 
-pub root-spec : {M : Type 1} → statement M
-root-spec =
+pub root_spec : {M : Type 1} → statement M
+root_spec =
     tie.close
     (tie.spec
     (λ c κs.
-    let st = c.before.before.before.before.before in
+    let st = c in
     let pre = st.requires in
     (pre.1.1.lies.room, room-less {n = st.args.p + 64} (omega (arith, pre.1.1.few)) pre.3, apart-copy pre.2))
     (λ c κs.
@@ -44,6 +44,6 @@ root-spec =
     (λ c. search rules)
     (λ c. search rules)
     (λ c.
-    let each = c.before.before.before.before.before in
-    let copy = each.before.before.before.before.before.before.before.before.before in
-    (wider copy (kept_trans (copied-kept copy.copy_within.ensures) each.root-each.ensures.0), λ s r. each.root-each.ensures.1 s (copied copy s r))))
+    let each = c in
+    let copy = each.before.before.before.before.before.before.before.before.before.before.before.before.before.before in
+    (wider copy (kept_trans (copied-kept copy.copy_within.ensures) each.root_each.ensures.0), λ s r. each.root_each.ensures.1 s (copied copy s r))))

@@ -11,90 +11,90 @@ use Rattle.powers.proofs.raise.Rooting.{Halfway, halfway-start, halfway-kept, ro
 use Rattle.powers.proofs.raise.root_each.Statement.{statement}
 use Rattle.powers.proofs.raise.root_each.Tie as tie
 
-abbrev invariant-loop : tie.invariant-loop
+abbrev invariant-loop : tie.invariant-loop-k
 invariant-loop kinds₀ insides₀ numbers₀ e p n end k₀ kinds insides numbers k = (k ≤ p + n) × Halfway e (book kinds₀ insides₀ numbers₀) (book kinds insides numbers) p k
 
-abbrev decreases-loop : tie.decreases-loop
+abbrev decreases-loop : tie.decreases-loop-k
 decreases-loop kinds₀ insides₀ numbers₀ e p n end k₀ kinds insides numbers k = p + n - k
 
-abbrev start : tie.At-loop invariant-loop decreases-loop → tie.Start invariant-loop decreases-loop
+abbrev start : tie.At-loop-k invariant-loop decreases-loop → tie.Start invariant-loop decreases-loop
 start c = c.before.before.before
 
-abbrev in-loop : tie.After-load invariant-loop decreases-loop → tie.In-loop invariant-loop decreases-loop
-in-loop c = c.before.before.before.before
+abbrev in-loop : tie.After-load invariant-loop decreases-loop → tie.In-loop-k invariant-loop decreases-loop
+in-loop c = c.before
 
 -- the power was found to be finite
-is_finite : (c : tie.Else1 invariant-loop decreases-loop) → finite c.before.before.root-entry.result.num ≡ true
-is_finite c = sym c.before.is_finite.ensures ∙ not-false c.before.is_finite.result c.if1.false
+is_finite : (c : tie.Else-not-is_finite invariant-loop decreases-loop) → finite c.root_entry-x.result.num ≡ true
+is_finite c = sym c.is_finite.ensures ∙ not-false c.is_finite.result c.if-not-is_finite.false
 
-abbrev stored : tie.After-numbers invariant-loop decreases-loop → tie.After-store invariant-loop decreases-loop
+abbrev stored : tie.After-numbers-1 invariant-loop decreases-loop → tie.After-store invariant-loop decreases-loop
 stored c = c.before.before.before.before.before
 
-abbrev found : tie.After-store invariant-loop decreases-loop → tie.Else1 invariant-loop decreases-loop
+abbrev found : tie.After-store invariant-loop decreases-loop → tie.Else-not-is_finite invariant-loop decreases-loop
 found c = c.before.before.before.before
 
-abbrev read : tie.Else1 invariant-loop decreases-loop → tie.After-load invariant-loop decreases-loop
+abbrev read : tie.Else-not-is_finite invariant-loop decreases-loop → tie.After-load invariant-loop decreases-loop
 read c = c.before.before.before
 
-again : tie.Need-loop-preserved invariant-loop decreases-loop
+again : tie.Need-loop-k-preserved invariant-loop decreases-loop
 again c =
     let put = stored c in
     let tested = found put in
     let h = in-loop (read tested) in
     let st = start h.before in (
-      omega (arith, h.loop-test.taken),
-      root-more st.pre.0 st.pre.1.1 h.before.loop.inv.1 h.loop-test.taken (read tested).load.ensures tested.before.before.root-entry.ensures (is_finite tested)
+      omega (arith, h.loop-k-test.true),
+      root-more st.requires.0 st.requires.1.1 h.loop-k.invariant.1 h.loop-k-test.true (read tested).load.ensures tested.root_entry-x.ensures (is_finite tested)
           put.store.ensures,
     )
 
 -- the next place fits
-bound : (c : tie.After-numbers invariant-loop decreases-loop) → (let h = in-loop (read (found (stored c))) in h.before.loop.k + 1 < 2 ^ 64)
+bound : (c : tie.After-numbers-1 invariant-loop decreases-loop) → (let h = in-loop (read (found (stored c))) in h.loop-k.k + 1 < 2 ^ 64)
 bound c =
     let h = in-loop (read (found (stored c))) in
     let st = start h.before in
-    omega (arith, h.loop-test.taken, st.pre.1.1.lies.room.insides, st.good)
+    omega (arith, h.loop-k-test.true, st.requires.1.1.lies.room.insides, st.well_formed)
 
-pub root-each-spec : {M : Type 1} → statement M
-root-each-spec =
+pub root_each_spec : {M : Type 1} → statement M
+root_each_spec =
     tie.close
     (tie.spec
     invariant-loop
     decreases-loop
-    (λ c. let st = c.before.before in omega (arith, st.requires.1.1.lies.room.insides, st.well-formed))
+    (λ c. let st = c in omega (arith, st.requires.1.1.lies.room.insides, st.well_formed))
     (λ c. (omega arith, halfway-start _ _ _))
     (λ c κs.
-    let h = c.before.before.before in
+    let h = c in
     let st = start h.before in
-    root-reads st.pre.0 st.pre.1.1 h.before.loop.invariant.1 h.loop-test.true)
+    root-reads st.requires.0 st.requires.1.1 h.loop-k.invariant.1 h.loop-k-test.true)
     (λ c κs. search rules)
     (λ c κs. search rules)
     -- the power isn't finite
-    (λ c. (in-loop c.before.before.before).before.loop.inv.1.long.kinds)
-    (λ c. (in-loop c.before.before.before).before.loop.inv.1.long.insides)
-    (λ c. (in-loop c.before.before.before).before.loop.inv.1.long.numbers)
+    (λ c. (in-loop c.before.before.before).loop-k.invariant.1.long.kinds)
+    (λ c. (in-loop c.before.before.before).loop-k.invariant.1.long.insides)
+    (λ c. (in-loop c.before.before.before).loop-k.invariant.1.long.numbers)
     (λ c.
     let y = c.before.before.before in
     let h = in-loop y in
     let st = start h.before in (
-      halfway-kept st.args.n h.before.loop.inv.1 h.before.loop.inv.0,
+      halfway-kept st.args.n h.loop-k.invariant.1 h.loop-k.invariant.0,
       λ s r.
-          root-stops st.pre.0 r h.before.loop.inv.1 h.loop-test.taken y.load.ensures c.before.before.root-entry.ensures
-          (sym c.before.is_finite.ensures ∙ not-true c.before.is_finite.result c.if1.true),
+          root-stops st.requires.0 r h.loop-k.invariant.1 h.loop-k-test.true y.load.ensures c.root_entry-x.ensures
+          (sym c.is_finite.ensures ∙ not-true c.is_finite.result c.if-not-is_finite.true),
     ))
     -- it is, and the root is written
     (λ c κs.
     let tested = c.before.before.before in
     let h = in-loop (read tested) in
     let st = start h.before in
-    root-writes st.pre.0 st.pre.1.1 h.before.loop.inv.1 h.loop-test.taken (read tested).load.ensures tested.before.before.root-entry.ensures (is_finite tested))
+    root-writes st.requires.0 st.requires.1.1 h.loop-k.invariant.1 h.loop-k-test.true (read tested).load.ensures tested.root_entry-x.ensures (is_finite tested))
     (λ c. omega (arith, bound c))
-    (λ c. let h = in-loop (read (found (stored c))) in omega (arith, h.loop-test.taken))
+    (λ c. let h = in-loop (read (found (stored c))) in omega (arith, h.loop-k-test.true))
     again
     -- no cell is left
-    (λ c. c.before.loop.invariant.1.long.kinds)
-    (λ c. c.before.loop.invariant.1.long.insides)
-    (λ c. c.before.loop.invariant.1.long.numbers)
+    (λ c. c.loop-k.invariant.1.long.kinds)
+    (λ c. c.loop-k.invariant.1.long.insides)
+    (λ c. c.loop-k.invariant.1.long.numbers)
     (λ c.
     let l = c.before in
     let st = start l in
-    (halfway-kept st.args.n l.loop.invariant.1 l.loop.invariant.0, λ s r. root-done st.pre.0 r l.loop.invariant.1 c.loop-test.false)))
+    (halfway-kept st.args.n l.loop-k.invariant.1 l.loop-k.invariant.0, λ s r. root-done st.requires.0 r l.loop-k.invariant.1 c.loop-k-test.false)))

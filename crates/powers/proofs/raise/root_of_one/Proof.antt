@@ -4,10 +4,10 @@ use mathlib.Core.Path.{sym, ◌∙◌}
 use Rattle.powers.proofs.raise.root_of_one.Statement.{statement}
 use Rattle.powers.proofs.raise.root_of_one.Tie as tie
 
-pub root-of-one-spec : {M : Type 1} → statement M
-root-of-one-spec =
+pub root_of_one_spec : {M : Type 1} → statement M
+root_of_one_spec =
     tie.close
     (tie.spec
     (λ c κs. search rules)
-    (λ c. rw (sym c.before.is_whole.ensures ∙ c.if1.true))
-    (λ c. rw (sym c.before.before.is_whole.ensures ∙ c.before.if1.false)))
+    (λ c. rw (sym c.is_whole.ensures ∙ c.if-is_whole.true))
+    (λ c. rw (sym c.is_whole.ensures ∙ c.if-is_whole.false)))

@@ -5,10 +5,10 @@ use native.Mathlib.Omega.{arith}
 use Rattle.powers.proofs.raise.turn_place.Statement.{statement}
 use Rattle.powers.proofs.raise.turn_place.Tie as tie
 
-pub turn-place-spec : {M : Type 1} → statement M
-turn-place-spec =
+pub turn_place_spec : {M : Type 1} → statement M
+turn_place_spec =
     tie.close
     (tie.spec
-    (λ c. rw (eq-eqb _ _ c.if1.true))
+    (λ c. rw (eq-eqb _ _ c.if-left-eq1.true))
     (λ c. search rules)
-    (λ c. rw (ne_eqb _ _ c.if1.false)))
+    (λ c. rw (ne_eqb _ _ c.if-left-eq1.false)))

@@ -17,63 +17,63 @@ use Rattle.powers.proofs.raise.Pairs.{counted-agrees, counted_is, counted-refuse
 use Rattle.powers.proofs.raise.whole_power.Statement.{statement}
 use Rattle.powers.proofs.raise.whole_power.Tie as tie
 
-abbrev start : tie.After-small-whole → tie.Start
+abbrev start : tie.After-small_whole → tie.Start
 start c = c.before.before.before
 
 abbrev B : tie.Start → Book
 B c = book c.args.kinds.now c.args.insides.now c.args.numbers.now
 
 -- which whole number it is
-which : (c : tie.After-small-whole) (w : SmallWhole) → c.small-whole.result ≡ w → small_whole (start c).args.e ≡ w
-which c w h = sym c.small-whole.ensures ∙ h
+which : (c : tie.After-small_whole) (w : SmallWhole) → c.small_whole.result ≡ w → small_whole (start c).args.e ≡ w
+which c w h = sym c.small_whole.ensures ∙ h
 
-pub whole-power-spec : {M : Type 1} → statement M
-whole-power-spec =
+pub whole_power_spec : {M : Type 1} → statement M
+whole_power_spec =
     tie.close
     (tie.spec
     (λ c κs. search rules)
     (λ c. search rules)
     -- 0
-    (λ c κs. let st = start c.before.before.before.before.before.before.before in room-result st.args.w st.pre.1)
+    (λ c κs. let st = start c.before.before.before.before.before.before.before in room-result st.args.w st.requires.1)
     (λ c κs. search rules)
     (λ c. search rules)
     (λ c. search rules)
     (λ c. search rules)
     (λ c.
-    let done = c.before.before.before.before.before.before in
-    let test = done.before.before.before.before in
-    let k = test.before.before in
-    let is = which k.before.before _ k.k.given.1 in
+    let done = c in
+    let test = done in
+    let k = test in
+    let is = which k.before.before.before.before.before.before.before.before.before.before.before.before.before.before _ k.in-Is.is in
     let told = c.counted.ensures in (
-      kept_result done.constant-sum.ensures.0,
+      kept_result done.constant_sum.ensures.0,
       (
-        λ s ls. counted-agrees _ _ _ _ told (rw (is, whole-zero s _ test.if1.true) done.constant-sum.ensures.1),
-        λ s ls. counted_is told (sym (ap (whole_pairs s) is ∙ whole-pairs-zero s _ test.if1.true)),
+        λ s ls. counted-agrees _ _ _ _ told (rw (is, whole-zero s _ test.if-k-eq0.true) done.constant_sum.ensures.1),
+        λ s ls. counted_is told (sym (ap (whole_pairs s) is ∙ whole-pairs-zero s _ test.if-k-eq0.true)),
       ),
     ))
     (λ c. search rules)
     (λ c κs.
-    let test = c.before.before.before in
-    let k = test.before.before in
-    let st = start k.before.before in
-    let most = ((small-whole st.args.e _).0 (which k.before.before _ k.k.given.1)).0 in
-    (omega (arith, most, test.if1.false), st.pre.0, st.pre.1))
+    let test = c in
+    let k = test in
+    let st = start k.before.before.before.before.before.before.before in
+    let most = ((small-whole st.args.e _).0 (which k.before.before.before.before.before.before.before _ k.in-Is.is)).0 in
+    (omega (arith, most, test.if-k-eq0.false), st.requires.0, st.requires.1))
     (λ c. search rules)
     -- above 64
-    (λ c κs. let held = (start c.before.before.before.before).requires.0.held in ((held.0, shape_of held.1), (held.0, shape_of held.1)))
+    (λ c κs. let held = (start c.before.before).requires.0.held in ((held.0, shape_of held.1), (held.0, shape_of held.1)))
     (λ c κs. search rules)
     (λ c. search rules)
     (λ c. search rules)
     (λ c.
-    let test = c.before in
-    let asked = test.before in
-    let n = asked.before.before.before in
-    let small = n.before.before in
-    let told = c.counted2.ensures in (
+    let test = c in
+    let asked = test in
+    let n = asked in
+    let small = n.before.before.before.before.before in
+    let told = c.counted-then-not-can_mul.ensures in (
       kept_refl (B (start small)) _ _,
       (
         λ s ls. counted-agrees _ _ _ _ told
-            (rw (which small _ n.enum_told.given.1, whole-not s (sym (asked.can-mul.ensures s s (shape_of ls) (shape_of ls)) ∙ not-true _ test.if2.true)) refl),
+            (rw (which small _ n.in-Other.is, whole-not s (sym (asked.can_mul.ensures s s (shape_of ls) (shape_of ls)) ∙ test.if-not-can_mul.true)) refl),
         λ s ls. counted-refused told,
       ),
     ))
@@ -83,29 +83,29 @@ whole-power-spec =
     (λ c. search rules)
     (λ c. search rules)
     (λ c.
-    let done = c.before.before.before.before.before in
-    let test = done.before.before.before.before in
-    let k = test.before.before in
-    let is = which k.before.before _ k.k.given.1 in (
+    let done = c in
+    let test = done in
+    let k = test in
+    let is = which k.before.before.before.before.before.before.before.before.before.before.before.before.before _ k.in-Is.is in (
       done.raise.ensures.0,
       (
-        λ s ls. rw (is, whole-some s _ test.if1.false) (done.raise.ensures.1.0 s ls),
-        λ s ls. rw (is, whole-pairs-some s _ test.if1.false) (done.raise.ensures.1.1 s ls),
+        λ s ls. rw (is, whole-some s _ test.if-k-eq0.false) (done.raise.ensures.1.0 s ls),
+        λ s ls. rw (is, whole-pairs-some s _ test.if-k-eq0.false) (done.raise.ensures.1.1 s ls),
       ),
     ))
     -- above 64
     (λ c. search rules)
     (λ c. search rules)
     (λ c.
-    let test = c.before in
-    let asked = test.before in
-    let n = asked.before.before.before in
-    let small = n.before.before in
-    let told = c.counted3.ensures in (
+    let test = c in
+    let asked = test in
+    let n = asked in
+    let small = n.before.before.before.before.before in
+    let told = c.counted-in-Other.ensures in (
       kept_refl (B (start small)) _ _,
       (
         λ s ls. counted-agrees _ _ _ _ told
-            (rw (which small _ n.enum_told.given.1, whole-big s (sym (asked.can-mul.ensures s s (shape_of ls) (shape_of ls)) ∙ not-false _ test.if2.false)) refl),
+            (rw (which small _ n.in-Other.is, whole-big s (sym (asked.can_mul.ensures s s (shape_of ls) (shape_of ls)) ∙ test.if-not-can_mul.false)) refl),
         λ s ls. counted-refused told,
       ),
     )))

@@ -32,15 +32,15 @@ at-measure t = and 1 stretch-steps-kinds.ps (is 1 stretch-steps-kinds.ps μ t) s
 abbrev below : ℕ → In 1 stretch-steps-kinds.ps
 below t = and 1 stretch-steps-kinds.ps (falls 1 stretch-steps-kinds.ps ◌<◌ μ t) stretch-steps.Pre
 
-abbrev Inv : stretch-steps-lts.invariant-loop
+abbrev Inv : stretch-steps-lts.invariant-loop-at
 Inv list from to left at₀ steps₀ at steps =
     ((b : Bool) × Stretch list at to b left) × (min most_steps (cost_of (forest list from to)) ≡ min most_steps (steps + cost_of (forest list at to))) × (steps ≤ most_steps)
 
-abbrev decreases-loop : stretch-steps-lts.decreases-loop
+abbrev decreases-loop : stretch-steps-lts.decreases-loop-at
 decreases-loop list from to left at₀ steps₀ at steps = to - at
 
-pub +stretch-steps-spec : {M : Type 1} → statement M
-+stretch-steps-spec =
+pub +stretch_steps_spec : {M : Type 1} → statement M
++stretch_steps_spec =
     close μ
     (λ t.
     stretch-steps-lts.spec (
@@ -59,51 +59,51 @@ pub +stretch-steps-spec : {M : Type 1} → statement M
     stretch-steps.Post
     Inv
     decreases-loop
-    (λ c. (c.before.requires.1, omega arith, omega arith))
-    (λ c κs. omega (arith, c.before.loop.invariant.0.1.room))
-    (λ c. omega (arith, c.before.before.loop.invariant.0.1.few))
+    (λ c. (c.requires.1, omega arith, omega arith))
+    (λ c κs. omega (arith, c.loop-at.invariant.0.1.room))
+    (λ c. omega (arith, c.loop-at.invariant.0.1.few))
     (λ c. omega arith)
     (λ c.
-    let l = c.before.before.before.loop in
-    let a = c.before.before.before.before.before.args in
-    let r = c.before.record-at in
+    let l = c.loop-at in
+    let a = c.args in
+    let r = c.record_at-r in
     omega (arith, l.invariant.0.1.few, turn-next a.list.now l.at a.to l.invariant.0.0 a.left l.invariant.0.1 (omega arith) r.result r.ensures.0))
     (λ c κs.
-    let l = c.before.before.before.loop in
-    let a = c.before.before.before.before.before.args in
-    let r = c.before.record-at in
+    let l = c.loop-at in
+    let a = c.args in
+    let r = c.record_at-r in
     (is_a r.result Modifier, a.left - 1, turn_inside a.list.now l.at a.to l.invariant.0.0 a.left l.invariant.0.1 (omega arith) r.result r.ensures.0))
-    (λ c. omega (arith, c.before.before.before.before.loop.invariant.0.1.few))
+    (λ c. omega (arith, c.loop-at.invariant.0.1.few))
     (λ c.
-    let l = c.before.before.before.before.loop in
-    let a = c.before.before.before.before.before.before.args in
-    let r = c.before.before.record-at in
+    let l = c.loop-at in
+    let a = c.args in
+    let r = c.record_at-r in
     turn-levels a.list.now l.at a.to l.invariant.0.0 a.left l.invariant.0.1 (omega arith) r.result r.ensures.0)
     (λ c κs.
-    let l = c.before.before.before.before.loop in
-    let a = c.before.before.before.before.before.before.args in
-    let r = c.before.before.record-at in
+    let l = c.loop-at in
+    let a = c.args in
+    let r = c.record_at-r in
     let k = turn-levels a.list.now l.at a.to l.invariant.0.0 a.left l.invariant.0.1 (omega arith) r.result r.ensures.0 in
     let i = turn_inside a.list.now l.at a.to l.invariant.0.0 a.left l.invariant.0.1 (omega arith) r.result r.ensures.0 in
-    (omega (arith, c.before.before.before.before.before.before.requires.0), (is_a r.result Modifier, i)))
+    (omega (arith, c.requires.0), (is_a r.result Modifier, i)))
     (λ c κs.
-    let l = c.before.before.before.before.before.loop in
-    let a = c.before.before.before.before.before.before.before.args in
-    let r = c.before.before.before.record-at in
-    omega (arith, c.before.inside-times.ensures, inside-twice r.result (forest a.list.now (l.at + 1) (l.at + 1 + r.result.inside))))
+    let l = c.loop-at in
+    let a = c.args in
+    let r = c.record_at-r in
+    omega (arith, c.inside_times-times.ensures, inside-twice r.result (forest a.list.now (l.at + 1) (l.at + 1 + r.result.inside))))
     (λ c κs. tt)
     (λ c. omega arith)
     (λ c.
-    let l = c.before.before.before.before.before.before.before.loop in
-    let a = c.before.before.before.before.before.before.before.before.before.args in
-    let r = c.before.before.before.before.before.record-at in (
+    let l = c.loop-at in
+    let a = c.args in
+    let r = c.record_at-r in (
       (l.invariant.0.0, turn-after a.list.now l.at a.to l.invariant.0.0 a.left l.invariant.0.1 (omega arith) r.result r.ensures.0),
       turn-steps a.list.now l.at a.to l.invariant.0.0 a.left l.invariant.0.1 (omega arith) r.result r.ensures.0 (cost_of (forest a.list.now a.from a.to))
-          l.steps c.before.before.before.inside-times.result c.before.before.stretch-steps.result c.before.own-steps.result c.capped-sum.result
-          c.before.before.before.inside-times.ensures c.before.before.stretch-steps.ensures c.before.own-steps.ensures c.capped-sum.ensures l.invariant.1,
-      omega (arith, c.capped-sum.ensures),
+          l.steps c.inside_times-times.result c.stretch_steps-inner.result c.own_steps.result c.capped_sum-steps.result
+          c.inside_times-times.ensures c.stretch_steps-inner.ensures c.own_steps.ensures c.capped_sum-steps.ensures l.invariant.1,
+      omega (arith, c.capped_sum-steps.ensures),
     ))
     (λ c.
-    let l = c.before.loop in
-    let a = c.before.before.before.args in
+    let l = c.loop-at in
+    let a = c.args in
     omega (arith, l.invariant.1, l.invariant.2, cost-none a.list.now l.at a.to (omega arith))))

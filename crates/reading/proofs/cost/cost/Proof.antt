@@ -6,16 +6,16 @@ use Rattle.reading.proofs.cost.Laws.{list-refused, list_steps, list-stretch}
 use Rattle.reading.proofs.cost.cost.Statement.{statement}
 use Rattle.reading.proofs.cost.cost.Tie as tie
 
-pub cost-spec : {M : Type 1} → statement M
-cost-spec =
+pub cost_spec : {M : Type 1} → statement M
+cost_spec =
     tie.close
     (tie.spec
     (λ c κs. search rules)
     (λ c. search rules)
     (λ c. search rules)
     (λ c κs. search rules)
-    (λ c κs. (false, list-stretch _ (sym c.before.before.before.check.ensures.0 ∙ c.before.enum_told.given.1) c.count-records.ensures))
-    (λ c. list-refused _ _ (sym c.before.before.before.check.ensures.0 ∙ c.before.q.given.1))
+    (λ c κs. (false, list-stretch _ (sym c.check.ensures.0 ∙ c.in-Good.is) c.count_records-n.ensures))
+    (λ c. list-refused _ _ (sym c.check.ensures.0 ∙ c.in-Refused.is))
     (λ c.
-    let v = sym c.before.before.before.before.check.ensures.0 ∙ c.before.before.enum_told.given.1 in
-    list_steps _ v c.before.count-records.ensures c.stretch-steps.ensures))
+    let v = sym c.check.ensures.0 ∙ c.in-Good.is in
+    list_steps _ v c.count_records-n.ensures c.stretch_steps.ensures))

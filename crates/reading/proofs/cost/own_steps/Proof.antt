@@ -5,13 +5,13 @@ use Rattle.reading.proofs.cost.Laws.{own-never, own-once, own-twice}
 use Rattle.reading.proofs.cost.own_steps.Statement.{statement}
 use Rattle.reading.proofs.cost.own_steps.Tie as tie
 
-pub own-steps-spec : {M : Type 1} → statement M
-own-steps-spec =
+pub own_steps_spec : {M : Type 1} → statement M
+own_steps_spec =
     tie.close
     (tie.spec
-    (λ c. own-never _ _ c.if1.true)
+    (λ c. own-never _ _ c.if-times-eq0.true)
     (λ c κs. search rules)
-    (λ c. own-once _ _ c.before.if2.true c.capped-sum.ensures)
+    (λ c. own-once _ _ c.if-times-eq1.true c.capped_sum.ensures)
     (λ c κs. search rules)
     (λ c κs. search rules)
-    (λ c. own-twice _ _ (omega (arith, c.before.before.before.if1.false, c.before.before.if2.false)) c.before.capped-sum2.ensures c.capped-sum3.ensures))
+    (λ c. own-twice _ _ (omega (arith, c.if-times-eq0.false, c.if-times-eq1.false)) c.capped_sum-2.ensures c.capped_sum-3.ensures))

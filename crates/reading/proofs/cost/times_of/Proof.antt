@@ -3,8 +3,8 @@ use borrow.Author.Rules.{rules}
 use Rattle.reading.proofs.cost.times_of.Statement.{statement}
 use Rattle.reading.proofs.cost.times_of.Tie as tie
 
-pub times-of-spec : {M : Type 1} → statement M
-times-of-spec =
+pub times_of_spec : {M : Type 1} → statement M
+times_of_spec =
     tie.close
     (tie.spec
     (λ c. search rules)
@@ -21,11 +21,11 @@ times-of-spec =
     (λ c κs. search rules)
     (λ c. search rules)
     (λ c. search rules)
-    (λ c. rw c.before.enum_told.given.1 c.where-asked.ensures)
-    (λ c. rw c.before.enum-told2.given.1 c.where-asked2.ensures)
-    (λ c. rw c.before.enum-told3.given.1 c.where-asked3.ensures)
-    (λ c. rw c.before.enum-told4.given.1 c.where-asked4.ensures)
-    (λ c. rw c.before.enum-told5.given.1 c.where-asked5.ensures)
-    (λ c. rw c.before.enum-told6.given.1 c.where-asked6.ensures)
+    (λ c. rw c.in-Dip.is c.where_asked.ensures)
+    (λ c. rw c.in-Gap.is c.where_asked-in-Gap.ensures)
+    (λ c. rw c.in-On.is c.where_asked-in-On.ensures)
+    (λ c. rw c.in-By.is c.where_asked-in-By.ensures)
+    (λ c. rw c.in-Both.is c.where_asked-in-Both.ensures)
+    (λ c. rw c.in-Bracket.is c.where_asked-in-Bracket.ensures)
     (λ c. search rules)
     (λ c. search rules))

@@ -5,16 +5,16 @@ use Rattle.reading.proofs.env.begin_with_x.Statement.{statement}
 use Rattle.reading.proofs.env.begin_with_x.Tie as tie
 
 store-requires : tie.Need-store-requires
-store-requires c κs = (c.before.before.before.before.before.before.requires.cells, x-plain)
+store-requires c κs = (c.requires.cells, x-plain)
 
 returns : tie.Need-returns
 returns c top reaches =
-    let after_store = c.before.before.before.before.before in
-    let start = after_store.before.before.before.before.before.before.before in
+    let after_store = c in
+    let start = after_store in
     x-ready start.args.sizes.now top reaches after_store.store.ensures
 
-pub begin-with-x-spec : {M : Type 1} → statement M
-begin-with-x-spec =
+pub begin_with_x_spec : {M : Type 1} → statement M
+begin_with_x_spec =
     tie.close
     (tie.spec
     store-requires

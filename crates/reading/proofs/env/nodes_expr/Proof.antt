@@ -6,46 +6,46 @@ use borrow.Author.Rules.{rules}
 use Rattle.reading.proofs.env.nodes_expr.Statement.{statement}
 use Rattle.reading.proofs.env.nodes_expr.Tie as tie
 
-walk-requires : tie.Need-walk-requires
+walk-requires : tie.Need-walk-ran-requires
 walk-requires c κs =
-    let after-count-records = c.before.before.before.before in
-    let after-begin-with-x = after-count-records.before.before.before.before.before.before.before.before in
-    let s = after-begin-with-x.before.before.before.before.before.before.before.before.before in
-    let x = after-begin-with-x.begin-with-x.ensures s.args.top s.requires.1 in
-    (x.0, (false, keeps (all-records s.args.list.now after-count-records.count-records.ensures s.requires.0), λ e. absurd (never e)))
+    let after-count-records = c in
+    let after-begin-with-x = after-count-records in
+    let s = after-begin-with-x in
+    let x = after-begin-with-x.begin_with_x-env.ensures s.args.top s.requires.1 in
+    (x.0, (false, keeps (all-records s.args.list.now after-count-records.count_records-n.ensures s.requires.0), λ e. absurd (never e)))
 
-last-of-requires : tie.Need-last-of-requires
+last-of-requires : tie.Need-last_of-requires
 last-of-requires c κs =
-    let after-ran2 = c.before.before.before.before.before in
-    let after-walk = after-ran2.before.before.before.before.before.before.before.before.before in
-    let after-count-records = after-walk.before.before.before.before.before in
-    let after-begin-with-x = after-count-records.before.before.before.before.before.before.before.before in
-    let s = after-begin-with-x.before.before.before.before.before.before.before.before.before in
-    let x = after-begin-with-x.begin-with-x.ensures s.args.top s.requires.1 in
-    (s.args.top, read-ready s.args.list.now after-count-records.count-records.ensures x.1 (does-told after-ran2.ran2.given.1 after-walk.walk.ensures) x.0)
+    let after-ran2 = c in
+    let after-walk = after-ran2 in
+    let after-count-records = after-walk in
+    let after-begin-with-x = after-count-records in
+    let s = after-begin-with-x in
+    let x = after-begin-with-x.begin_with_x-env.ensures s.args.top s.requires.1 in
+    (s.args.top, read-ready s.args.list.now after-count-records.count_records-n.ensures x.1 (does-told after-ran2.in-Went.is after-walk.walk-ran.ensures) x.0)
 
-returns : tie.Need-returns
+returns : tie.Need-returns-in-Stopped
 returns c =
-    let after-walk = c.before.before.before.before.before.before.before.before.before.before in
-    let after-count-records = after-walk.before.before.before.before.before in
-    let after-begin-with-x = after-count-records.before.before.before.before.before.before.before.before in
-    let s = after-begin-with-x.before.before.before.before.before.before.before.before.before in
-    let x = after-begin-with-x.begin-with-x.ensures s.args.top s.requires.1 in
-    read-stop s.args.list.now after-count-records.count-records.ensures x.1 _ (does-told c.before.ran.given.1 after-walk.walk.ensures)
+    let after-walk = c in
+    let after-count-records = after-walk in
+    let after-begin-with-x = after-count-records in
+    let s = after-begin-with-x in
+    let x = after-begin-with-x.begin_with_x-env.ensures s.args.top s.requires.1 in
+    read-stop s.args.list.now after-count-records.count_records-n.ensures x.1 _ (does-told c.in-Stopped.is after-walk.walk-ran.ensures)
 
-returns-2 : tie.Need-returns-2
+returns-2 : tie.Need-returns-in-Went
 returns-2 c =
-    let after-ran2 = c.before.before.before.before.before.before in
-    let after-walk = after-ran2.before.before.before.before.before.before.before.before.before in
-    let after-count-records = after-walk.before.before.before.before.before in
-    let after-begin-with-x = after-count-records.before.before.before.before.before.before.before.before in
-    let s = after-begin-with-x.before.before.before.before.before.before.before.before.before in
-    let x = after-begin-with-x.begin-with-x.ensures s.args.top s.requires.1 in
-    read-went s.args.list.now after-count-records.count-records.ensures x.1 (does-told after-ran2.ran2.given.1 after-walk.walk.ensures) c.last_of.result _
+    let after-ran2 = c in
+    let after-walk = after-ran2 in
+    let after-count-records = after-walk in
+    let after-begin-with-x = after-count-records in
+    let s = after-begin-with-x in
+    let x = after-begin-with-x.begin_with_x-env.ensures s.args.top s.requires.1 in
+    read-went s.args.list.now after-count-records.count_records-n.ensures x.1 (does-told after-ran2.in-Went.is after-walk.walk-ran.ensures) c.last_of.result _
     c.last_of.ensures
 
-pub nodes-expr-spec : {M : Type 1} → statement M
-nodes-expr-spec =
+pub nodes_expr_spec : {M : Type 1} → statement M
+nodes_expr_spec =
     tie.close
     (tie.spec
     (λ c κs. search rules)

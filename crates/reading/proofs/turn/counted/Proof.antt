@@ -10,11 +10,11 @@ use borrow.Author.Rules.{rules}
 use Rattle.reading.proofs.turn.counted.Statement.{statement}
 use Rattle.reading.proofs.turn.counted.Tie as tie
 
-returns : tie.Need-returns
-returns c = counted-enough (handled_by c.before.args.r (kind_of c.before.args.r.kind)) c.if1.true
+returns : tie.Need-returns-then-handled-eq-HANDLED_NEEDED
+returns c = counted-enough (handled_by c.args.r (kind_of c.args.r.kind)) c.if-handled-eq-HANDLED_NEEDED.true
 
-returns-2 : tie.Need-returns-2
-returns-2 c = c.count.ensures ∙ ap (λ (b : Bool). cond b (min 2 (suc c.before.before.before.args.handled)) c.before.before.before.args.handled) c.before.counts.ensures
+returns-2 : tie.Need-returns
+returns-2 c = c.count.ensures ∙ ap (λ (b : Bool). cond b (min 2 (suc c.args.handled)) c.args.handled) c.counts.ensures
 
 pub counted_spec : {M : Type 1} → statement M
 counted_spec = tie.close (tie.spec returns (λ c κs. search rules) (λ c κs. search rules) returns-2)

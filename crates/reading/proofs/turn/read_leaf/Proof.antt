@@ -8,15 +8,15 @@ use Rattle.reading.proofs.turn.read_leaf.Tie as tie
 
 returns : tie.Need-returns
 returns c =
-    let after-leaf = c.before.before.before.before.before.before.before.before in
-    let x = after-leaf.before.before.before.before.before.before.before.before.args in
-    rw c.finish.ensures (leaf-after x.env after-leaf.leaf.result x.at x.r (kind_of x.r.kind) (1152 - x.v) (after-leaf.leaf.ensures x.at))
+    let after-leaf = c in
+    let x = after-leaf.args in
+    rw c.finish.ensures (leaf-after x.env after-leaf.leaf-stepped.result x.at x.r (kind_of x.r.kind) (1152 - x.v) (after-leaf.leaf-stepped.ensures x.at))
 
-pub read-leaf-spec : {M : Type 1} → statement M
-read-leaf-spec =
+pub read_leaf_spec : {M : Type 1} → statement M
+read_leaf_spec =
     tie.close
     (tie.spec
-    (λ c κs. prepared c.before.before.before.before.before.before.before.requires)
+    (λ c κs. prepared c.requires)
     (λ c κs. search rules)
     (λ c. search rules)
     (λ c. search rules)

@@ -8,13 +8,13 @@ use borrow.Author.Rules.{rules}
 use Rattle.reading.proofs.turn.refuse.Statement.{statement}
 use Rattle.reading.proofs.turn.refuse.Tie as tie
 
-returns : tie.Need-returns
+returns : tie.Need-returns-in-Went
 returns c ss k =
-    let halted = sym c.enum_told.given.1 ∙ c.before.before.halt.ensures ss k in
+    let halted = sym c.in-Went.is ∙ c.halt.ensures ss k in
     absurd (let z : ◌≡◌ {A = ℕ} 0 1 = cc in omega arith)
 
-returns-2 : tie.Need-returns-2
-returns-2 c ss k = ap (ran_of c.before.before.before.before.before.before.before.args.at 0 false 0) (sym c.before.r.given.1 ∙ c.before.before.before.halt.ensures ss k)
+returns-2 : tie.Need-returns-in-Stopped
+returns-2 c ss k = ap (ran_of c.args.at 0 false 0) (sym c.in-Stopped.is ∙ c.halt.ensures ss k)
 
-pub refuse-spec : {M : Type 1} → statement M
-refuse-spec = tie.close (tie.spec (λ c κs. search rules) (λ c. search rules) (λ c. search rules) returns returns-2)
+pub refuse_spec : {M : Type 1} → statement M
+refuse_spec = tie.close (tie.spec (λ c κs. search rules) (λ c. search rules) (λ c. search rules) returns returns-2)

@@ -196,30 +196,30 @@ walk-claims t = (
 abbrev with-bodies-claims : ℕ → with-bodies-lts.Claims
 with-bodies-claims t = (plan-of-reads.Asked, plan-of-reads.Learnt, begin-reads.Asked, begin-reads.Learnt, around-below t, around.Post)
 
-around-sub-low : (t : ℕ) → around-lts.Need-overflow-sub-low (around-claims t) (around-at t) around.Post
+around-sub-low : (t : ℕ) → around-lts.Need-overflow_sub-low (around-claims t) (around-at t) around.Post
 around-sub-low t c =
     let start = c.before.before.before.before in
     omega (arith, start.requires.1.0.few)
 
-around-walk-requires : (t : ℕ) → around-lts.Need-walk-requires (around-claims t) (around-at t) around.Post
+around-walk-requires : (t : ℕ) → around-lts.Need-walk-ran-requires (around-claims t) (around-at t) around.Post
 around-walk-requires t c κs =
     let start = c.before.before.before.before.before.before.before.before in
     (omega (arith, start.requires.0), (start.requires.1.0.ready, (true, start.requires.1.1.first, λ e. start.requires.1.1.first_one)))
 
-around-enum-known-ran : (t : ℕ) → around-lts.Need-enum-known-ran (around-claims t) (around-at t) around.Post
+around-enum-known-ran : (t : ℕ) → around-lts.Need-enum_known-ran (around-claims t) (around-at t) around.Post
 around-enum-known-ran t c = search rules
 
-around-enum-known-ran-2 : (t : ℕ) → around-lts.Need-enum-known-ran-2 (around-claims t) (around-at t) around.Post
+around-enum-known-ran-2 : (t : ℕ) → around-lts.Need-enum_known-ran-in-Went-1 (around-claims t) (around-at t) around.Post
 around-enum-known-ran-2 t c = search rules
 
-around-returns : (t : ℕ) → around-lts.Need-returns (around-claims t) (around-at t) around.Post
+around-returns : (t : ℕ) → around-lts.Need-returns-in-Stopped (around-claims t) (around-at t) around.Post
 around-returns t c =
     let after-walk = c.before.before.before.before.before.before.before.before.before.before in
     let start = after-walk.before.before.before.before.before.before.before.before.before in
     let args = start.args in
     round-stop args.list.now args.p start.requires.1.0 (does-told c.before.ran.given.1 after-walk.walk.ensures)
 
-around-put-back-requires : (t : ℕ) → around-lts.Need-put-back-requires (around-claims t) (around-at t) around.Post
+around-put-back-requires : (t : ℕ) → around-lts.Need-put_back-back-requires (around-claims t) (around-at t) around.Post
 around-put-back-requires t c κs =
     let after-ran = c.before.before.before.before.before in
     let after-walk = after-ran.before.before.before.before.before.before.before.before.before in
@@ -229,7 +229,7 @@ around-put-back-requires t c κs =
     let held = round-held args.list.now args.p start.requires.1.0 does in
     (round-ready args.list.now args.p start.requires.1.0 does, held.0, held.1)
 
-around-walk-requires-2 : (t : ℕ) → around-lts.Need-walk-requires-2 (around-claims t) (around-at t) around.Post
+around-walk-requires-2 : (t : ℕ) → around-lts.Need-walk-requires (around-claims t) (around-at t) around.Post
 around-walk-requires-2 t c κs =
     let after-put-back = c.before.before.before.before.before.before.before.before.before.before.before in
     let after-ran = after-put-back.before.before.before.before.before.before in
@@ -244,7 +244,7 @@ around-walk-requires-2 t c κs =
       ),
     )
 
-around-returns-2 : (t : ℕ) → around-lts.Need-returns-2 (around-claims t) (around-at t) around.Post
+around-returns-2 : (t : ℕ) → around-lts.Need-returns-in-Went (around-claims t) (around-at t) around.Post
 around-returns-2 t c =
     let after-walk2 = c.before.before.before.before.before.before.before in
     let after-put-back = after-walk2.before.before.before.before.before.before.before.before.before.before.before.before in
@@ -254,43 +254,43 @@ around-returns-2 t c =
     let args = start.args in
     round-end args.list.now args.p start.requires.1.0 (does-told after-ran.ran2.given.1 after-walk.walk.ensures) after-put-back.put_back.ensures after-walk2.walk2.ensures
 
-fork-add-from : (t : ℕ) → fork-lts.Need-overflow-add-from (fork-claims t) (fork_at t) fork.Post
+fork-add-from : (t : ℕ) → fork-lts.Need-overflow_add-from (fork-claims t) (fork_at t) fork.Post
 fork-add-from t c =
     let start = c.before.before.before.before in
     omega (arith, start.requires.1.1.few)
 
-fork-cast-to : (t : ℕ) → fork-lts.Need-overflow-cast-to (fork-claims t) (fork_at t) fork.Post
+fork-cast-to : (t : ℕ) → fork-lts.Need-overflow_cast-to (fork-claims t) (fork_at t) fork.Post
 fork-cast-to t c = omega arith
 
-fork-add-to : (t : ℕ) → fork-lts.Need-overflow-add-to (fork-claims t) (fork_at t) fork.Post
+fork-add-to : (t : ℕ) → fork-lts.Need-overflow_add-to (fork-claims t) (fork_at t) fork.Post
 fork-add-to t c =
     let start = c.before.before.before.before.before in
     omega (arith, start.requires.1.1.few)
 
-fork-most-args-requires : (t : ℕ) → fork-lts.Need-most-args-requires (fork-claims t) (fork_at t) fork.Post
+fork-most-args-requires : (t : ℕ) → fork-lts.Need-most_args-k-requires (fork-claims t) (fork_at t) fork.Post
 fork-most-args-requires t c κs =
     let start = c.before.before.before.before.before in
     (true, _, start.requires.1.1)
 
-fork-hold-requires : (t : ℕ) → fork-lts.Need-hold-requires (fork-claims t) (fork_at t) fork.Post
+fork-hold-requires : (t : ℕ) → fork-lts.Need-hold-begun-requires (fork-claims t) (fork_at t) fork.Post
 fork-hold-requires t c κs =
     let start = c.before.before.before.before.before.before.before.before.before.before in
     start.requires.1.0
 
-fork-enum-known-begun : (t : ℕ) → fork-lts.Need-enum-known-begun (fork-claims t) (fork_at t) fork.Post
+fork-enum-known-begun : (t : ℕ) → fork-lts.Need-enum_known-begun (fork-claims t) (fork_at t) fork.Post
 fork-enum-known-begun t c = search rules
 
-fork-enum-known-begun-2 : (t : ℕ) → fork-lts.Need-enum-known-begun-2 (fork-claims t) (fork_at t) fork.Post
+fork-enum-known-begun-2 : (t : ℕ) → fork-lts.Need-enum_known-begun-in-Held-1 (fork-claims t) (fork_at t) fork.Post
 fork-enum-known-begun-2 t c = search rules
 
-fork-sub-fork-each : (t : ℕ) → fork-lts.Need-overflow-sub-fork-each (fork-claims t) (fork_at t) fork.Post
+fork-sub-fork-each : (t : ℕ) → fork-lts.Need-overflow_sub-v (fork-claims t) (fork_at t) fork.Post
 fork-sub-fork-each t c =
     let after-begun2 = c.before.before.before.before.before in
     let after-hold = after-begun2.before.before.before.before.before.before.before.before.before in
     let start = after-hold.before.before.before.before.before.before.before.before.before.before.before in
     began-few start.requires.1.0 (begins-is after-begun2.begun2.given.1 after-hold.hold.ensures)
 
-fork-fork-each-requires : (t : ℕ) → fork-lts.Need-fork-each-requires (fork-claims t) (fork_at t) fork.Post
+fork-fork-each-requires : (t : ℕ) → fork-lts.Need-fork_each-requires (fork-claims t) (fork_at t) fork.Post
 fork-fork-each-requires t c κs =
     let after-begun2 = c.before.before.before.before.before in
     let after-hold = after-begun2.before.before.before.before.before.before.before.before.before in
@@ -302,7 +302,7 @@ fork-fork-each-requires t c κs =
     (begins-is after-begun2.begun2.given.1 after-hold.hold.ensures) start.requires.1.0 in
     (omega (arith, start.requires.0), (many.0, start.requires.1.1, many.1))
 
-fork-returns : (t : ℕ) → fork-lts.Need-returns (fork-claims t) (fork_at t) fork.Post
+fork-returns : (t : ℕ) → fork-lts.Need-returns-in-Halted (fork-claims t) (fork_at t) fork.Post
 fork-returns t c =
     let after-hold = c.before.before.before.before.before.before.before.before.before.before in
     let after-most-args = after-hold.before.before.before.before.before in
@@ -311,7 +311,7 @@ fork-returns t c =
     fork-stop args.list.now args.at args.r after-most-args.most-args.result start.requires.1.2 after-most-args.most-args.ensures
     (begins-is c.before.begun.given.1 after-hold.hold.ensures)
 
-fork-returns-2 : (t : ℕ) → fork-lts.Need-returns-2 (fork-claims t) (fork_at t) fork.Post
+fork-returns-2 : (t : ℕ) → fork-lts.Need-returns-in-Held (fork-claims t) (fork_at t) fork.Post
 fork-returns-2 t c =
     let after-fork-each = c.before.before.before.before.before.before.before in
     let after-begun2 = after-fork-each.before.before.before.before.before.before in
@@ -322,39 +322,39 @@ fork-returns-2 t c =
     fork-end args.list.now args.at args.r after-most-args.most-args.result start.requires.1.2 after-most-args.most-args.ensures
     (begins-is after-begun2.begun2.given.1 after-hold.hold.ensures) start.requires.1.0 after-fork-each.fork-each.ensures
 
-abbrev fork-each-Inv-loop : fork-each-lts.invariant-loop
+abbrev fork-each-Inv-loop : fork-each-lts.invariant-loop-i
 fork-each-Inv-loop list at to k m kinds₀ insides₀ numbers₀ sizes₀ v from i₀ cur₀ kinds insides numbers sizes i cur =
     (i ≤ count (forest list (at + 1) to)) × Forking (of (book kinds₀ insides₀ numbers₀) sizes₀) (of (book kinds insides numbers) sizes) v m k cur₀ cur list at (at + 1) to i
 
-abbrev fork-each-μ-loop : fork-each-lts.decreases-loop
+abbrev fork-each-μ-loop : fork-each-lts.decreases-loop-i
 fork-each-μ-loop list at to k m kinds₀ insides₀ numbers₀ sizes₀ v from i₀ cur₀ kinds insides numbers sizes i cur =
     i
 
-fork-each-add-from : (t : ℕ) → fork-each-lts.Need-overflow-add-from (fork-each-claims t) (fork-each-at t) fork-each.Post fork-each-Inv-loop fork-each-μ-loop
+fork-each-add-from : (t : ℕ) → fork-each-lts.Need-overflow_add-from (fork-each-claims t) (fork-each-at t) fork-each.Post fork-each-Inv-loop fork-each-μ-loop
 fork-each-add-from t c =
     let start = c.before.before.before.before in
     omega (arith, start.requires.1.1.few, start.requires.1.1.order)
 
-fork-each-count-nodes-requires : (t : ℕ) → fork-each-lts.Need-count-nodes-requires (fork-each-claims t) (fork-each-at t) fork-each.Post fork-each-Inv-loop fork-each-μ-loop
+fork-each-count-nodes-requires : (t : ℕ) → fork-each-lts.Need-count_nodes-i-requires (fork-each-claims t) (fork-each-at t) fork-each.Post fork-each-Inv-loop fork-each-μ-loop
 fork-each-count-nodes-requires t c κs =
     let start = c.before.before.before.before in
     (true, _, start.requires.1.1)
 
-fork-each-loop-holds : (t : ℕ) → fork-each-lts.Need-loop-init (fork-each-claims t) (fork-each-at t) fork-each.Post fork-each-Inv-loop fork-each-μ-loop
+fork-each-loop-holds : (t : ℕ) → fork-each-lts.Need-loop-i-init (fork-each-claims t) (fork-each-at t) fork-each.Post fork-each-Inv-loop fork-each-μ-loop
 fork-each-loop-holds t c =
     let start = c.before.before.before.before.before in
     let args = start.args in
     (omega (arith, c.count-nodes.ensures), forking-begin args.list.now args.at (args.at + 1) args.to _ start.requires.1.1 c.count-nodes.ensures)
 
-fork-each-sub-i : (t : ℕ) → fork-each-lts.Need-overflow-sub-i (fork-each-claims t) (fork-each-at t) fork-each.Post fork-each-Inv-loop fork-each-μ-loop
+fork-each-sub-i : (t : ℕ) → fork-each-lts.Need-overflow_sub-i (fork-each-claims t) (fork-each-at t) fork-each.Post fork-each-Inv-loop fork-each-μ-loop
 fork-each-sub-i t c = omega arith
 
-fork-each-place-of-requires : (t : ℕ) → fork-each-lts.Need-place-of-requires (fork-each-claims t) (fork-each-at t) fork-each.Post fork-each-Inv-loop fork-each-μ-loop
+fork-each-place-of-requires : (t : ℕ) → fork-each-lts.Need-place_of-b-requires (fork-each-claims t) (fork-each-at t) fork-each.Post fork-each-Inv-loop fork-each-μ-loop
 fork-each-place-of-requires t c κs =
     let start = c.before.before.before.before.before.before.before in
     ((true, _, start.requires.1.1), omega (arith, c.before.loop.invariant.0))
 
-fork-each-record-at-requires : (t : ℕ) → fork-each-lts.Need-record-at-requires (fork-each-claims t) (fork-each-at t) fork-each.Post fork-each-Inv-loop fork-each-μ-loop
+fork-each-record-at-requires : (t : ℕ) → fork-each-lts.Need-record_at-r-requires (fork-each-claims t) (fork-each-at t) fork-each.Post fork-each-Inv-loop fork-each-μ-loop
 fork-each-record-at-requires t c κs =
     let at-loop = c.before.before in
     let start = at-loop.before.before.before.before.before.before in
@@ -368,7 +368,7 @@ fork-each-record-at-requires t c κs =
 fork-each-wide-requires : (t : ℕ) → fork-each-lts.Need-wide-requires (fork-each-claims t) (fork-each-at t) fork-each.Post fork-each-Inv-loop fork-each-μ-loop
 fork-each-wide-requires t c κs = search rules
 
-fork-each-lend-deepest-requires : (t : ℕ) → fork-each-lts.Need-lend-deepest-requires (fork-each-claims t) (fork-each-at t) fork-each.Post fork-each-Inv-loop fork-each-μ-loop
+fork-each-lend-deepest-requires : (t : ℕ) → fork-each-lts.Need-lend_deepest-lent-requires (fork-each-claims t) (fork-each-at t) fork-each.Post fork-each-Inv-loop fork-each-μ-loop
 fork-each-lend-deepest-requires t c κs =
     let at-loop = c.before.before.before.before.before.before.before.before in
     let start = at-loop.before.before.before.before.before.before in
@@ -376,13 +376,13 @@ fork-each-lend-deepest-requires t c κs =
     (let w = forking-ready args.list.now args.at (args.at + 1) args.to _ start.requires.1.1 start.requires.1.0 start.requires.1.2 at-loop.loop.invariant.1 in
     (w.0, w.1.space, w.1.held))
 
-fork-each-enum-known-lent : (t : ℕ) → fork-each-lts.Need-enum-known-lent (fork-each-claims t) (fork-each-at t) fork-each.Post fork-each-Inv-loop fork-each-μ-loop
+fork-each-enum-known-lent : (t : ℕ) → fork-each-lts.Need-enum_known-lent (fork-each-claims t) (fork-each-at t) fork-each.Post fork-each-Inv-loop fork-each-μ-loop
 fork-each-enum-known-lent t c = search rules
 
-fork-each-enum-told : (t : ℕ) → fork-each-lts.Need-enum-told (fork-each-claims t) (fork-each-at t) fork-each.Post fork-each-Inv-loop fork-each-μ-loop
+fork-each-enum-told : (t : ℕ) → fork-each-lts.Need-enum_told-1 (fork-each-claims t) (fork-each-at t) fork-each.Post fork-each-Inv-loop fork-each-μ-loop
 fork-each-enum-told t c = search rules
 
-fork-each-returns : (t : ℕ) → fork-each-lts.Need-returns (fork-each-claims t) (fork-each-at t) fork-each.Post fork-each-Inv-loop fork-each-μ-loop
+fork-each-returns : (t : ℕ) → fork-each-lts.Need-returns-in_default (fork-each-claims t) (fork-each-at t) fork-each.Post fork-each-Inv-loop fork-each-μ-loop
 fork-each-returns t c =
     let after-lend-deepest = c.before.before.before.before.before.before.before.before.before in
     let after-wide = after-lend-deepest.before.before.before.before.before in
@@ -396,7 +396,7 @@ fork-each-returns t c =
     at-loop.loop.invariant.1 after-place-of.place_of.result after-record-at.record-at.result after-wide.wide.result after-place-of.place_of.ensures
     after-record-at.record-at.ensures.0 after-wide.wide.ensures start.requires.1.2 after-lend-deepest.lend-deepest.ensures c.enum_told.given.1
 
-fork-each-add-walk : (t : ℕ) → fork-each-lts.Need-overflow-add-walk (fork-each-claims t) (fork-each-at t) fork-each.Post fork-each-Inv-loop fork-each-μ-loop
+fork-each-add-walk : (t : ℕ) → fork-each-lts.Need-overflow_add-b (fork-each-claims t) (fork-each-at t) fork-each.Post fork-each-Inv-loop fork-each-μ-loop
 fork-each-add-walk t c =
     let after-place-of = c.before.before.before.before.before.before.before.before.before.before.before.before.before.before.before.before.before in
     let after-loop-test = after-place-of.before in
@@ -410,10 +410,10 @@ fork-each-add-walk t c =
           after-loop-test.loop-test.true at-loop.loop.invariant.0 after-place-of.place_of.ensures,
     )
 
-fork-each-cast-walk : (t : ℕ) → fork-each-lts.Need-overflow-cast-walk (fork-each-claims t) (fork-each-at t) fork-each.Post fork-each-Inv-loop fork-each-μ-loop
+fork-each-cast-walk : (t : ℕ) → fork-each-lts.Need-overflow_cast-r (fork-each-claims t) (fork-each-at t) fork-each.Post fork-each-Inv-loop fork-each-μ-loop
 fork-each-cast-walk t c = omega arith
 
-fork-each-add-walk-2 : (t : ℕ) → fork-each-lts.Need-overflow-add-walk-2 (fork-each-claims t) (fork-each-at t) fork-each.Post fork-each-Inv-loop fork-each-μ-loop
+fork-each-add-walk-2 : (t : ℕ) → fork-each-lts.Need-overflow_add-b-in-loop-i (fork-each-claims t) (fork-each-at t) fork-each.Post fork-each-Inv-loop fork-each-μ-loop
 fork-each-add-walk-2 t c =
     let after-wide = c.before.before.before.before.before.before.before.before.before.before.before.before.before.before.before.before in
     let after-record-at = after-wide.before in
@@ -429,7 +429,7 @@ fork-each-add-walk-2 t c =
           after-record-at.record-at.ensures.0 after-wide.wide.ensures).few,
     )
 
-fork-each-walk-requires : (t : ℕ) → fork-each-lts.Need-walk-requires (fork-each-claims t) (fork-each-at t) fork-each.Post fork-each-Inv-loop fork-each-μ-loop
+fork-each-walk-requires : (t : ℕ) → fork-each-lts.Need-walk-ran-requires (fork-each-claims t) (fork-each-at t) fork-each.Post fork-each-Inv-loop fork-each-μ-loop
 fork-each-walk-requires t c κs =
     let after-lent = c.before.before.before.before.before.before in
     let after-lend-deepest = after-lent.before.before.before.before.before.before.before.before.before in
@@ -452,13 +452,13 @@ fork-each-walk-requires t c κs =
       ),
     )
 
-fork-each-enum-known-ran : (t : ℕ) → fork-each-lts.Need-enum-known-ran (fork-each-claims t) (fork-each-at t) fork-each.Post fork-each-Inv-loop fork-each-μ-loop
+fork-each-enum-known-ran : (t : ℕ) → fork-each-lts.Need-enum_known-ran (fork-each-claims t) (fork-each-at t) fork-each.Post fork-each-Inv-loop fork-each-μ-loop
 fork-each-enum-known-ran t c = search rules
 
-fork-each-enum-told-2 : (t : ℕ) → fork-each-lts.Need-enum-told-2 (fork-each-claims t) (fork-each-at t) fork-each.Post fork-each-Inv-loop fork-each-μ-loop
+fork-each-enum-told-2 : (t : ℕ) → fork-each-lts.Need-enum_told-in_default-ran (fork-each-claims t) (fork-each-at t) fork-each.Post fork-each-Inv-loop fork-each-μ-loop
 fork-each-enum-told-2 t c = search rules
 
-fork-each-returns-2 : (t : ℕ) → fork-each-lts.Need-returns-2 (fork-each-claims t) (fork-each-at t) fork-each.Post fork-each-Inv-loop fork-each-μ-loop
+fork-each-returns-2 : (t : ℕ) → fork-each-lts.Need-returns-in_default-ran (fork-each-claims t) (fork-each-at t) fork-each.Post fork-each-Inv-loop fork-each-μ-loop
 fork-each-returns-2 t c =
     let after-walk = c.before.before.before.before.before.before.before.before.before in
     let after-lent = after-walk.before.before.before.before.before.before.before in
@@ -475,7 +475,7 @@ fork-each-returns-2 t c =
     after-record-at.record-at.ensures.0 after-wide.wide.ensures start.requires.1.2 after-lend-deepest.lend-deepest.ensures after-lent.lent.given.1
     after-walk.walk.ensures c.enum-told2.given.1
 
-fork-each-loop-less : (t : ℕ) → fork-each-lts.Need-loop-smaller (fork-each-claims t) (fork-each-at t) fork-each.Post fork-each-Inv-loop fork-each-μ-loop
+fork-each-loop-less : (t : ℕ) → fork-each-lts.Need-loop-i-smaller (fork-each-claims t) (fork-each-at t) fork-each.Post fork-each-Inv-loop fork-each-μ-loop
 fork-each-loop-less t c =
     let after-walk = c.before.before.before.before.before.before.before.before.before.before in
     let after-lent = after-walk.before.before.before.before.before.before.before in
@@ -484,7 +484,7 @@ fork-each-loop-less t c =
     let after-loop-test = after-wide.before.before.before in
     omega (arith, after-loop-test.loop-test.true)
 
-fork-each-loop-again : (t : ℕ) → fork-each-lts.Need-loop-preserved (fork-each-claims t) (fork-each-at t) fork-each.Post fork-each-Inv-loop fork-each-μ-loop
+fork-each-loop-again : (t : ℕ) → fork-each-lts.Need-loop-i-preserved (fork-each-claims t) (fork-each-at t) fork-each.Post fork-each-Inv-loop fork-each-μ-loop
 fork-each-loop-again t c =
     let after-walk = c.before.before.before.before.before.before.before.before.before.before in
     let after-lent = after-walk.before.before.before.before.before.before.before in
@@ -503,18 +503,18 @@ fork-each-loop-again t c =
           after-lent.lent.given.1 after-walk.walk.ensures c.before.ran.given.1,
     )
 
-fork-each-returns-3 : (t : ℕ) → fork-each-lts.Need-returns-3 (fork-each-claims t) (fork-each-at t) fork-each.Post fork-each-Inv-loop fork-each-μ-loop
+fork-each-returns-3 : (t : ℕ) → fork-each-lts.Need-returns (fork-each-claims t) (fork-each-at t) fork-each.Post fork-each-Inv-loop fork-each-μ-loop
 fork-each-returns-3 t c =
     let start = c.before.before.before.before.before.before.before in
     let args = start.args in
     forking-done args.list.now args.at (args.at + 1) args.to _ start.requires.1.1 (omega arith) c.before.loop.invariant.1
 
-modify-use-of-requires : (t : ℕ) → modify-lts.Need-use-of-requires (modify-claims t) (modify-at t) modify.Post
+modify-use-of-requires : (t : ℕ) → modify-lts.Need-use_of-requires (modify-claims t) (modify-at t) modify.Post
 modify-use-of-requires t c κs =
     let start = c.before.before.before.before in
     (true, _, start.requires.1.1)
 
-modify-enum-known-q : (t : ℕ) → modify-lts.Need-enum-known-q (modify-claims t) (modify-at t) modify.Post
+modify-enum-known-q : (t : ℕ) → modify-lts.Need-enum_known-q (modify-claims t) (modify-at t) modify.Post
 modify-enum-known-q t c = search rules
 
 modify-refuse-requires : (t : ℕ) → modify-lts.Need-refuse-requires (modify-claims t) (modify-at t) modify.Post
@@ -522,10 +522,10 @@ modify-refuse-requires t c κs =
     let start = c.before.before.before.before.before.before.before.before.before.before.before.before in
     halt-asks start.requires.1.0
 
-modify-enum-told : (t : ℕ) → modify-lts.Need-enum-told (modify-claims t) (modify-at t) modify.Post
+modify-enum-told : (t : ℕ) → modify-lts.Need-enum_told-1 (modify-claims t) (modify-at t) modify.Post
 modify-enum-told t c = search rules
 
-modify-with-bodies-requires : (t : ℕ) → modify-lts.Need-with-bodies-requires (modify-claims t) (modify-at t) modify.Post
+modify-with-bodies-requires : (t : ℕ) → modify-lts.Need-with_bodies-requires (modify-claims t) (modify-at t) modify.Post
 modify-with-bodies-requires t c κs =
     let after-enum-told = c.before.before.before.before in
     let after-use-of = after-enum-told.before.before in
@@ -533,7 +533,7 @@ modify-with-bodies-requires t c κs =
     let args = start.args in
     (omega (arith, start.requires.0), (start.requires.1.0, start.requires.1.1, used-told args.list.now args.at args.r after-enum-told.enum_told.given.1 after-use-of.use-of.ensures))
 
-modify-enum-told-2 : (t : ℕ) → modify-lts.Need-enum-told-2 (modify-claims t) (modify-at t) modify.Post
+modify-enum-told-2 : (t : ℕ) → modify-lts.Need-enum_told-in-Forks (modify-claims t) (modify-at t) modify.Post
 modify-enum-told-2 t c = search rules
 
 modify-fork-requires : (t : ℕ) → modify-lts.Need-fork-requires (modify-claims t) (modify-at t) modify.Post
@@ -544,7 +544,7 @@ modify-fork-requires t c κs =
     let args = start.args in
     (omega (arith, start.requires.0), (start.requires.1.0, start.requires.1.1, used-told args.list.now args.at args.r after-enum-told2.enum-told2.given.1 after-use-of.use-of.ensures))
 
-modify-returns : (t : ℕ) → modify-lts.Need-returns (modify-claims t) (modify-at t) modify.Post
+modify-returns : (t : ℕ) → modify-lts.Need-returns-in-Refused (modify-claims t) (modify-at t) modify.Post
 modify-returns t c =
     let after-q = c.before.before.before.before.before.before in
     let after-use-of = after-q.before.before in
@@ -552,17 +552,17 @@ modify-returns t c =
     let args = start.args in
     halt-does {F = modified args.list.now args.at args.r} c.refuse.ensures (used-told args.list.now args.at args.r after-q.q.given.1 after-use-of.use-of.ensures)
 
-modify-returns-2 : (t : ℕ) → modify-lts.Need-returns-2 (modify-claims t) (modify-at t) modify.Post
+modify-returns-2 : (t : ℕ) → modify-lts.Need-returns-in-Bodies (modify-claims t) (modify-at t) modify.Post
 modify-returns-2 t c =
     let after-with-bodies = c.before.before.before.before.before.before.before in
     after-with-bodies.with-bodies.ensures
 
-modify-returns-3 : (t : ℕ) → modify-lts.Need-returns-3 (modify-claims t) (modify-at t) modify.Post
+modify-returns-3 : (t : ℕ) → modify-lts.Need-returns-in-Forks (modify-claims t) (modify-at t) modify.Post
 modify-returns-3 t c =
     let after-fork = c.before.before.before.before.before.before.before in
     after-fork.fork.ensures
 
-step-is-a-requires : (t : ℕ) → step-lts.Need-is-a-requires (step-claims t) (step-at t) step.Post
+step-is-a-requires : (t : ℕ) → step-lts.Need-is_a-requires (step-claims t) (step-at t) step.Post
 step-is-a-requires t c κs = search rules
 
 step-modify-requires : (t : ℕ) → step-lts.Need-modify-requires (step-claims t) (step-at t) step.Post
@@ -574,7 +574,7 @@ step-modify-requires t c κs =
     let bodies = bodies-inside args.r _ after-is-a.is-a.ensures after-if.if1.true in
     (omega (arith, start.requires.0), (start.requires.1.0, bodily-of args.list.now args.at args.r refl bodies start.requires.1.1))
 
-step-returns : (t : ℕ) → step-lts.Need-returns (step-claims t) (step-at t) step.Post
+step-returns : (t : ℕ) → step-lts.Need-returns-then-is_a (step-claims t) (step-at t) step.Post
 step-returns t c =
     let after-modify = c.before.before.before.before.before.before.before in
     let after-if = after-modify.before.before.before.before.before in
@@ -584,12 +584,12 @@ step-returns t c =
     let fs = runners (args.at + 1) (forest args.list.now (args.at + 1) (args.at + 1 + args.r.inside)) in
     step-bodies args.at args.r fs refl (bodies-inside args.r _ after-is-a.is-a.ensures after-if.if1.true) after-modify.modify.ensures
 
-step-read-leaf-requires : (t : ℕ) → step-lts.Need-read-leaf-requires (step-claims t) (step-at t) step.Post
+step-read-leaf-requires : (t : ℕ) → step-lts.Need-read_leaf-requires (step-claims t) (step-at t) step.Post
 step-read-leaf-requires t c κs =
     let start = c.before.before.before.before.before.before.before.before.before.before in
     start.requires.1.0
 
-step-returns-2 : (t : ℕ) → step-lts.Need-returns-2 (step-claims t) (step-at t) step.Post
+step-returns-2 : (t : ℕ) → step-lts.Need-returns (step-claims t) (step-at t) step.Post
 step-returns-2 t c =
     let after-read-leaf = c.before.before.before.before.before.before.before in
     let after-if = after-read-leaf.before.before.before.before.before in
@@ -600,46 +600,46 @@ step-returns-2 t c =
     let nothing = nothing-else args.r _ after-is-a.is-a.ensures after-if.if1.false start.requires.1.2 in
     step-leaf args.at args.r fs refl nothing after-read-leaf.read-leaf.ensures
 
-abbrev walk-Inv-loop : walk-lts.invariant-loop
+abbrev walk-Inv-loop : walk-lts.invariant-loop-at
 walk-Inv-loop list from to kinds₀ insides₀ numbers₀ sizes₀ v at₀ used₀ handled₀ complex₀ pairs₀ kinds insides numbers sizes at used handled complex pairs =
     ((b : Bool) × Stretch list at to b (height (forest list from to)) × OneBody list at to b) × Ready (of (book kinds insides numbers) sizes) v (env_of used handled complex pairs)
     × Going (of (book kinds₀ insides₀ numbers₀) sizes₀) (of (book kinds insides numbers) sizes) v (env_of used₀ handled₀ complex₀ pairs₀) (env_of used handled complex pairs)
     (λ st. walk_of list from to (1152 - v) st) (λ st. walk_of list at to (1152 - v) st)
 
-abbrev walk-μ-loop : walk-lts.decreases-loop
+abbrev walk-μ-loop : walk-lts.decreases-loop-at
 walk-μ-loop list from to kinds₀ insides₀ numbers₀ sizes₀ v at₀ used₀ handled₀ complex₀ pairs₀ kinds insides numbers sizes at used handled complex pairs =
     to - at
 
-walk-loop-holds : (t : ℕ) → walk-lts.Need-loop-init (walk-claims t) (walk_at t) walk.Post walk-Inv-loop walk-μ-loop
+walk-loop-holds : (t : ℕ) → walk-lts.Need-loop-at-init (walk-claims t) (walk_at t) walk.Post walk-Inv-loop walk-μ-loop
 walk-loop-holds t c =
     let start = c.before.before.before.before in
     (start.requires.1.1, start.requires.1.0, going_start _ _ _ _)
 
-walk-record-at-requires : (t : ℕ) → walk-lts.Need-record-at-requires (walk-claims t) (walk_at t) walk.Post walk-Inv-loop walk-μ-loop
+walk-record-at-requires : (t : ℕ) → walk-lts.Need-record_at-r-requires (walk-claims t) (walk_at t) walk.Post walk-Inv-loop walk-μ-loop
 walk-record-at-requires t c κs = omega (arith, c.before.loop.invariant.0.1.room)
 
 -- what is known of the record that was read
 walk_turn :
-    (t : ℕ) (c : walk-lts.After-record-at (walk-claims t) (walk_at t) walk.Post walk-Inv-loop walk-μ-loop)
+    (t : ℕ) (c : walk-lts.After-record_at-r (walk-claims t) (walk_at t) walk.Post walk-Inv-loop walk-μ-loop)
     → (let at-loop = c.before.before in
     let args = at-loop.before.before.before.before.before.args in
     Turn args.list.now at-loop.loop.at args.to at-loop.loop.invariant.0.0 (height (forest args.list.now args.from args.to)) c.record-at.result)
 walk_turn t c = turn _ _ _ _ _ _ c.before.before.loop.invariant.0.1 c.before.before.loop.invariant.0.2 (omega arith) c.record-at.ensures.0
 
-walk-add-next : (t : ℕ) → walk-lts.Need-overflow-add-next (walk-claims t) (walk_at t) walk.Post walk-Inv-loop walk-μ-loop
+walk-add-next : (t : ℕ) → walk-lts.Need-overflow_add-next (walk-claims t) (walk_at t) walk.Post walk-Inv-loop walk-μ-loop
 walk-add-next t c =
     let at-loop = c.before.before in
     omega (arith, at-loop.loop.invariant.0.1.few)
 
-walk-cast-next : (t : ℕ) → walk-lts.Need-overflow-cast-next (walk-claims t) (walk_at t) walk.Post walk-Inv-loop walk-μ-loop
+walk-cast-next : (t : ℕ) → walk-lts.Need-overflow_cast-next (walk-claims t) (walk_at t) walk.Post walk-Inv-loop walk-μ-loop
 walk-cast-next t c = omega arith
 
-walk-add-next-2 : (t : ℕ) → walk-lts.Need-overflow-add-next-2 (walk-claims t) (walk_at t) walk.Post walk-Inv-loop walk-μ-loop
+walk-add-next-2 : (t : ℕ) → walk-lts.Need-overflow_add-next-in-loop-at (walk-claims t) (walk_at t) walk.Post walk-Inv-loop walk-μ-loop
 walk-add-next-2 t c =
     let at-loop = c.before.before.before in
     omega (arith, at-loop.loop.invariant.0.1.few, (walk_turn t c.before).next)
 
-walk-is-quick-requires : (t : ℕ) → walk-lts.Need-is-quick-requires (walk-claims t) (walk_at t) walk.Post walk-Inv-loop walk-μ-loop
+walk-is-quick-requires : (t : ℕ) → walk-lts.Need-is_quick-requires (walk-claims t) (walk_at t) walk.Post walk-Inv-loop walk-μ-loop
 walk-is-quick-requires t c κs = search rules
 
 walk-leaf-requires : (t : ℕ) → walk-lts.Need-leaf-requires (walk-claims t) (walk_at t) walk.Post walk-Inv-loop walk-μ-loop
@@ -647,10 +647,10 @@ walk-leaf-requires t c κs =
     let at-loop = c.before.before.before.before.before.before.before.before.before in
     prepared at-loop.loop.invariant.1
 
-walk-enum-known-q : (t : ℕ) → walk-lts.Need-enum-known-q (walk-claims t) (walk_at t) walk.Post walk-Inv-loop walk-μ-loop
+walk-enum-known-q : (t : ℕ) → walk-lts.Need-enum_known-q (walk-claims t) (walk_at t) walk.Post walk-Inv-loop walk-μ-loop
 walk-enum-known-q t c = search rules
 
-walk-returns : (t : ℕ) → walk-lts.Need-returns (walk-claims t) (walk_at t) walk.Post walk-Inv-loop walk-μ-loop
+walk-returns : (t : ℕ) → walk-lts.Need-returns-in-Stopped (walk-claims t) (walk_at t) walk.Post walk-Inv-loop walk-μ-loop
 walk-returns t c =
     let after-leaf = c.before.before.before.before.before.before.before.before.before.before in
     let after-if1 = after-leaf.before.before.before.before.before in
@@ -668,22 +668,22 @@ walk-returns t c =
     let stopped = leaf-stopped env _ place r (kind_of r.kind) (1152 - v) (after-leaf.leaf.ensures place) c.before.q.given.1 in
     going-stop _ at-loop.loop.invariant.2 (step-leaf place r fs refl plain stopped) ((walk_turn t after-record-at).on (1152 - v))
 
-walk-enum-known-then : (t : ℕ) → walk-lts.Need-enum-known-then (walk-claims t) (walk_at t) walk.Post walk-Inv-loop walk-μ-loop
+walk-enum-known-then : (t : ℕ) → walk-lts.Need-enum_known-then (walk-claims t) (walk_at t) walk.Post walk-Inv-loop walk-μ-loop
 walk-enum-known-then t c = search rules
 
-walk-capped-sum-requires : (t : ℕ) → walk-lts.Need-capped-sum-requires (walk-claims t) (walk_at t) walk.Post walk-Inv-loop walk-μ-loop
+walk-capped-sum-requires : (t : ℕ) → walk-lts.Need-capped_sum-pairs-requires (walk-claims t) (walk_at t) walk.Post walk-Inv-loop walk-μ-loop
 walk-capped-sum-requires t c κs = search rules
 
-walk-counted-requires : (t : ℕ) → walk-lts.Need-counted-requires (walk-claims t) (walk_at t) walk.Post walk-Inv-loop walk-μ-loop
+walk-counted-requires : (t : ℕ) → walk-lts.Need-counted-handled-requires (walk-claims t) (walk_at t) walk.Post walk-Inv-loop walk-μ-loop
 walk-counted-requires t c κs = search rules
 
-walk-flags-requires : (t : ℕ) → walk-lts.Need-flags-requires (walk-claims t) (walk_at t) walk.Post walk-Inv-loop walk-μ-loop
+walk-flags-requires : (t : ℕ) → walk-lts.Need-flags-complex-requires (walk-claims t) (walk_at t) walk.Post walk-Inv-loop walk-μ-loop
 walk-flags-requires t c κs = search rules
 
-walk-loop-less : (t : ℕ) → walk-lts.Need-loop-smaller (walk-claims t) (walk_at t) walk.Post walk-Inv-loop walk-μ-loop
+walk-loop-less : (t : ℕ) → walk-lts.Need-loop-at-smaller-then-is_quick (walk-claims t) (walk_at t) walk.Post walk-Inv-loop walk-μ-loop
 walk-loop-less t c = omega arith
 
-walk-loop-again : (t : ℕ) → walk-lts.Need-loop-preserved (walk-claims t) (walk_at t) walk.Post walk-Inv-loop walk-μ-loop
+walk-loop-again : (t : ℕ) → walk-lts.Need-loop-at-preserved-then-is_quick (walk-claims t) (walk_at t) walk.Post walk-Inv-loop walk-μ-loop
 walk-loop-again t c =
     let after_then = c.before.before.before.before in
     let after-leaf = after_then.before.before.before.before.before.before.before.before.before in
@@ -705,18 +705,18 @@ walk-loop-again t c =
     let gone = going_step at-loop.loop.invariant.2 (step-leaf place r fs refl plain went) (turned.on (1152 - v)) in
     ((at-loop.loop.invariant.0.0, turned.rest, turned.one), going-ready start.requires.1.0 gone, gone)
 
-walk-has-nodes-requires : (t : ℕ) → walk-lts.Need-has-nodes-requires (walk-claims t) (walk_at t) walk.Post walk-Inv-loop walk-μ-loop
+walk-has-nodes-requires : (t : ℕ) → walk-lts.Need-has_nodes-requires (walk-claims t) (walk_at t) walk.Post walk-Inv-loop walk-μ-loop
 walk-has-nodes-requires t c κs = search rules
 
-walk-add-at : (t : ℕ) → walk-lts.Need-overflow-add-at (walk-claims t) (walk_at t) walk.Post walk-Inv-loop walk-μ-loop
+walk-add-at : (t : ℕ) → walk-lts.Need-overflow_add-at (walk-claims t) (walk_at t) walk.Post walk-Inv-loop walk-μ-loop
 walk-add-at t c =
     let at-loop = c.before.before.before.before.before.before.before in
     omega (arith, at-loop.loop.invariant.0.1.few)
 
-walk-loop-less-2 : (t : ℕ) → walk-lts.Need-loop-smaller-2 (walk-claims t) (walk_at t) walk.Post walk-Inv-loop walk-μ-loop
+walk-loop-less-2 : (t : ℕ) → walk-lts.Need-loop-at-smaller-then-has_nodes (walk-claims t) (walk_at t) walk.Post walk-Inv-loop walk-μ-loop
 walk-loop-less-2 t c = omega arith
 
-walk-loop-again-2 : (t : ℕ) → walk-lts.Need-loop-preserved-2 (walk-claims t) (walk_at t) walk.Post walk-Inv-loop walk-μ-loop
+walk-loop-again-2 : (t : ℕ) → walk-lts.Need-loop-at-preserved-then-has_nodes (walk-claims t) (walk_at t) walk.Post walk-Inv-loop walk-μ-loop
 walk-loop-again-2 t c =
     let after-record-at = c.before.before.before.before.before in
     let at-loop = after-record-at.before.before in
@@ -729,7 +729,7 @@ walk-loop-again-2 t c =
     let gone = going-same at-loop.loop.invariant.2 (behind.1 (1152 - args.v)) in
     ((false, behind.0, λ e. absurd (never e)), at-loop.loop.invariant.1, gone)
 
-walk-env-of-requires : (t : ℕ) → walk-lts.Need-env-of-requires (walk-claims t) (walk_at t) walk.Post walk-Inv-loop walk-μ-loop
+walk-env-of-requires : (t : ℕ) → walk-lts.Need-env_of-cur-requires (walk-claims t) (walk_at t) walk.Post walk-Inv-loop walk-μ-loop
 walk-env-of-requires t c κs = search rules
 
 walk-step-requires : (t : ℕ) → walk-lts.Need-step-requires (walk-claims t) (walk_at t) walk.Post walk-Inv-loop walk-μ-loop
@@ -743,10 +743,10 @@ walk-step-requires t c κs =
     let turned = walk_turn t after-record-at in
     (omega (arith, start.requires.0, turned.low), (ready-as after-env-of.env-of.ensures at-loop.loop.invariant.1, turned.inside, sym after-has-nodes.has-nodes.ensures ∙ after-if2.if2.false))
 
-walk-enum-known-q-2 : (t : ℕ) → walk-lts.Need-enum-known-q-2 (walk-claims t) (walk_at t) walk.Post walk-Inv-loop walk-μ-loop
+walk-enum-known-q-2 : (t : ℕ) → walk-lts.Need-enum_known-q-in-Stopped-step (walk-claims t) (walk_at t) walk.Post walk-Inv-loop walk-μ-loop
 walk-enum-known-q-2 t c = search rules
 
-walk-returns-2 : (t : ℕ) → walk-lts.Need-returns-2 (walk-claims t) (walk_at t) walk.Post walk-Inv-loop walk-μ-loop
+walk-returns-2 : (t : ℕ) → walk-lts.Need-returns-in-Stopped-step (walk-claims t) (walk_at t) walk.Post walk-Inv-loop walk-μ-loop
 walk-returns-2 t c =
     let after-step = c.before.before.before.before.before.before.before.before.before.before in
     let after-env-of = after-step.before.before.before.before.before in
@@ -756,13 +756,13 @@ walk-returns-2 t c =
     let stepped = does-as after-env-of.env-of.ensures (does-told c.before.q2.given.1 after-step.step.ensures) in
     going-stop _ at-loop.loop.invariant.2 stepped ((walk_turn t after-record-at).on (1152 - start.args.v))
 
-walk-enum-known-then-2 : (t : ℕ) → walk-lts.Need-enum-known-then-2 (walk-claims t) (walk_at t) walk.Post walk-Inv-loop walk-μ-loop
+walk-enum-known-then-2 : (t : ℕ) → walk-lts.Need-enum_known-then-in-Went-step (walk-claims t) (walk_at t) walk.Post walk-Inv-loop walk-μ-loop
 walk-enum-known-then-2 t c = search rules
 
-walk-loop-less-3 : (t : ℕ) → walk-lts.Need-loop-smaller-3 (walk-claims t) (walk_at t) walk.Post walk-Inv-loop walk-μ-loop
+walk-loop-less-3 : (t : ℕ) → walk-lts.Need-loop-at-smaller (walk-claims t) (walk_at t) walk.Post walk-Inv-loop walk-μ-loop
 walk-loop-less-3 t c = omega arith
 
-walk-loop-again-3 : (t : ℕ) → walk-lts.Need-loop-preserved-3 (walk-claims t) (walk_at t) walk.Post walk-Inv-loop walk-μ-loop
+walk-loop-again-3 : (t : ℕ) → walk-lts.Need-loop-at-preserved (walk-claims t) (walk_at t) walk.Post walk-Inv-loop walk-μ-loop
 walk-loop-again-3 t c =
     let after-step = c.before.before.before.before.before.before.before.before.before.before in
     let after-env-of = after-step.before.before.before.before.before in
@@ -774,30 +774,30 @@ walk-loop-again-3 t c =
     let gone = going_step at-loop.loop.invariant.2 stepped (turned.on (1152 - start.args.v)) in
     ((at-loop.loop.invariant.0.0, turned.rest, turned.one), going-ready start.requires.1.0 gone, gone)
 
-walk-env-of-requires-2 : (t : ℕ) → walk-lts.Need-env-of-requires-2 (walk-claims t) (walk_at t) walk.Post walk-Inv-loop walk-μ-loop
+walk-env-of-requires-2 : (t : ℕ) → walk-lts.Need-env_of-requires (walk-claims t) (walk_at t) walk.Post walk-Inv-loop walk-μ-loop
 walk-env-of-requires-2 t c κs = search rules
 
-walk-returns-3 : (t : ℕ) → walk-lts.Need-returns-3 (walk-claims t) (walk_at t) walk.Post walk-Inv-loop walk-μ-loop
+walk-returns-3 : (t : ℕ) → walk-lts.Need-returns (walk-claims t) (walk_at t) walk.Post walk-Inv-loop walk-μ-loop
 walk-returns-3 t c =
     let at-loop = c.before.before in
     let args = at-loop.before.before.before.before.before.args in
     does-back (ap Went c.env-of2.ensures)
     (going_end at-loop.loop.invariant.2 (λ st. walk_none args.list.now at-loop.loop.at args.to (1152 - args.v) st (omega arith)))
 
-with-bodies-plan-of-requires : (t : ℕ) → with-bodies-lts.Need-plan-of-requires (with-bodies-claims t) (with-bodies-at t) with-bodies.Post
+with-bodies-plan-of-requires : (t : ℕ) → with-bodies-lts.Need-plan_of-p-requires (with-bodies-claims t) (with-bodies-at t) with-bodies.Post
 with-bodies-plan-of-requires t c κs =
     let start = c.before.before.before.before in
     ((true, _, start.requires.1.1), start.requires.1.2)
 
-with-bodies-begin-requires : (t : ℕ) → with-bodies-lts.Need-begin-requires (with-bodies-claims t) (with-bodies-at t) with-bodies.Post
+with-bodies-begin-requires : (t : ℕ) → with-bodies-lts.Need-begin-begun-requires (with-bodies-claims t) (with-bodies-at t) with-bodies.Post
 with-bodies-begin-requires t c κs =
     let start = c.before.before.before.before.before.before.before.before.before in
     start.requires.1.0
 
-with-bodies-enum-known-begun : (t : ℕ) → with-bodies-lts.Need-enum-known-begun (with-bodies-claims t) (with-bodies-at t) with-bodies.Post
+with-bodies-enum-known-begun : (t : ℕ) → with-bodies-lts.Need-enum_known-begun (with-bodies-claims t) (with-bodies-at t) with-bodies.Post
 with-bodies-enum-known-begun t c = search rules
 
-with-bodies-enum-known-begun-2 : (t : ℕ) → with-bodies-lts.Need-enum-known-begun-2 (with-bodies-claims t) (with-bodies-at t) with-bodies.Post
+with-bodies-enum-known-begun-2 : (t : ℕ) → with-bodies-lts.Need-enum_known-begun-in-Held-1 (with-bodies-claims t) (with-bodies-at t) with-bodies.Post
 with-bodies-enum-known-begun-2 t c = search rules
 
 with-bodies-around-requires : (t : ℕ) → with-bodies-lts.Need-around-requires (with-bodies-claims t) (with-bodies-at t) with-bodies.Post
@@ -816,14 +816,14 @@ with-bodies-around-requires t c κs =
       ),
     )
 
-with-bodies-returns : (t : ℕ) → with-bodies-lts.Need-returns (with-bodies-claims t) (with-bodies-at t) with-bodies.Post
+with-bodies-returns : (t : ℕ) → with-bodies-lts.Need-returns-in-Halted (with-bodies-claims t) (with-bodies-at t) with-bodies.Post
 with-bodies-returns t c =
     let after-begin = c.before.before.before.before.before.before.before.before.before.before in
     let after-plan-of = after-begin.before.before.before.before.before in
     let start = after-plan-of.before.before.before.before.before in
     plan-stop (after-plan-of.plan-of.ensures _ start.requires.1.1) (begins-is c.before.begun.given.1 after-begin.begin.ensures)
 
-with-bodies-returns-2 : (t : ℕ) → with-bodies-lts.Need-returns-2 (with-bodies-claims t) (with-bodies-at t) with-bodies.Post
+with-bodies-returns-2 : (t : ℕ) → with-bodies-lts.Need-returns-in-Held (with-bodies-claims t) (with-bodies-at t) with-bodies.Post
 with-bodies-returns-2 t c =
     let after-around = c.before.before.before.before.before.before.before in
     let after-begun2 = after-around.before.before.before.before.before.before in
@@ -832,8 +832,8 @@ with-bodies-returns-2 t c =
     let start = after-plan-of.before.before.before.before.before in
     plan-end (after-plan-of.plan-of.ensures _ start.requires.1.1) (begins-is after-begun2.begun2.given.1 after-begin.begin.ensures) after-around.around.ensures
 
-pub +around-fork-fork-each-modify-step-walk-with-bodies-spec : {M : Type 1} → statement M
-+around-fork-fork-each-modify-step-walk-with-bodies-spec =
+pub +around_fork_fork_each_modify_step_walk_with_bodies_spec : {M : Type 1} → statement M
++around_fork_fork_each_modify_step_walk_with_bodies_spec =
     close μ-around μ-fork μ-fork-each μ-modify μ-step μ-walk μ-with-bodies (λ t. around-lts.spec (around-claims t) (around-at t)
     around.Post
     (around-sub-low t)

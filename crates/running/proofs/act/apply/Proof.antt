@@ -6,8 +6,8 @@ use Rattle.running.proofs.Laws.{apply-lacks}
 use Rattle.running.proofs.act.apply.Statement.{statement}
 use Rattle.running.proofs.act.apply.Tie as tie
 
-pub apply-spec : {M : Type 1} → statement M
-apply-spec =
+pub apply_spec : {M : Type 1} → statement M
+apply_spec =
     tie.close
     (tie.spec
     (λ c. search rules)
@@ -15,8 +15,8 @@ apply-spec =
     (λ c κs. search rules)
     (λ c. search rules)
     (λ c κs. search rules)
-    (λ c. (rw c.before.w.given.1 (sym (apply-lacks (stack_of c.before.before.before.before.args.stack.now c.before.before.before.before.args.n))), tt))
+    (λ c. (rw c.in-Lacks.is (sym (apply-lacks (stack_of c.args.stack.now c.args.n))), tt))
     (λ c. search rules)
-    (λ c. let o = c.before.before.single in (rw c.before.before.before.before.before.w2.given.1 o.ensures.0, o.ensures.1))
+    (λ c. let o = c.single in (rw c.in-OfOne.is o.ensures.0, o.ensures.1))
     (λ c. search rules)
-    (λ c. let o = c.before.before.pair in (rw c.before.before.before.before.before.w3.given.1 o.ensures.0, o.ensures.1)))
+    (λ c. let o = c.pair in (rw c.in-OfTwo.is o.ensures.0, o.ensures.1)))

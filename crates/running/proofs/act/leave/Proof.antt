@@ -21,9 +21,9 @@ leave_spec =
     (λ c. search rules)
     (λ c κs. search rules)
     (λ c. (
-      rw c.before.before.before.l2.given.1 (sym (leave-bad c.before.before.before.l2.given.0.0
-          (stack_of c.before.before.before.before.before.before.args.stack.now c.before.before.before.before.before.before.args.n)
-          (sym c.before.is_finite.ensures ∙ not-true _ c.if1.true))),
+      rw c.in-One.is (sym (leave-bad c.in-One.a
+          (stack_of c.args.stack.now c.args.n)
+          (sym c.is_finite.ensures ∙ c.if-not-is_finite.true))),
       tt,
     ))
     (λ c. search rules)
@@ -46,21 +46,21 @@ leave_spec =
     (λ c. search rules)
     (λ c. simp length-set (omega arith))
     (λ c. search rules)
-    (λ c. (rw c.before.l.given.1, tt))
-    (λ c. (rw c.enum_told.given.1, omega arith))
+    (λ c. (rw c.in-Refused.is, tt))
+    (λ c. (rw c.in-Nothing.is, omega arith))
     (λ c. search rules)
-    (λ c. let x = c.before.before.before.before.before.before.args in (
-      rw c.before.before.before.l2.given.1 (ap went (stack_push x.stack.now x.n c.before.before.before.l2.given.0.0 (omega arith)) ∙ sym
-          (leave-one c.before.before.before.l2.given.0.0 (stack_of x.stack.now x.n) (sym c.before.is_finite.ensures ∙ not-false _ c.if1.false))),
+    (λ c. let x = c.args in (
+      rw c.in-One.is (ap went (stack_push x.stack.now x.n c.in-One.a (omega arith)) ∙ sym
+          (leave-one c.in-One.a (stack_of x.stack.now x.n) (sym c.is_finite.ensures ∙ c.if-not-is_finite.false))),
       omega arith,
     ))
     (λ c. search rules)
     (λ c.
-    let x = c.before.before.before.before.args in
-    let g = c.before.l3.given in
+    let x = c.args in
+    let g = c.l-in-Two-1.given in
     (rw g.1 (ap went (stack-push-two x.stack.now x.n g.0.1.0 g.0.0 (omega arith))), omega arith))
     (λ c. search rules)
     (λ c.
-    let x = c.before.before.before.before.args in
-    let g = c.before.l4.given in
+    let x = c.args in
+    let g = c.l-in-Three-1.given in
     (rw g.1 (ap went (stack-push-three x.stack.now x.n g.0.1.1.0 g.0.1.0 g.0.0 (omega arith))), omega arith)))

@@ -7,11 +7,11 @@ use Rattle.numbers.proofs.Bits.{no-nans}
 use Rattle.running.proofs.act.number.Statement.{statement}
 use Rattle.running.proofs.act.number.Tie as tie
 
-pub number-spec : {M : Type 1} → statement M
-number-spec =
+pub number_spec : {M : Type 1} → statement M
+number_spec =
     tie.close
     (tie.spec
     (λ c κs. search rules)
-    (λ c. no-nans _ c.before.finite-bits.ensures c.if1.true)
+    (λ c. no-nans _ c.finite_bits.ensures c.if-finite_bits.true)
     (λ c. search rules)
-    (λ c. (λ s. leave-stop s ∙ sym (leave-bad (of_bits binary64 c.before.before.args.re) s (sym c.before.finite-bits.ensures ∙ c.if1.false)))))
+    (λ c. (λ s. leave-stop s ∙ sym (leave-bad (of_bits binary64 c.args.re) s (sym c.finite_bits.ensures ∙ c.if-finite_bits.false)))))

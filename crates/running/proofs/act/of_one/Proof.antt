@@ -4,8 +4,8 @@ use mathlib.Core.Path.{refl}
 use Rattle.running.proofs.act.of_one.Statement.{statement}
 use Rattle.running.proofs.act.of_one.Tie as tie
 
-pub of-one-spec : {M : Type 1} → statement M
-of-one-spec =
+pub of_one_spec : {M : Type 1} → statement M
+of_one_spec =
     tie.close
     (tie.spec
     (λ c. search rules)
@@ -16,10 +16,10 @@ of-one-spec =
     (λ c. search rules)
     (λ c κs. search rules)
     (λ c. search rules)
-    (λ c. rw c.enum_told.given.1 refl)
-    (λ c. rw c.enum-told2.given.1 refl)
-    (λ c. rw c.enum-told3.given.1 refl)
-    (λ c. rw c.enum-told4.given.1 refl)
-    (λ c. rw c.enum-told5.given.1 refl)
-    (λ c. rw c.before.enum-told6.given.1 c.square-root.ensures)
-    (λ c. rw c.enum-told7.given.1 refl))
+    (λ c. rw c.in-Identity.is refl)
+    (λ c. rw c.in-Pop.is refl)
+    (λ c. rw c.in-Dup.is refl)
+    (λ c. rw c.in-Neg.is refl)
+    (λ c. rw c.in-Not.is refl)
+    (λ c. rw c.in-Sqrt.is c.square_root.ensures)
+    (λ c. rw c.in-Reciprocal.is refl))

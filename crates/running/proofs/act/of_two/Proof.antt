@@ -4,8 +4,8 @@ use mathlib.Core.Path.{refl}
 use Rattle.running.proofs.act.of_two.Statement.{statement}
 use Rattle.running.proofs.act.of_two.Tie as tie
 
-pub of-two-spec : {M : Type 1} → statement M
-of-two-spec =
+pub of_two_spec : {M : Type 1} → statement M
+of_two_spec =
     tie.close
     (tie.spec
     (λ c. search rules)
@@ -16,10 +16,10 @@ of-two-spec =
     (λ c. search rules)
     (λ c κs. search rules)
     (λ c. search rules)
-    (λ c. rw c.enum_told.given.1 refl)
-    (λ c. rw c.enum-told2.given.1 refl)
-    (λ c. rw c.enum-told3.given.1 refl)
-    (λ c. rw c.enum-told4.given.1 refl)
-    (λ c. rw c.enum-told5.given.1 refl)
-    (λ c. rw c.before.enum-told6.given.1 c.raise.ensures)
-    (λ c. rw c.enum-told7.given.1 refl))
+    (λ c. rw c.in-Flip.is refl)
+    (λ c. rw c.in-Add.is refl)
+    (λ c. rw c.in-Sub.is refl)
+    (λ c. rw c.in-Mul.is refl)
+    (λ c. rw c.in-Div.is refl)
+    (λ c. rw c.in-Pow.is c.raise.ensures)
+    (λ c. rw c.in-Over.is refl))

@@ -11,7 +11,7 @@ pub pair_spec : {M : Type 1} → statement M
 pair_spec =
     tie.close
     (tie.spec
-    (λ c. let a = c.before.before.args in (sym (two-few a.o a.stack.now a.n (omega arith)), tt))
+    (λ c. let a = c.args in (sym (two-few a.o a.stack.now a.n (omega arith)), tt))
     (λ c. search rules)
     (λ c. search rules)
     (λ c. search rules)
@@ -21,6 +21,6 @@ pair_spec =
     (λ c κs. search rules)
     (λ c. search rules)
     (λ c.
-    let a = c.before.before.before.before.before.before.before.before.before.args in
-    let l = c.before.before.leave in
-    (l.ensures.0 ∙ sym (apply-two a.o a.stack.now a.n (omega arith) c.before.before.before.before.of_two.ensures), under_more l.result (omega arith) l.ensures.1)))
+    let a = c.args in
+    let l = c.leave in
+    (l.ensures.0 ∙ sym (apply-two a.o a.stack.now a.n (omega arith) c.of_two-l.ensures), under_more l.result (omega arith) l.ensures.1)))

@@ -6,8 +6,8 @@ use Rattle.running.specs.Contract.Views.{stack_of}
 use Rattle.running.proofs.act.perform.Statement.{statement}
 use Rattle.running.proofs.act.perform.Tie as tie
 
-pub perform-spec : {M : Type 1} → statement M
-perform-spec =
+pub perform_spec : {M : Type 1} → statement M
+perform_spec =
     tie.close
     (tie.spec
     (λ c. search rules)
@@ -27,21 +27,21 @@ perform-spec =
     (λ c κs. search rules)
     (λ c κs. search rules)
     (λ c. search rules)
-    (λ c. let o = c.before.before.single in (rw c.before.before.before.before.enum_told.given.1 o.ensures.0, o.ensures.1))
+    (λ c. let o = c.single in (rw c.in-Dup.is o.ensures.0, o.ensures.1))
     (λ c. search rules)
-    (λ c. let o = c.before.before.pair in (rw c.before.before.before.before.enum-told2.given.1 o.ensures.0, o.ensures.1))
+    (λ c. let o = c.pair in (rw c.in-Add.is o.ensures.0, o.ensures.1))
     (λ c. search rules)
-    (λ c. let o = c.before.before.pair2 in (rw c.before.before.before.before.enum-told3.given.1 o.ensures.0, o.ensures.1))
+    (λ c. let o = c.pair-in-Sub in (rw c.in-Sub.is o.ensures.0, o.ensures.1))
     (λ c. search rules)
-    (λ c. let o = c.before.before.pair3 in (rw c.before.before.before.before.enum-told4.given.1 o.ensures.0, o.ensures.1))
+    (λ c. let o = c.pair-in-Mul in (rw c.in-Mul.is o.ensures.0, o.ensures.1))
     (λ c. search rules)
-    (λ c. let o = c.before.before.pair4 in (rw c.before.before.before.before.enum-told5.given.1 o.ensures.0, o.ensures.1))
+    (λ c. let o = c.pair-in-Div in (rw c.in-Div.is o.ensures.0, o.ensures.1))
     (λ c. search rules)
-    (λ c. let o = c.before.before.pair5 in (rw c.before.before.before.before.enum-told6.given.1 o.ensures.0, o.ensures.1))
+    (λ c. let o = c.pair-in-Pow in (rw c.in-Pow.is o.ensures.0, o.ensures.1))
     (λ c. search rules)
-    (λ c. let o = c.before.before.pair6 in (rw c.before.before.before.before.enum-told7.given.1 o.ensures.0, o.ensures.1))
+    (λ c. let o = c.pair-in-Over in (rw c.in-Over.is o.ensures.0, o.ensures.1))
     (λ c. search rules)
     (λ c.
-    let a = c.before.before.before.before.before.before.before.args in
-    let o = c.before.before.apply in
-    (o.ensures.0 ∙ ap (λ w. apply w (stack_of a.stack.now a.n)) c.before.before.before.before.work-of.ensures, o.ensures.1)))
+    let a = c.args in
+    let o = c.apply in
+    (o.ensures.0 ∙ ap (λ w. apply w (stack_of a.stack.now a.n)) c.work_of.ensures, o.ensures.1)))

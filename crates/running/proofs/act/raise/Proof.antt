@@ -6,17 +6,17 @@ use Rattle.running.proofs.Laws.{power-other, power_zero, power-more}
 use Rattle.running.proofs.act.raise.Statement.{statement}
 use Rattle.running.proofs.act.raise.Tie as tie
 
-pub raise-spec : {M : Type 1} → statement M
-raise-spec =
+pub raise_spec : {M : Type 1} → statement M
+raise_spec =
     tie.close
     (tie.spec
     (λ c κs. search rules)
     (λ c. search rules)
     (λ c. search rules)
-    (λ c. sym (power-other _ _ (sym c.before.before.small-whole.ensures ∙ c.enum_told.given.1)))
-    (λ c. let g = c.before.before.n.given in sym (power_zero _ _ g.0.0 (sym c.before.before.before.before.small-whole.ensures ∙ g.1) c.if1.true))
+    (λ c. sym (power-other _ _ (sym c.small_whole.ensures ∙ c.in_default.is)))
+    (λ c. let g = c.n-1.given in sym (power_zero _ _ g.0.0 (sym c.small_whole.ensures ∙ g.1) c.if-n-eq0.true))
     (λ c κs. search rules)
     (λ c.
-    let g = c.before.before.before.n.given in
-    let a = c.before.before.before.before.before.before.args in
-    rw c.multiplied.ensures (sym (power-more a.b a.a g.0.0 (sym c.before.before.before.before.before.small-whole.ensures ∙ g.1) (omega (arith, c.before.if1.false))))))
+    let g = c.n-1.given in
+    let a = c.args in
+    rw c.multiplied.ensures (sym (power-more a.b a.a g.0.0 (sym c.small_whole.ensures ∙ g.1) (omega (arith, c.if-n-eq0.false))))))

@@ -63,170 +63,170 @@ walk_at t = and 2 walk-kinds.ps (is 2 walk-kinds.ps μ-walk t) walk.Pre
 abbrev walk-below : ℕ → In 2 walk-kinds.ps
 walk-below t = and 2 walk-kinds.ps (falls 2 walk-kinds.ps ◌<◌ μ-walk t) walk.Pre
 
-abbrev Inv : walk-lts.invariant-loop
+abbrev Inv : walk-lts.invariant-loop-at
 Inv list from to stack₀ held left at₀ cur₀ stack at cur =
     Ready list at to stack cur held left
     × (runs (forest list from to) from held (view_state stack₀ cur₀) ≡ runs (forest list at to) at held (view_state stack cur))
     × (cur.steps + (to - at) ≤ cur₀.steps + (to - from))
     × (length stack ≡ length stack₀)
 
-abbrev decreases-loop : walk-lts.decreases-loop
+abbrev decreases-loop : walk-lts.decreases-loop-at
 decreases-loop list from to stack₀ held left at₀ cur₀ stack at cur = to - at
 
-pub +modify-step-walk-spec : {M : Type 1} → statement M
-+modify-step-walk-spec =
+pub +modify_step_walk_spec : {M : Type 1} → statement M
++modify_step_walk_spec =
     close μ-modify μ-step μ-walk
     (λ t.
     modify-lts.spec (modifier-no-reads.Asked, modifier-no-reads.Learnt, count-nodes-reads.Asked, count-nodes-reads.Learnt, settled-reads.Asked, settled-reads.Learnt, walk-below t, walk.Post)
     (modify-at t)
     modify.Post
-    (λ c. omega (arith, c.before.before.requires.1.0.inside.few))
-    (λ c. omega (arith, c.before.before.before.requires.1.0.inside.few))
-    (λ c. omega (arith, c.before.before.before.requires.1.0.inside.few))
+    (λ c. omega (arith, c.requires.1.0.inside.few))
+    (λ c. omega (arith, c.requires.1.0.inside.few))
+    (λ c. omega (arith, c.requires.1.0.inside.few))
     (λ c κs. search rules)
-    (λ c. let a = c.before.before.before.before.before.before.args in (
+    (λ c. let a = c.args in (
       sym (other-modifier a.r (forest a.list.now (a.at + 1) (a.at + 1 + a.r.inside)) a.at a.held (view_state a.stack.now a.st)
-          (ne_eqb _ _ (λ e. c.if1.true (e ∙ sym c.before.before.modifier-no.ensures)))),
+          (ne_eqb _ _ (λ e. c.if-r-modifier_no.true (e ∙ sym c.modifier_no.ensures)))),
       tt,
     ))
-    (λ c. omega (arith, c.before.before.before.before.before.before.requires.1.0.inside.few))
-    (λ c κs. let x = c.before.before.before.before.before.before in (is_a x.args.r Modifier, x.args.left - 1, x.requires.1.0.inside))
-    (λ c. let a = c.before.before.before.before.before.before.before.before.args in (
+    (λ c. omega (arith, c.requires.1.0.inside.few))
+    (λ c κs. let x = c in (is_a x.args.r Modifier, x.args.left - 1, x.requires.1.0.inside))
+    (λ c. let a = c.args in (
       sym (not-one-body a.r (forest a.list.now (a.at + 1) (a.at + 1 + a.r.inside)) a.at a.held (view_state a.stack.now a.st)
-          (eq-eqb _ _ (c.before.before.if1.false ∙ c.before.before.before.before.modifier-no.ensures)) (ne_eqb _ _ (λ e. c.if2.true (c.before.count-nodes.ensures ∙ e)))),
+          (eq-eqb _ _ (c.if-r-modifier_no.false ∙ c.modifier_no.ensures)) (ne_eqb _ _ (λ e. c.if-count_nodes-ne1.true (c.count_nodes.ensures ∙ e)))),
       tt,
     ))
-    (λ c. let a = c.before.before.before.before.before.before.before.before.before.args in (
+    (λ c. let a = c.args in (
       sym (on-nothing a.r (forest a.list.now (a.at + 1) (a.at + 1 + a.r.inside)) a.at a.held a.st a.stack.now
-          (eq-eqb _ _ (c.before.before.before.if1.false ∙ c.before.before.before.before.before.modifier-no.ensures))
-          (eq-eqb _ _ (sym c.before.before.count-nodes.ensures ∙ c.before.if2.false)) c.if3.true),
+          (eq-eqb _ _ (c.if-r-modifier_no.false ∙ c.modifier_no.ensures))
+          (eq-eqb _ _ (sym c.count_nodes.ensures ∙ c.if-count_nodes-ne1.false)) c.if-n-eq0.true),
       tt,
     ))
     (λ c. omega arith)
     (λ c. search rules)
-    (λ c. let y = c.before.before.before.before.before.before.before.before.before.before.requires.1.0 in omega (arith, y.values, y.room, y.adds, y.steps))
-    (λ c. omega (arith, c.before.before.before.before.before.before.before.before.before.before.requires.1.0.room))
-    (λ c κs. let y = c.before.before.before.before.before.before.before.before.before.before.requires.1.0 in (omega (arith, y.adds), omega (arith, y.steps, y.few)))
+    (λ c. let y = c.requires.1.0 in omega (arith, y.values, y.room, y.adds, y.steps))
+    (λ c. omega (arith, c.requires.1.0.room))
+    (λ c κs. let y = c.requires.1.0 in (omega (arith, y.adds), omega (arith, y.steps, y.few)))
     (λ c. search rules)
     (λ c. search rules)
     (λ c.
-    let q = c.before.before in
-    let a = q.before.before.before.before.before.before.before.before.before.before.before.args in
+    let q = c in
+    let a = q.args in
     let xs = a.stack.now in
     let ns = forest a.list.now (a.at + 1) (a.at + 1 + a.r.inside) in
-    let f = q.settled in
-    let on = eq-eqb _ _ (q.before.before.before.before.before.if1.false ∙ q.before.before.before.before.before.before.before.modifier-no.ensures) in
-    let one = sym q.before.before.before.before.count-nodes.ensures ∙ q.before.before.before.if2.false in
-    let e = on-held a.r ns a.at a.held a.st xs on (eq-eqb _ _ one) (omega (arith, q.before.before.if3.false)) f.result (f.ensures.0 xs) in
-    (sym (e ∙ after-refused xs f.result (then_back a.held a.at ns (stack_of xs a.st.n)) c.enum_told.given.1), room-refused _ _ _ c.enum_told.given.1))
+    let f = q.settled-first in
+    let on = eq-eqb _ _ (q.if-r-modifier_no.false ∙ q.modifier_no.ensures) in
+    let one = sym q.count_nodes.ensures ∙ q.if-count_nodes-ne1.false in
+    let e = on-held a.r ns a.at a.held a.st xs on (eq-eqb _ _ one) (omega (arith, q.if-n-eq0.false)) f.result (f.ensures.0 xs) in
+    (sym (e ∙ after-refused xs f.result (then_back a.held a.at ns (stack_of xs a.st.n)) c.in_default.is), room-refused _ _ _ c.in_default.is))
     (λ c.
-    let q = c.before.before.before.before in
-    let x = q.before.before.before.before.before.before.before.before.before.before.before in
+    let q = c in
+    let x = q in
     let a = x.args in
     let y = x.requires.1.0 in
-    let f = q.settled in
-    let d = c.before.before.first.given in
+    let f = q.settled-first in
+    let d = c.first-1.given in
     let i = room-done (a.held + 1) (a.st.steps + 1) f.result d.1 f.ensures.1 in
     omega (arith, i.2, y.steps, y.few))
-    (λ c. omega (arith, c.before.before.before.before.before.before.before.before.before.before.before.before.before.before.before.requires.1.0.inside.few))
-    (λ c. omega (arith, c.before.before.before.before.before.before.before.before.before.before.before.before.before.before.before.before.requires.1.0.room))
+    (λ c. omega (arith, c.requires.1.0.inside.few))
+    (λ c. omega (arith, c.requires.1.0.room))
     (λ c.
-    let q = c.before.before.before.before.before in
-    let x = q.before.before.before.before.before.before.before.before.before.before.before in
+    let q = c in
+    let x = q in
     let y = x.requires.1.0 in
-    omega (arith, (body-levels y x.requires.1.1 (sym q.before.before.before.before.count-nodes.ensures ∙ q.before.before.before.if2.false)).0))
+    omega (arith, (body-levels y x.requires.1.1 (sym q.count_nodes.ensures ∙ q.if-count_nodes-ne1.false)).0))
     (λ c κs.
-    let q = c.before.before.before.before.before in
-    let x = q.before.before.before.before.before.before.before.before.before.before.before in
+    let q = c in
+    let x = q in
     let a = x.args in
     let y = x.requires.1.0 in
-    let f = q.settled in
-    let d = c.before.before.before.first.given in
+    let f = q.settled-first in
+    let d = c.first-1.given in
     let i = room-done (a.held + 1) (a.st.steps + 1) f.result d.1 f.ensures.1 in
-    let one = sym q.before.before.before.before.count-nodes.ensures ∙ q.before.before.before.if2.false in
+    let one = sym q.count_nodes.ensures ∙ q.if-count_nodes-ne1.false in
     (omega (arith, x.requires.0, (body-levels y x.requires.1.1 one).0), ready-body y x.requires.1.1 one _ (i.0, omega (arith, i.1), omega (arith, i.2))))
     (λ c. search rules)
     (λ c. search rules)
-    (λ c. c.before.before.before.before.walk.auto.1.1.1.0)
+    (λ c. c.walk-ran.auto.1.1.1.0)
     (λ c.
-    let v = c.before.before.before.before in
-    let w = v.walk in
-    let d = v.before.before.before.before.first.given in
-    let q = v.before.before.before.before.before.before in
-    let x = q.before.before.before.before.before.before.before.before.before.before.before in
+    let v = c in
+    let w = v.walk-ran in
+    let d = v.first-1.given in
+    let q = v in
+    let x = q in
     let a = x.args in
     let y = x.requires.1.0 in
-    let f = q.settled in
+    let f = q.settled-first in
     let xs = a.stack.now in
     let b = stack_of xs a.st.n in
-    let on = eq-eqb _ _ (q.before.before.before.before.before.if1.false ∙ q.before.before.before.before.before.before.before.modifier-no.ensures) in
-    let one = sym q.before.before.before.before.count-nodes.ensures ∙ q.before.before.before.if2.false in
-    let e = on-begun y x.requires.1.1 one on (omega (arith, q.before.before.if3.false)) f.result (f.ensures.0 xs) d.1 in (
-      sym (e ∙ ap (λ z. and_then z (give_back b)) (sym w.ensures.0) ∙ after-refused w.new.1.1.1.0 w.result (give_back b) c.enum-told2.given.1),
-      room-refused _ _ _ c.enum-told2.given.1,
+    let on = eq-eqb _ _ (q.if-r-modifier_no.false ∙ q.modifier_no.ensures) in
+    let one = sym q.count_nodes.ensures ∙ q.if-count_nodes-ne1.false in
+    let e = on-begun y x.requires.1.1 one on (omega (arith, q.if-n-eq0.false)) f.result (f.ensures.0 xs) d.1 in (
+      sym (e ∙ ap (λ z. and_then z (give_back b)) (sym w.ensures.0) ∙ after-refused w.new.1.1.1.0 w.result (give_back b) c.in_default-ran.is),
+      room-refused _ _ _ c.in_default-ran.is,
     ))
     (λ c.
-    let v = c.before.before.before.before.before in
-    let w = v.walk in
-    let d = v.before.before.before.before.first.given in
-    let q = v.before.before.before.before.before.before in
-    let x = q.before.before.before.before.before.before.before.before.before.before.before in
+    let v = c in
+    let w = v.walk-ran in
+    let d = v.first-1.given in
+    let q = v in
+    let x = q in
     let a = x.args in
     let y = x.requires.1.0 in
-    let f = q.settled in
+    let f = q.settled-first in
     let i = room-done (a.held + 1) (a.st.steps + 1) f.result d.1 f.ensures.1 in
-    let m = room-done (a.held + 1) (d.0.0.steps + 1 + (a.at + 1 + a.r.inside - (a.at + 2))) w.result c.before.ran.given.1 w.ensures.1 in
-    let u = (body-levels y x.requires.1.1 (sym q.before.before.before.before.count-nodes.ensures ∙ q.before.before.before.if2.false)).1 in
+    let m = room-done (a.held + 1) (d.0.0.steps + 1 + (a.at + 1 + a.r.inside - (a.at + 2))) w.result c.in-Done-ran.is w.ensures.1 in
+    let u = (body-levels y x.requires.1.1 (sym q.count_nodes.ensures ∙ q.if-count_nodes-ne1.false)).1 in
     omega (arith, m.0, m.1, m.2, i.2, w.auto.1.1.1.0, y.values, y.steps))
     (λ c.
-    let v = c.before.before.before.before.before in
-    let w = v.walk in
-    let d = v.before.before.before.before.first.given in
-    let q = v.before.before.before.before.before.before in
-    let x = q.before.before.before.before.before.before.before.before.before.before.before in
+    let v = c in
+    let w = v.walk-ran in
+    let d = v.first-1.given in
+    let q = v in
+    let x = q in
     let a = x.args in
     let y = x.requires.1.0 in
-    let f = q.settled in
+    let f = q.settled-first in
     let i = room-done (a.held + 1) (a.st.steps + 1) f.result d.1 f.ensures.1 in
-    let m = room-done (a.held + 1) (d.0.0.steps + 1 + (a.at + 1 + a.r.inside - (a.at + 2))) w.result c.before.ran.given.1 w.ensures.1 in
-    let u = (body-levels y x.requires.1.1 (sym q.before.before.before.before.count-nodes.ensures ∙ q.before.before.before.if2.false)).1 in
+    let m = room-done (a.held + 1) (d.0.0.steps + 1 + (a.at + 1 + a.r.inside - (a.at + 2))) w.result c.in-Done-ran.is w.ensures.1 in
+    let u = (body-levels y x.requires.1.1 (sym q.count_nodes.ensures ∙ q.if-count_nodes-ne1.false)).1 in
     omega (arith, m.0, m.1, m.2, i.2, w.auto.1.1.1.0, y.values, y.steps))
     (λ c.
-    let v = c.before.before.before.before.before in
-    let w = v.walk in
-    let d = v.before.before.before.before.first.given in
-    let q = v.before.before.before.before.before.before in
-    let x = q.before.before.before.before.before.before.before.before.before.before.before in
+    let v = c in
+    let w = v.walk-ran in
+    let d = v.first-1.given in
+    let q = v in
+    let x = q in
     let a = x.args in
     let y = x.requires.1.0 in
-    let f = q.settled in
+    let f = q.settled-first in
     let i = room-done (a.held + 1) (a.st.steps + 1) f.result d.1 f.ensures.1 in
-    let m = room-done (a.held + 1) (d.0.0.steps + 1 + (a.at + 1 + a.r.inside - (a.at + 2))) w.result c.before.ran.given.1 w.ensures.1 in
-    let u = (body-levels y x.requires.1.1 (sym q.before.before.before.before.count-nodes.ensures ∙ q.before.before.before.if2.false)).1 in
+    let m = room-done (a.held + 1) (d.0.0.steps + 1 + (a.at + 1 + a.r.inside - (a.at + 2))) w.result c.in-Done-ran.is w.ensures.1 in
+    let u = (body-levels y x.requires.1.1 (sym q.count_nodes.ensures ∙ q.if-count_nodes-ne1.false)).1 in
     omega (arith, m.0, m.1, m.2, i.2, w.auto.1.1.1.0, y.values, y.steps))
-    (λ c. simp length-set c.before.before.before.before.before.walk.auto.1.1.1.0)
+    (λ c. simp length-set c.walk-ran.auto.1.1.1.0)
     (λ c.
-    let v = c.before.before.before.before.before in
-    let w = v.walk in
-    let d = v.before.before.before.before.first.given in
-    let q = v.before.before.before.before.before.before in
-    let x = q.before.before.before.before.before.before.before.before.before.before.before in
+    let v = c in
+    let w = v.walk-ran in
+    let d = v.first-1.given in
+    let q = v in
+    let x = q in
     let a = x.args in
     let y = x.requires.1.0 in
-    let f = q.settled in
+    let f = q.settled-first in
     let xs = a.stack.now in
     let b = stack_of xs a.st.n in
-    let on = eq-eqb _ _ (q.before.before.before.before.before.if1.false ∙ q.before.before.before.before.before.before.before.modifier-no.ensures) in
-    let one = sym q.before.before.before.before.count-nodes.ensures ∙ q.before.before.before.if2.false in
-    let e = on-begun y x.requires.1.1 one on (omega (arith, q.before.before.if3.false)) f.result (f.ensures.0 xs) d.1 in
+    let on = eq-eqb _ _ (q.if-r-modifier_no.false ∙ q.modifier_no.ensures) in
+    let one = sym q.count_nodes.ensures ∙ q.if-count_nodes-ne1.false in
+    let e = on-begun y x.requires.1.1 one on (omega (arith, q.if-n-eq0.false)) f.result (f.ensures.0 xs) d.1 in
     let i = room-done (a.held + 1) (a.st.steps + 1) f.result d.1 f.ensures.1 in
-    let m = room-done (a.held + 1) (d.0.0.steps + 1 + (a.at + 1 + a.r.inside - (a.at + 2))) w.result c.before.ran.given.1 w.ensures.1 in
-    let g = c.before.ran.given in
+    let m = room-done (a.held + 1) (d.0.0.steps + 1 + (a.at + 1 + a.r.inside - (a.at + 2))) w.result c.in-Done-ran.is w.ensures.1 in
+    let g = c.ran-1.given in
     let ys = w.new.1.1.1.0 in
     let u = (body-levels y x.requires.1.1 one).1 in
     let k : g.0.0.n < length ys = omega (arith, m.0, m.1, m.2, i.2, w.auto.1.1.1.0, y.values, y.steps) in (
       sym (e ∙ ap (λ z. and_then z (give_back b)) (sym w.ensures.0) ∙ after-done ys w.result (give_back b) g.1
-          ∙ back-stack xs a.st.n (omega (arith, q.before.before.if3.false)) ys g.0.0 k),
+          ∙ back-stack xs a.st.n (omega (arith, q.if-n-eq0.false)) ys g.0.0 k),
       (omega (arith, m.0), omega (arith, m.1), omega (arith, m.2, i.2)),
     )))
     (λ t.
@@ -237,41 +237,41 @@ pub +modify-step-walk-spec : {M : Type 1} → statement M
     (λ c. search rules)
     (λ c κs. search rules)
     (λ c. search rules)
-    (λ c. let y = c.before.before.before.before.before.before.requires.1.0 in omega (arith, y.steps, y.few))
-    (λ c. omega (arith, c.before.before.before.before.before.before.requires.1.0.inside.few))
-    (λ c. omega (arith, c.before.before.before.before.before.before.requires.1.0.inside.few))
-    (λ c. omega (arith, c.before.before.before.before.before.before.before.requires.1.0.inside.few))
-    (λ c. omega (arith, c.before.before.before.before.before.before.before.requires.1.0.inside.few))
-    (λ c. omega (arith, c.before.before.before.before.before.before.before.before.requires.1.0.levels))
-    (λ c κs. let x = c.before.before.before.before.before.before.before.before in (omega (arith, x.requires.0, x.requires.1.0.levels), ready-in x.requires.1.0 _ refl refl))
+    (λ c. let y = c.requires.1.0 in omega (arith, y.steps, y.few))
+    (λ c. omega (arith, c.requires.1.0.inside.few))
+    (λ c. omega (arith, c.requires.1.0.inside.few))
+    (λ c. omega (arith, c.requires.1.0.inside.few))
+    (λ c. omega (arith, c.requires.1.0.inside.few))
+    (λ c. omega (arith, c.requires.1.0.levels))
+    (λ c κs. let x = c in (omega (arith, x.requires.0, x.requires.1.0.levels), ready-in x.requires.1.0 _ refl refl))
     (λ c. search rules)
     (λ c κs.
-    let x = c.before.before.before.before.before.before in
-    (omega (arith, x.requires.0), (x.requires.1.0, modifier-kind x.args.r.kind (sym c.before.before.before.Way-of.ensures ∙ c.before.enum-told2.given.1))))
+    let x = c in
+    (omega (arith, x.requires.0), (x.requires.1.0, modifier-kind x.args.r.kind (sym c.Way-of.ensures ∙ c.in-Modifies.is))))
     (λ c.
-    let x = c.before.before.before.before.before.before.before in
+    let x = c in
     let a = x.args in
-    let g = c.before.before.d.given in
-    let w = sym c.before.before.before.before.Way-of.ensures ∙ g.1 in
+    let g = c.d-1.given in
+    let w = sym c.Way-of.ensures ∙ g.1 in
     let p = other-refuses a.r.kind x.requires.1.1 g.0.0 w in (
       sym (one-refused a.r (forest a.list.now (a.at + 1) (a.at + 1 + a.r.inside)) a.at a.held (view_state a.stack.now a.st) g.0.0 w p
-          ∙ ap (λ q. refused_at q a.at) (sym (c.refusal-of.ensures p.0 p.1))),
+          ∙ ap (λ q. refused_at q a.at) (sym (c.refusal_of.ensures p.0 p.1))),
       tt,
     ))
-    (λ c. c.before.before.walk.auto.1.1.1.0)
+    (λ c. c.walk.auto.1.1.1.0)
     (λ c.
-    let a = c.before.before.before.before.before.before.before.before.before.before.before.args in
-    let w = c.before.before.walk in (
+    let a = c.args in
+    let w = c.walk in (
       w.ensures.0 ∙ sym (one-runs a.r (forest a.list.now (a.at + 1) (a.at + 1 + a.r.inside)) a.at a.held (view_state a.stack.now a.st)
-          (sym c.before.before.before.before.before.before.before.before.Way-of.ensures ∙ c.before.before.before.before.before.before.enum_told.given.1)),
+          (sym c.Way-of.ensures ∙ c.in-Runs.is)),
       room-more a.held w.result (omega arith) w.ensures.1,
     ))
-    (λ c. c.before.before.modify.auto.1.1.1.0)
+    (λ c. c.modify.auto.1.1.1.0)
     (λ c.
-    let a = c.before.before.before.before.before.before.before.before.before.args in
-    let w = c.before.before.modify in (
+    let a = c.args in
+    let w = c.modify in (
       w.ensures.0 ∙ sym (one-modifies a.r (forest a.list.now (a.at + 1) (a.at + 1 + a.r.inside)) a.at a.held (view_state a.stack.now a.st)
-          (sym c.before.before.before.before.before.before.Way-of.ensures ∙ c.before.before.before.before.enum-told2.given.1)),
+          (sym c.Way-of.ensures ∙ c.in-Modifies.is)),
       w.ensures.1,
     )))
     (λ t.
@@ -293,59 +293,59 @@ pub +modify-step-walk-spec : {M : Type 1} → statement M
     walk.Post
     Inv
     decreases-loop
-    (λ c. (c.before.before.requires.1, refl, omega arith, refl))
-    (λ c κs. omega (arith, c.before.loop.invariant.0.stretch.1.room))
+    (λ c. (c.requires.1, refl, omega arith, refl))
+    (λ c κs. omega (arith, c.loop-at.invariant.0.stretch.1.room))
     (λ c κs. search rules)
-    (λ c κs. sym c.before.is_plain.ensures ∙ c.if1.true)
-    (λ c κs. (values-in c.before.before.before.before.before.before.loop.invariant.0 (omega arith) c.before.before.before.before.record-at.ensures.0).0)
+    (λ c κs. sym c.is_plain.ensures ∙ c.if-is_plain.true)
+    (λ c κs. (values-in c.loop-at.invariant.0 (omega arith) c.record_at-r.ensures.0).0)
     (λ c κs.
-    let v = c.before.before in
-    let o = v.act in
-    let r = v.before.before.before.before.before.record-at in
-    let l = v.before.before.before.before.before.before.before.loop in
-    let h : ℕ = v.before.before.before.before.before.before.before.before.before.before.args.held in (
-      act-within v.before.before.deed-of.result r.result l.stack o.new.1.1.0 l.cur.n h (l.cur.steps + 2) o.result o.ensures.0 (omega (arith, l.invariant.0.adds)),
+    let v = c in
+    let o = v.act-did in
+    let r = v.record_at-r in
+    let l = v.loop-at in
+    let h : ℕ = v.args.held in (
+      act-within v.deed_of.result r.result l.stack o.new.1.1.0 l.cur.n h (l.cur.steps + 2) o.result o.ensures.0 (omega (arith, l.invariant.0.adds)),
       (values-in l.invariant.0 (omega arith) r.ensures.0).1,
     ))
     (λ c. search rules)
     (λ c. search rules)
-    (λ c. c.before.before.before.before.before.act.auto.1.1.0 ∙ c.before.before.before.before.before.before.before.before.before.before.before.before.loop.invariant.3)
+    (λ c. c.act-did.auto.1.1.0 ∙ c.loop-at.invariant.3)
     (λ c.
-    let v = c.before.before.before.before.before in
-    let a = v.before.before.before.before.before.before.before.before.before.before.args in
-    let l = v.before.before.before.before.before.before.before.loop in
+    let v = c in
+    let a = v.args in
+    let l = v.loop-at in
     let y = l.invariant.0 in
-    let r = v.before.before.before.before.before.record-at in
+    let r = v.record_at-r in
     let h : l.at < a.to = omega arith in
-    let z = plain-next y h r.ensures.0 (sym v.before.before.before.before.is_plain.ensures ∙ v.before.before.before.if1.true) in
-    let d = v.before.before.deed-of in
-    let o = v.act in
-    let s = c.before.before.settled in
+    let z = plain-next y h r.ensures.0 (sym v.is_plain.ensures ∙ v.if-is_plain.true) in
+    let d = v.deed_of in
+    let o = v.act-did in
+    let s = c.settled-ran in
     let ys = o.new.1.1.0 in
     let f = runs (forest a.list.now (l.at + 1) a.to) (l.at + 1) a.held in
     let ns = forest a.list.now (l.at + 1) (l.at + 1 + r.result.inside) in
     let e = l.invariant.1 ∙ turn y h r.ensures.0 (l.at + 1) z ys s.result
     (acted r.result ns l.at a.held l.cur l.stack ys d.result d.ensures o.result o.ensures.0 s.result (s.ensures.0 ys)) in
-    (sym (e ∙ after-refused ys s.result f c.enum_told.given.1), room-refused _ _ _ c.enum_told.given.1))
-    (λ c. omega (arith, c.before.before.before.before.before.before.before.before.before.before.before.before.before.loop.invariant.0.stretch.1.few))
+    (sym (e ∙ after-refused ys s.result f c.in_default.is), room-refused _ _ _ c.in_default.is))
+    (λ c. omega (arith, c.loop-at.invariant.0.stretch.1.few))
     (λ c. omega arith)
     (λ c.
-    let v = c.before.before.before.before.before.before in
-    let a = v.before.before.before.before.before.before.before.before.before.before.args in
-    let l = v.before.before.before.before.before.before.before.loop in
+    let v = c in
+    let a = v.args in
+    let l = v.loop-at in
     let y = l.invariant.0 in
-    let r = v.before.before.before.before.before.record-at in
+    let r = v.record_at-r in
     let h : l.at < a.to = omega arith in
-    let z = plain-next y h r.ensures.0 (sym v.before.before.before.before.is_plain.ensures ∙ v.before.before.before.if1.true) in
-    let d = v.before.before.deed-of in
-    let o = v.act in
-    let s = c.before.before.before.settled in
+    let z = plain-next y h r.ensures.0 (sym v.is_plain.ensures ∙ v.if-is_plain.true) in
+    let d = v.deed_of in
+    let o = v.act-did in
+    let s = c.settled-ran in
     let ys = o.new.1.1.0 in
     let f = runs (forest a.list.now (l.at + 1) a.to) (l.at + 1) a.held in
     let ns = forest a.list.now (l.at + 1) (l.at + 1 + r.result.inside) in
     let e = l.invariant.1 ∙ turn y h r.ensures.0 (l.at + 1) z ys s.result
     (acted r.result ns l.at a.held l.cur l.stack ys d.result d.ensures o.result o.ensures.0 s.result (s.ensures.0 ys)) in
-    let g = c.before.ran.given in
+    let g = c.ran-1.given in
     let m = room-done a.held (l.cur.steps + 1) s.result g.1 s.ensures.1 in (
       ready-next y h r.ensures.0 (l.at + 1) z ys o.auto.1.1.0 g.0.0 (m.0, m.1, omega (arith, m.2)),
       e ∙ after-done ys s.result f g.1,
@@ -353,59 +353,59 @@ pub +modify-step-walk-spec : {M : Type 1} → statement M
       o.auto.1.1.0 ∙ l.invariant.3,
     ))
     (λ c κs.
-    let l = c.before.before.before.before.before.loop in
-    let r = c.before.before.before.record-at in
-    let p = sym c.before.before.is_plain.ensures ∙ c.before.if1.false in
-    (omega (arith, c.before.before.before.before.before.before.before.before.requires.0), (ready-one l.invariant.0 (omega arith) r.ensures.0, p)))
+    let l = c.loop-at in
+    let r = c.record_at-r in
+    let p = sym c.is_plain.ensures ∙ c.if-is_plain.false in
+    (omega (arith, c.requires.0), (ready-one l.invariant.0 (omega arith) r.ensures.0, p)))
     (λ c. search rules)
     (λ c. search rules)
-    (λ c. c.before.before.before.before.step.auto.1.1.1.0 ∙ c.before.before.before.before.before.before.before.before.before.before.loop.invariant.3)
+    (λ c. c.step-ran.auto.1.1.1.0 ∙ c.loop-at.invariant.3)
     (λ c.
-    let v = c.before.before.before.before in
-    let a = v.before.before.before.before.before.before.before.before.before.args in
-    let l = v.before.before.before.before.before.before.loop in
+    let v = c in
+    let a = v.args in
+    let l = v.loop-at in
     let y = l.invariant.0 in
-    let r = v.before.before.before.before.record-at in
+    let r = v.record_at-r in
     let h : l.at < a.to = omega arith in
-    let o = v.step in
+    let o = v.step-ran in
     let ys = o.new.1.1.1.0 in
     let x : ℕ = l.at + 1 + r.result.inside in
     let f = runs (forest a.list.now x a.to) x a.held in
     let e = l.invariant.1 ∙ turn y h r.ensures.0 x refl ys o.result o.ensures.0 in
-    (sym (e ∙ after-refused ys o.result f c.enum-told2.given.1), room-refused _ _ _ c.enum-told2.given.1))
-    (λ c. omega (arith, c.before.before.before.before.before.before.before.before.before.before.before.loop.invariant.0.stretch.1.few))
+    (sym (e ∙ after-refused ys o.result f c.in_default-ran.is), room-refused _ _ _ c.in_default-ran.is))
+    (λ c. omega (arith, c.loop-at.invariant.0.stretch.1.few))
     (λ c.
-    let l = c.before.before.before.before.before.before.before.before.before.before.before.before.loop in
-    omega (arith, next-in l.invariant.0 (omega arith) c.before.before.before.before.before.before.before.before.before.before.record-at.ensures.0, l.invariant.0.stretch.1.few))
+    let l = c.loop-at in
+    omega (arith, next-in l.invariant.0 (omega arith) c.record_at-r.ensures.0, l.invariant.0.stretch.1.few))
     (λ c.
-    let l = c.before.before.before.before.before.before.before.before.before.before.before.before.loop in
-    omega (arith, next-in l.invariant.0 (omega arith) c.before.before.before.before.before.before.before.before.before.before.record-at.ensures.0, l.invariant.0.stretch.1.few))
+    let l = c.loop-at in
+    omega (arith, next-in l.invariant.0 (omega arith) c.record_at-r.ensures.0, l.invariant.0.stretch.1.few))
     (λ c.
-    let l = c.before.before.before.before.before.before.before.before.before.before.before.before.loop in
-    omega (arith, next-in l.invariant.0 (omega arith) c.before.before.before.before.before.before.before.before.before.before.record-at.ensures.0))
+    let l = c.loop-at in
+    omega (arith, next-in l.invariant.0 (omega arith) c.record_at-r.ensures.0))
     (λ c.
-    let v = c.before.before.before.before.before.before in
-    let a = v.before.before.before.before.before.before.before.before.before.args in
-    let l = v.before.before.before.before.before.before.loop in
+    let v = c in
+    let a = v.args in
+    let l = v.loop-at in
     let y = l.invariant.0 in
-    let r = v.before.before.before.before.record-at in
+    let r = v.record_at-r in
     let h : l.at < a.to = omega arith in
-    let o = v.step in
+    let o = v.step-ran in
     let ys = o.new.1.1.1.0 in
     let x : ℕ = l.at + 1 + r.result.inside in
     let f = runs (forest a.list.now x a.to) x a.held in
     let e = l.invariant.1 ∙ turn y h r.ensures.0 x refl ys o.result o.ensures.0 in
-    let g = c.before.before.ran2.given in
+    let g = c.ran-in-Done-ran-2-1.given in
     let m = room-done a.held (l.cur.steps + 1 + r.result.inside) o.result g.1 o.ensures.1 in (
       ready-next y h r.ensures.0 x refl ys o.auto.1.1.1.0 g.0.0 m,
       e ∙ after-done ys o.result f g.1,
       omega (arith, m.2, next-in y h r.ensures.0, l.invariant.2),
       o.auto.1.1.1.0 ∙ l.invariant.3,
     ))
-    (λ c. c.before.loop.invariant.3)
+    (λ c. c.loop-at.invariant.3)
     (λ c.
-    let l = c.before.loop in
-    let a = c.before.before.before.before.args in (
+    let l = c.loop-at in
+    let a = c.args in (
       sym (l.invariant.1 ∙ runs_none a.list.now l.at a.to l.at a.held (view_state l.stack l.cur) (omega arith)),
       (l.invariant.0.room, l.invariant.0.adds, omega (arith, l.invariant.2)),
     )))

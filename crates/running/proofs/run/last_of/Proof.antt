@@ -8,23 +8,23 @@ use Rattle.running.proofs.Laws.{ended-none, ended-one, ended-many}
 use Rattle.running.proofs.run.last_of.Statement.{statement}
 use Rattle.running.proofs.run.last_of.Tie as tie
 
-pub last-of-spec : {M : Type 1} → statement M
-last-of-spec =
+pub last_of_spec : {M : Type 1} → statement M
+last_of_spec =
     tie.close
     (tie.spec
     (λ c. search rules)
     (λ c. search rules)
     (λ c.
-    let a = c.before.before.before.before.before.args in
-    let g = c.before.before.before.ran2.given in
-    sym (ap (λ o. ended (view_ran a.stack.now o)) g.1 ∙ ended-none a.stack.now g.0.0 c.if1.true))
+    let a = c.args in
+    let g = c.ran-in-Done-1.given in
+    sym (ap (λ o. ended (view_ran a.stack.now o)) g.1 ∙ ended-none a.stack.now g.0.0 c.if-st-eq0.true))
     (λ c. search rules)
     (λ c.
-    let a = c.before.before.before.before.before.before.before.before.args in
-    let g = c.before.before.before.before.before.before.ran2.given in
-    sym (ap (λ o. ended (view_ran a.stack.now o)) g.1 ∙ ended-one a.stack.now g.0.0 c.before.if2.true))
-    (λ c. rw c.before.ran.given.1)
+    let a = c.args in
+    let g = c.ran-in-Done-1.given in
+    sym (ap (λ o. ended (view_ran a.stack.now o)) g.1 ∙ ended-one a.stack.now g.0.0 c.if-st-eq1.true))
+    (λ c. rw c.in-Refused.is)
     (λ c.
-    let a = c.before.before.before.before.before.before.before.args in
-    let g = c.before.before.before.before.before.ran2.given in
-    sym (ap (λ o. ended (view_ran a.stack.now o)) g.1 ∙ ended-many a.stack.now g.0.0 (omega (arith, c.before.before.if1.false, c.if2.false)))))
+    let a = c.args in
+    let g = c.ran-in-Done-1.given in
+    sym (ap (λ o. ended (view_ran a.stack.now o)) g.1 ∙ ended-many a.stack.now g.0.0 (omega (arith, c.if-st-eq0.false, c.if-st-eq1.false)))))

@@ -15,13 +15,13 @@ run_spec =
     (λ c. search rules)
     (λ c. search rules)
     (λ c κs. search rules)
-    (λ c. rw (← c.before.before.before.before.check.ensures.0, c.before.before.enum_told.given.1, ← c.before.is_finite.ensures, not-true c.before.is_finite.result c.if1.true))
-    (λ c κs. sym c.before.before.before.before.check.ensures.0 ∙ c.before.before.enum_told.given.1)
-    (λ c. rw (← c.before.before.before.check.ensures.0, c.before.q.given.1))
+    (λ c. rw (← c.check.ensures.0, c.in-Good.is, ← c.is_finite.ensures, not-true c.is_finite.result c.if-not-is_finite.true))
+    (λ c κs. sym c.check.ensures.0 ∙ c.in-Good.is)
+    (λ c. rw (← c.check.ensures.0, c.in-Refused.is))
     (λ c. rw (
-      ← c.before.before.before.before.before.check.ensures.0,
-      c.before.before.before.enum_told.given.1,
-      ← c.before.before.is_finite.ensures,
+      ← c.check.ensures.0,
+      c.in-Good.is,
+      ← c.is_finite.ensures,
       not-false
-          c.before.before.is_finite.result c.before.if1.false,
-    ) c.run-nodes.ensures))
+          c.is_finite.result c.if-not-is_finite.false,
+    ) c.run_nodes.ensures))

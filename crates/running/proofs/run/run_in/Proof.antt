@@ -18,24 +18,24 @@ x-alone : (xs : List Float) (x : Float) → 0 < length xs → view_state (set xs
 unfolding stack_of
 x-alone xs x h = ap (λ s. record { stack = s; steps = 0; peak = 1 }) (stack_push xs 0 x h)
 
-pub run-in-spec : {M : Type 1} → statement M
+pub run_in_spec : {M : Type 1} → statement M
 unfolding run_nodes parse
-run-in-spec =
+run_in_spec =
     tie.close
     (tie.spec
     (λ c. search rules)
     (λ c κs.
-    let a = c.before.before.before.args in
-    let p = c.before.before.before.requires in
+    let a = c.args in
+    let p = c.requires in
     rw p.1 (start-ready a.list.now p.0 (set a.stack.now 0 a.x) (simp length-set (omega arith)) _ refl refl))
     (λ c κs.
-    let a = c.before.before.before.before.before.before.before.args in
-    omega (arith, c.before.before.before.walk.auto.1.1.1.0, length-set a.stack.now 0 a.x, c.before.before.before.before.before.before.before.requires.2))
-    (λ c. let a = c.before.before.before.before.before.before.before.before.args in c.before.before.before.before.walk.auto.1.1.1.0 ∙ length-set a.stack.now 0 a.x)
+    let a = c.args in
+    omega (arith, c.walk-ran.auto.1.1.1.0, length-set a.stack.now 0 a.x, c.requires.2))
+    (λ c. let a = c.args in c.walk-ran.auto.1.1.1.0 ∙ length-set a.stack.now 0 a.x)
     (λ c.
-    let a = c.before.before.before.before.before.before.before.before.args in
-    let p = c.before.before.before.before.before.before.before.before.requires in
+    let a = c.args in
+    let p = c.requires in
     c.last_of.ensures
-    ∙ ap ended (c.before.before.before.before.walk.ensures.0
+    ∙ ap ended (c.walk-ran.ensures.0
     ∙ ap (λ n. runs (forest a.list.now 0 n) 0 0 (view_state (set a.stack.now 0 a.x) (record { n = 1; steps = 0; peak = 1 }))) p.1
     ∙ ap (runs (parse a.list.now) 0 0) (x-alone a.stack.now a.x (omega arith)))))

@@ -11,32 +11,32 @@ use Rattle.stack.proofs.leaf.apply.Statement.{statement}
 use Rattle.stack.proofs.leaf.apply.Tie as tie
 
 -- two are taken, where neither none nor one is
-two : (c : tie.Else2) → (row (primitive_of c.before.before.before.before.before.before.args.code)).taken ≡ 2
-two c = taken-two (primitive_of c.before.before.before.before.before.before.args.code) c.before.before.taken.ensures c.before.if1.false c.if2.false
+two : (c : tie.Else-taken-eq1) → (row (primitive_of c.args.code)).taken ≡ 2
+two c = taken-two (primitive_of c.args.code) c.taken-taken.ensures c.if-taken-eq0.false c.if-taken-eq1.false
 
-returns : tie.Need-returns
+returns : tie.Need-returns-then-taken-eq0
 returns c at complex pairs =
-    let args = c.before.before.before.before.before.before.before.before.before.before.args in
-    taken_none at (1152 - args.v) (primitive_of args.code) (sym c.before.before.before.before.before.before.taken.ensures ∙ c.before.before.before.before.before.if1.true)
+    let args = c.args in
+    taken_none at (1152 - args.v) (primitive_of args.code) (sym c.taken-taken.ensures ∙ c.if-taken-eq0.true)
     (does-stop (λ ss k. ap (ran_of at args.handled complex pairs) (c.halt.ensures ss k)))
 
-returns-2 : tie.Need-returns-2
+returns-2 : tie.Need-returns-then-taken-eq1
 returns-2 c at complex pairs =
-    let applied = c.before.before.before.before.before.before.before in
-    let tested = applied.before.before.before.before.before in
-    let known = tested.before.before in
-    let args = known.before.before.before.before.args in
-    taken-some at (1152 - args.v) (primitive_of args.code) 1 (sym known.taken.ensures ∙ tested.if2.true) (applied.one-operand.ensures at complex pairs)
+    let applied = c in
+    let tested = applied in
+    let known = tested in
+    let args = known.args in
+    taken-some at (1152 - args.v) (primitive_of args.code) 1 (sym known.taken-taken.ensures ∙ tested.if-taken-eq1.true) (applied.one_operand.ensures at complex pairs)
 
-returns-3 : tie.Need-returns-3
+returns-3 : tie.Need-returns
 returns-3 c at complex pairs =
-    let applied = c.before.before.before.before.before.before.before in
-    let tested = applied.before.before.before.before.before in
-    let args = tested.before.before.before.before.before.before.args in
+    let applied = c in
+    let tested = applied.before.before.before.before.before.before.before.before.before.before.before.before in
+    let args = tested.args in
     taken-some at (1152 - args.v) (primitive_of args.code) 2 (two tested) (applied.two_operands.ensures at complex pairs)
 
-pub apply-spec : {M : Type 1} → statement M
-apply-spec =
+pub apply_spec : {M : Type 1} → statement M
+apply_spec =
     tie.close
     (tie.spec
     (λ c κs. search rules)
@@ -52,7 +52,7 @@ apply-spec =
     (λ c. search rules)
     (λ c. search rules)
     returns-2
-    (λ c κs. (two c.before.before.before.before, c.before.before.before.before.before.before.before.before.before.before.requires))
+    (λ c κs. (two c.before.before.before.before, c.requires))
     (λ c. search rules)
     (λ c. search rules)
     (λ c. search rules)

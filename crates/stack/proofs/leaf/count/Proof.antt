@@ -9,7 +9,7 @@ pub count_spec : {M : Type 1} → statement M
 count_spec =
     tie.close
     (tie.spec
-    (λ c. rw (not-true c.before.args.more c.if1.true))
+    (λ c. rw (not-true c.args.more c.if-not-more.true))
     (λ c. search rules)
-    (λ c. rw (not-false c.before.before.args.more c.before.if1.false) (omega arith))
-    (λ c. rw (not-false c.before.before.args.more c.before.if1.false) (omega arith)))
+    (λ c. rw (not-false c.args.more c.if-not-more.false) (omega arith))
+    (λ c. rw (not-false c.args.more c.if-not-more.false) (omega arith)))

@@ -5,14 +5,14 @@ use Rattle.stack.specs.Contract.Acting.{handled_by}
 use Rattle.stack.proofs.leaf.counts.Statement.{statement}
 use Rattle.stack.proofs.leaf.counts.Tie as tie
 
-returns : tie.Need-returns
-returns c = c.counts-as.ensures ∙ ap (handled_by c.before.before.before.before.before.args.r) (sym c.before.before.k.given.1 ∙ c.before.before.before.before.kind-of.ensures)
+returns : tie.Need-returns-in-Known
+returns c = c.counts_as.ensures ∙ ap (handled_by c.args.r) (sym c.in-Known.is ∙ c.kind_of.ensures)
 
-returns-2 : tie.Need-returns-2
-returns-2 c = ap (handled_by c.before.before.before.args.r) (sym c.enum_told.given.1 ∙ c.before.before.kind-of.ensures)
+returns-2 : tie.Need-returns-in-Unknown
+returns-2 c = ap (handled_by c.args.r) (sym c.in-Unknown.is ∙ c.kind_of.ensures)
 
-pub counts-spec : {M : Type 1} → statement M
-counts-spec =
+pub counts_spec : {M : Type 1} → statement M
+counts_spec =
     tie.close
     (tie.spec
     (λ c κs. search rules)

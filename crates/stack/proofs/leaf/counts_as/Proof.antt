@@ -8,14 +8,14 @@ use Rattle.stack.proofs.leaf.Choices.{uncounted-but}
 use Rattle.stack.proofs.leaf.counts_as.Statement.{statement}
 use Rattle.stack.proofs.leaf.counts_as.Tie as tie
 
-returns : tie.Need-returns
-returns c = c.handled.ensures ∙ ap (λ (k : Kind). handled_by c.before.before.before.args.r (Known k)) (sym c.before.enum_told.given.1)
+returns : tie.Need-returns-in-Primitive
+returns c = c.handled.ensures ∙ ap (λ (k : Kind). handled_by c.args.r (Known k)) (sym c.in-Primitive.is)
 
-pub counts-as-spec : {M : Type 1} → statement M
-counts-as-spec =
+pub counts_as_spec : {M : Type 1} → statement M
+counts_as_spec =
     tie.close
     (tie.spec
     (λ c. search rules)
     (λ c κs. search rules)
     returns
-    (λ c. uncounted-but c.before.args.k _ c.match.keys2))
+    (λ c. uncounted-but c.args.k _ c.in_default.keys2))

@@ -5,14 +5,14 @@ use Rattle.stack.specs.Contract.Acting.{complex_by}
 use Rattle.stack.proofs.leaf.flags.Statement.{statement}
 use Rattle.stack.proofs.leaf.flags.Tie as tie
 
-returns : tie.Need-returns
-returns c = c.flags-as.ensures ∙ ap (complex_by c.before.before.before.before.before.args.r) (sym c.before.before.k.given.1 ∙ c.before.before.before.before.kind-of.ensures)
+returns : tie.Need-returns-in-Known
+returns c = c.flags_as.ensures ∙ ap (complex_by c.args.r) (sym c.in-Known.is ∙ c.kind_of.ensures)
 
-returns-2 : tie.Need-returns-2
-returns-2 c = ap (complex_by c.before.before.before.args.r) (sym c.enum_told.given.1 ∙ c.before.before.kind-of.ensures)
+returns-2 : tie.Need-returns-in-Unknown
+returns-2 c = ap (complex_by c.args.r) (sym c.in-Unknown.is ∙ c.kind_of.ensures)
 
-pub flags-spec : {M : Type 1} → statement M
-flags-spec =
+pub flags_spec : {M : Type 1} → statement M
+flags_spec =
     tie.close
     (tie.spec
     (λ c κs. search rules)

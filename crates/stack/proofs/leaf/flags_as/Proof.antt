@@ -10,14 +10,14 @@ use Rattle.stack.proofs.leaf.Choices.{same_number, of-no-kind}
 use Rattle.stack.proofs.leaf.flags_as.Statement.{statement}
 use Rattle.stack.proofs.leaf.flags_as.Tie as tie
 
-returns-2 : tie.Need-returns-2
+returns-2 : tie.Need-returns-in-Primitive
 returns-2 c =
-    let r = c.before.before.before.before.before.args.r in
-    same_number _ _ (primitive_of r.code) c.before.before.primitive-of.result Complex c.before.primitive-no.ensures c.before.before.primitive-of.ensures c.primitive-no2.ensures
-    ∙ ap (λ (k : Kind). complex_by r (Known k)) (sym c.before.before.before.enum-told2.given.1)
+    let r = c.args.r in
+    same_number _ _ (primitive_of r.code) c.primitive_of-p.result Complex c.primitive_no.ensures c.primitive_of-p.ensures c.primitive_no-in-Primitive.ensures
+    ∙ ap (λ (k : Kind). complex_by r (Known k)) (sym c.in-Primitive.is)
 
-pub flags-as-spec : {M : Type 1} → statement M
-flags-as-spec =
+pub flags_as_spec : {M : Type 1} → statement M
+flags_as_spec =
     tie.close
     (tie.spec
     (λ c. search rules)
@@ -27,4 +27,4 @@ flags-as-spec =
     (λ c κs. search rules)
     (λ c. search rules)
     returns-2
-    (λ c. of-no-kind c.before.args.k _ _ c.match.keys3))
+    (λ c. of-no-kind c.args.k _ _ c.in_default.keys3))

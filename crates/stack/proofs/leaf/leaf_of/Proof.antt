@@ -9,44 +9,44 @@ use Rattle.stack.proofs.leaf.Choices.{leaf-kind, leaf-real, leaf-complex, leaf-p
 use Rattle.stack.proofs.leaf.leaf_of.Statement.{statement}
 use Rattle.stack.proofs.leaf.leaf_of.Tie as tie
 
-returns : tie.Need-returns
+returns : tie.Need-returns-in-RealPush
 returns c at complex pairs =
-    let ran = c.before.before.before.before.before.before.before in
-    let told = ran.before.before.before.before.before in
-    let x = told.before.before.before.before.before.args in
+    let ran = c in
+    let told = ran in
+    let x = told.args in
     let h = 1152 - x.v in
-    leaf-kind at h x.r (ap Known (sym told.enum_told.given.1)) (leaf-real at h x.r (ran.push-number.ensures at complex pairs))
+    leaf-kind at h x.r (ap Known (sym told.in-RealPush.is)) (leaf-real at h x.r (ran.push_number.ensures at complex pairs))
 
-returns-2 : tie.Need-returns-2
+returns-2 : tie.Need-returns-in-ComplexPush
 returns-2 c at complex pairs =
-    let ran = c.before.before.before.before.before.before.before in
-    let told = ran.before.before.before.before.before in
-    let x = told.before.before.before.before.before.args in
+    let ran = c in
+    let told = ran in
+    let x = told.args in
     let h = 1152 - x.v in
-    leaf-kind at h x.r (ap Known (sym told.enum-told2.given.1)) (leaf-complex at h x.r (ran.push-number2.ensures at complex pairs))
+    leaf-kind at h x.r (ap Known (sym told.in-ComplexPush.is)) (leaf-complex at h x.r (ran.push_number-in-ComplexPush.ensures at complex pairs))
 
-returns-3 : tie.Need-returns-3
+returns-3 : tie.Need-returns-in-Primitive
 returns-3 c at complex pairs =
-    let ran = c.before.before.before.before.before.before.before in
-    let told = ran.before.before.before.before.before in
-    let x = told.before.before.before.before.before.args in
+    let ran = c in
+    let told = ran in
+    let x = told.args in
     let h = 1152 - x.v in
-    leaf-kind at h x.r (ap Known (sym told.enum-told3.given.1)) (leaf-primitive at h x.r (ran.apply.ensures at complex pairs))
+    leaf-kind at h x.r (ap Known (sym told.in-Primitive.is)) (leaf-primitive at h x.r (ran.apply.ensures at complex pairs))
 
-returns-4 : tie.Need-returns-4
+returns-4 : tie.Need-returns-in-UnderMarker
 returns-4 c at complex pairs =
-    let x = c.before.before.before.before.before.args in
+    let x = c.args in
     let h = 1152 - x.v in
-    leaf-kind at h x.r (ap Known (sym c.enum-told4.given.1)) (leaf-marker at h x.r (does-nothing _ _ _))
+    leaf-kind at h x.r (ap Known (sym c.in-UnderMarker.is)) (leaf-marker at h x.r (does-nothing _ _ _))
 
-returns-5 : tie.Need-returns-5
+returns-5 : tie.Need-returns-in_default
 returns-5 c at complex pairs =
-    let x = c.before.before.before.before.before.before.before.before.before.before.args in
-    leaf-refused at (1152 - x.v) x.r x.k c.before.before.before.before.before.before.match.keys5 c.before.before.before.before.before.why-not.ensures
+    let x = c.args in
+    leaf-refused at (1152 - x.v) x.r x.k c.in_default.keys5 c.why_not.ensures
     (does-stop (λ ss k. ap (ran_of at x.handled complex pairs) (c.halt.ensures ss k)))
 
-pub leaf-of-spec : {M : Type 1} → statement M
-leaf-of-spec =
+pub leaf_of_spec : {M : Type 1} → statement M
+leaf_of_spec =
     tie.close
     (tie.spec
     (λ c. search rules)

@@ -4,8 +4,8 @@ use Rattle.stack.proofs.leaf.Choices.{other-kind}
 use Rattle.stack.proofs.leaf.why_not.Statement.{statement}
 use Rattle.stack.proofs.leaf.why_not.Tie as tie
 
-pub why-not-spec : {M : Type 1} → statement M
-why-not-spec =
+pub why_not_spec : {M : Type 1} → statement M
+why_not_spec =
     tie.close
     (tie.spec
     (λ c. search rules)
@@ -14,4 +14,4 @@ why-not-spec =
     (λ c. search rules)
     (λ c. search rules)
     (λ c. search rules)
-    (λ c. other-kind c.before.args.k c.match.keys4))
+    (λ c. other-kind c.args.k c.in_default.keys4))

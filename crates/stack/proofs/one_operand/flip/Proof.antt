@@ -12,26 +12,26 @@ use Rattle.stack.proofs.one_operand.flip.Statement.{statement}
 use Rattle.stack.proofs.one_operand.flip.Tie as tie
 
 -- the book with the lower sum copied, and the arena with the upper one sunk
-abbrev B : tie.After-copy-within → Book
-B c = let last = c.copy_within.new in book last.0 last.1.0 last.1.1.0
+abbrev B : tie.After-copy_within → Book
+B c = let last = c.copy_within.new in book last.kinds last.insides last.numbers
 
 abbrev C : tie.After-sink → Arena
-C c = let last = c.sink.new in of (book last.0 last.1.0 last.1.1.0) last.1.1.1.0
+C c = let last = c.sink.new in of (book last.kinds last.insides last.numbers) last.sizes
 
 low : (c : tie.Start) → Below c.args.u c.args.n c.args.m
 low c = below c.requires.1.0 c.requires.1.1.1
 
-abbrev start : tie.After-copy-within → tie.Start
+abbrev start : tie.After-copy_within → tie.Start
 start c = c.before.before.before.before.before.before.before
 
-abbrev copied-of : tie.After-sink → tie.After-copy-within
+abbrev copied-of : tie.After-sink → tie.After-copy_within
 copied-of c = c.before.before.before.before.before.before.before.before.before.before
 
 -- the arena is as large as it was
-space : (c : tie.After-copy-within) → Space (of (B c) (start c).args.sizes.now) (start c).args.u
+space : (c : tie.After-copy_within) → Space (of (B c) (start c).args.sizes.now) (start c).args.u
 space c = space-same (kept-outside (start c).args.sizes.now (copied-kept c.copy_within.ensures)).long (start c).requires.0
 
-copy-within-requires : tie.Need-copy-within-requires
+copy-within-requires : tie.Need-copy_within-requires
 copy-within-requires c κs =
     let st = c.before.before.before.before.before.before in
     let b = low st in
@@ -55,15 +55,15 @@ bring-requires c κs =
 
 returns : tie.Need-returns
 returns c =
-    let brought = c.before.before.before.before.before.before.before in
+    let brought = c in
     let sunk = c.before.before.before.before.before.before.before.before.before.before.before.before.before.before.before.before.before.before.before in
     let copied = copied-of sunk in
     let st = start copied in
-    turned {b = B copied} st.args.u st.args.n st.args.m st.pre.0 st.pre.1.0 (low st) copied.copy_within.ensures sunk.sink.ensures
+    turned {b = B copied} st.args.u st.args.n st.args.m st.requires.0 st.requires.1.0 (low st) copied.copy_within.ensures sunk.sink.ensures
     brought.bring.ensures.0 brought.bring.ensures.1
 
-pub flip-spec : {M : Type 1} → statement M
-flip-spec =
+pub flip_spec : {M : Type 1} → statement M
+flip_spec =
     tie.close
     (tie.spec
     (λ c. let b = low c.before.before.before in omega arith)

@@ -28,35 +28,35 @@ A c = of (book c.args.kinds.now c.args.insides.now c.args.numbers.now) c.args.si
 top : (c : tie.Start) → Topmost (A c) c.args.used c.args.n c.requires.2.some.0.stack
 top c = topmost c.requires.1 c.requires.2.some.1.stack
 
-abbrev start : tie.After-form-one → tie.Start
+abbrev start : tie.After-form_one-f → tie.Start
 start c = c.before.before.before.before.before.before.before.before
 
 -- the arena with what was formed
-abbrev A' : tie.After-form-one → Arena
-A' c = let last = c.form-one.new in of (book last.0 last.1.0 last.1.1.0) (start c).args.sizes.now
+abbrev A' : tie.After-form_one-f → Arena
+A' c = let last = c.form_one-f.new in of (book last.kinds last.insides last.numbers) (start c).args.sizes.now
 
-worked : (c : tie.After-form-one) → Outside (A (start c)) (A' c) 0 128
-worked c = kept-outside (start c).args.sizes.now c.form-one.ensures.0
+worked : (c : tie.After-form_one-f) → Outside (A (start c)) (A' c) 0 128
+worked c = kept-outside (start c).args.sizes.now c.form_one-f.ensures.0
 
-formed : (c : tie.After-form-one) (s : Sum) → (let st = start c in Lies (A st).cells (st.args.used - st.args.n) (st.args.used - st.args.n + st.args.n) 4 s
-    → Agrees c.form-one.result (A' c).cells 0 (of_one (primitive_of st.args.code) s))
-formed c s l = subst (λ (p : Primitive). Agrees c.form-one.result (A' c).cells 0 (of_one p s)) c.before.before.before.before.primitive-of.ensures (c.form-one.ensures.1 s l)
+formed : (c : tie.After-form_one-f) (s : Sum) → (let st = start c in Lies (A st).cells (st.args.used - st.args.n) (st.args.used - st.args.n + st.args.n) 4 s
+    → Agrees c.form_one-f.result (A' c).cells 0 (of_one (primitive_of st.args.code) s))
+formed c s l = subst (λ (p : Primitive). Agrees c.form_one-f.result (A' c).cells 0 (of_one p s)) c.primitive_of-p.ensures (c.form_one-f.ensures.1 s l)
 
-form-one-requires : tie.Need-form-one-requires
+form-one-requires : tie.Need-form_one-f-requires
 form-one-requires c κs =
     let st = c.before.before.before.before.before.before.before in
     let x = (top st).one in
     let below = st.requires.2.some.1.below in
     (x.some, record { few = x.few; held = ((top st).s, x.lies); apart = over x.low }, room-less {n = st.args.v} (omega arith) st.requires.2.space.cells)
 
-push-formed-requires : tie.Need-push-formed-requires
+push-formed-requires : tie.Need-push_formed-requires
 push-formed-requires c κs =
     let made = c.before.before.before.before.before.before.before.before.before in
     let st = start made in
     let x = top st in
     let p = primitive_of st.args.code in (
-      filled made.form-one.result (A' made).cells (of_one p x.s) (λ r e. of-one-good p x.one.good e) (formed made x.s x.one.lies),
-      ready-working (worked made) (ready-popped st.pre.2 x.one.rest (omega arith)),
+      filled made.form_one-f.result (A' made).cells (of_one p x.s) (λ r e. of-one-good p x.one.good e) (formed made x.s x.one.lies),
+      ready-working (worked made) (ready-popped st.requires.2 x.one.rest (omega arith)),
     )
 
 returns : tie.Need-returns
@@ -64,11 +64,11 @@ returns c at complex pairs =
     let made = c.before.before.before.before.before.before.before.before.before.before.before.before.before.before.before.before.before in
     let st = start made in
     let p = primitive_of st.args.code in
-    let pushed = c.before.before.before.before.before.before.before.push-formed.ensures in
-    one-formed at (1152 - st.args.v) p st.pre.0 st.pre.2 st.pre.1 (worked made) (λ s l g. pushed (of_one p s) at (formed made s l) complex pairs)
+    let pushed = c.push_formed.ensures in
+    one-formed at (1152 - st.args.v) p st.requires.0 st.requires.2 st.requires.1 (worked made) (λ s l g. pushed (of_one p s) at (formed made s l) complex pairs)
 
-pub form-top-spec : {M : Type 1} → statement M
-form-top-spec =
+pub form_top_spec : {M : Type 1} → statement M
+form_top_spec =
     tie.close
     (tie.spec
     (λ c κs. search rules)

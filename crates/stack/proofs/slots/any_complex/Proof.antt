@@ -6,29 +6,29 @@ use Rattle.stack.proofs.slots.Counting.{Scanned, scanned-start, scanned-held, sc
 use Rattle.stack.proofs.slots.any_complex.Statement.{statement}
 use Rattle.stack.proofs.slots.any_complex.Tie as tie
 
-abbrev invariant-loop : tie.invariant-loop
+abbrev invariant-loop : tie.invariant-loop-p
 invariant-loop kinds insides numbers sizes u p₀ p = Scanned (of (book kinds insides numbers) sizes) u p
 
-abbrev decreases-loop : tie.decreases-loop
+abbrev decreases-loop : tie.decreases-loop-p
 decreases-loop kinds insides numbers sizes u p₀ p = p
 
-pub any-complex-spec : {M : Type 1} → statement M
-any-complex-spec =
+pub any_complex_spec : {M : Type 1} → statement M
+any_complex_spec =
     tie.close
     (tie.spec
     invariant-loop
     decreases-loop
-    (λ c. scanned-start c.before.before.before.requires.1)
+    (λ c. scanned-start c.requires.1)
     (λ c κs. (omega arith, omega arith))
-    (λ c. omega (arith, (scanned-held c.top-size.result c.before.before.loop.invariant c.before.loop-test.true c.top-size.ensures).0))
-    (λ c κs. (scanned-held c.top-size.result c.before.before.loop.invariant c.before.loop-test.true c.top-size.ensures).2)
+    (λ c. omega (arith, (scanned-held c.top_size-n.result c.loop-p.invariant c.loop-p-test.true c.top_size-n.ensures).0))
+    (λ c κs. (scanned-held c.top_size-n.result c.loop-p.invariant c.loop-p-test.true c.top_size-n.ensures).2)
     -- a sum that is complex
-    (λ c ss st. scanned-found c.before.before.top-size.result c.before.is-complex.result c.before.before.before.before.loop.invariant
-    c.before.before.before.loop-test.true c.before.before.top-size.ensures c.before.is-complex.ensures c.if1.true ss st)
+    (λ c ss st. scanned-found c.top_size-n.result c.is_complex.result c.loop-p.invariant
+    c.loop-p-test.true c.top_size-n.ensures c.is_complex.ensures c.if-is_complex.true ss st)
     -- one that is not
-    (λ c. let held = scanned-held c.before.before.top-size.result c.before.before.before.before.loop.invariant c.before.before.before.loop-test.true
-    c.before.before.top-size.ensures in omega (arith, held.0, held.1))
-    (λ c. scanned-past c.before.before.top-size.result c.before.is-complex.result c.before.before.before.before.loop.invariant c.before.before.before.loop-test.true
-    c.before.before.top-size.ensures c.before.is-complex.ensures c.if1.false)
+    (λ c. let held = scanned-held c.top_size-n.result c.loop-p.invariant c.loop-p-test.true
+    c.top_size-n.ensures in omega (arith, held.0, held.1))
+    (λ c. scanned-past c.top_size-n.result c.is_complex.result c.loop-p.invariant c.loop-p-test.true
+    c.top_size-n.ensures c.is_complex.ensures c.if-is_complex.false)
     -- nothing is left
-    (λ c ss st. scanned-end c.before.loop.invariant c.loop-test.false ss st))
+    (λ c ss st. scanned-end c.loop-p.invariant c.loop-p-test.false ss st))

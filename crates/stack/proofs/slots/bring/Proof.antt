@@ -7,17 +7,17 @@ use borrow.Author.Rules.{rules}
 use Rattle.stack.proofs.slots.bring.Statement.{statement}
 use Rattle.stack.proofs.slots.bring.Tie as tie
 
-copy-within-requires : tie.Need-copy-within-requires
-copy-within-requires c κs = let pre = c.before.before.before.before.before.before.requires in (room-less (omega arith) pre.3.cells, pre.3.cells, under pre.2)
+copy-within-requires : tie.Need-copy_within-requires
+copy-within-requires c κs = let pre = c.requires in (room-less (omega arith) pre.3.cells, pre.3.cells, under pre.2)
 
 returns : tie.Need-returns
 returns c =
-    let start = c.before.before.before.before.before.before.before.before.before.before.before.before in
+    let start = c in
     let pre = start.requires in
-    brought _ _ _ start.args.sizes.now c.before.before.before.before.before.copy_within.ensures pre.0 pre.1 pre.3
+    brought _ _ _ start.args.sizes.now c.copy_within.ensures pre.0 pre.1 pre.3
 
-pub bring-spec : {M : Type 1} → statement M
-bring-spec =
+pub bring_spec : {M : Type 1} → statement M
+bring_spec =
     tie.close
     (tie.spec
     copy-within-requires

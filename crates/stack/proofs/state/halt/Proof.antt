@@ -4,7 +4,7 @@ use Rattle.stack.proofs.state.halt.Statement.{statement}
 use Rattle.stack.proofs.state.halt.Tie as tie
 
 returns : tie.Need-returns
-returns c ss k = rw (c.any-complex.ensures ss k)
+returns c ss k = rw (c.any_complex-complex.ensures ss k)
 
-pub halt-spec : {M : Type 1} → statement M
-halt-spec = tie.close (tie.spec (λ c κs. search rules) returns)
+pub halt_spec : {M : Type 1} → statement M
+halt_spec = tie.close (tie.spec (λ c κs. search rules) returns)

@@ -10,29 +10,29 @@ use borrow.Author.Rules.{rules}
 use Rattle.stack.proofs.state.push_formed.Statement.{statement}
 use Rattle.stack.proofs.state.push_formed.Tie as tie
 
-push-cells-requires : tie.Need-push-cells-requires
+push-cells-requires : tie.Need-push_cells-requires
 push-cells-requires c κs =
-    let start = c.before.before.before.before.before.before.before.before.before.before in
-    let few = filled-done start.args.f c.before.before.before.before.before.f.given.0.0 c.before.before.before.before.before.f.given.1 start.requires.0 in
+    let start = c in
+    let few = filled-done start.args.f c.in-Done.n c.in-Done.is start.requires.0 in
     let low = stacked-le start.requires.1.some.1.stack in
     (few.0, few.1, omega arith, (start.args.handled, start.requires.1))
 
-returns : tie.Need-returns
+returns : tie.Need-returns-in-Done
 returns c o at g complex pairs =
-    let start = c.before.before.before.before.before.before.before.before.before.before.before.before.before.before.before.before.before.before in
-    let f = c.before.before.before.before.before.before.before.before.before.before.before.before.before.f.given in
-    let pushed = c.before.before.before.before.before.before.before.push-cells.ensures in
+    let start = c in
+    let f = c.f-1.given in
+    let pushed = c.push_cells.ensures in
     push-done _ at (1152 - start.args.v) f.0.0 start.args.f o f.1 (λ s l. pushed s l at start.args.handled complex pairs) g
 
-returns-2 : tie.Need-returns-2
+returns-2 : tie.Need-returns-in-Refused
 returns-2 c o at g complex pairs =
-    let start = c.before.before.before.before.before.before.before.before.before.before.before in
-    let f = c.before.before.before.before.before.before.f2.given in
+    let start = c in
+    let f = c.f-in-Refused-1.given in
     let halted = c.halt.ensures in
     push-refused _ at (1152 - start.args.v) f.0.0 start.args.f o f.1 (does-stop (λ ss k. ap (ran_of at start.args.handled complex pairs) (halted ss k))) g
 
-pub push-formed-spec : {M : Type 1} → statement M
-push-formed-spec =
+pub push_formed_spec : {M : Type 1} → statement M
+push_formed_spec =
     tie.close
     (tie.spec
     (λ c. search rules)

@@ -32,81 +32,81 @@ upper : (c : tie.Start) → Topmost (A c) c.args.used c.args.n c.requires.3.some
 upper c = topmost c.requires.1 c.requires.3.some.1.stack
 
 -- where the lower one's size is known
-abbrev start : tie.After-top-size → tie.Start
-start c = c.before.before.before.before.before.before
+abbrev start : tie.After-top_size-low → tie.Start
+start c = c.before.before.before.before.before
 
-tops : (c : tie.After-top-size) → Tops (A (start c)) (start c).args.used ((start c).args.n ∷ c.top-size.result ∷ [])
-tops c = tops-two (start c).requires.1 (tops-one {a = A (start c)} (start c).requires.2 c.top-size.ensures)
+tops : (c : tie.After-top_size-low) → Tops (A (start c)) (start c).args.used ((start c).args.n ∷ c.top_size-low.result ∷ [])
+tops c = tops-two (start c).requires.1 (tops-one {a = A (start c)} (start c).requires.2 c.top_size-low.ensures)
 
-both : (c : tie.After-top-size) → Pair (A (start c)) (start c).args.used (start c).args.n c.top-size.result (start c).requires.3.some.0.stack
+both : (c : tie.After-top_size-low) → Pair (A (start c)) (start c).args.used (start c).args.n c.top_size-low.result (start c).requires.3.some.0.stack
 both c = pair (tops c) (start c).requires.3.some.1.stack
 
-abbrev sized : tie.After-form-two → tie.After-top-size
+abbrev sized : tie.After-form_two-f → tie.After-top_size-low
 sized c = c.before.before.before.before
 
 -- the arena with what was formed
-abbrev A' : tie.After-form-two → Arena
-A' c = let last = c.form-two.new in of (book last.0 last.1.0 last.1.1.0) (start (sized c)).args.sizes.now
+abbrev A' : tie.After-form_two-f → Arena
+A' c = let last = c.form_two-f.new in of (book last.kinds last.insides last.numbers) (start (sized c)).args.sizes.now
 
-worked : (c : tie.After-form-two) → Outside (A (start (sized c))) (A' c) 0 128
-worked c = kept-outside (start (sized c)).args.sizes.now c.form-two.ensures.0
+worked : (c : tie.After-form_two-f) → Outside (A (start (sized c))) (A' c) 0 128
+worked c = kept-outside (start (sized c)).args.sizes.now c.form_two-f.ensures.0
 
-formed : (c : tie.After-form-two) (t s : Sum)
-    → (let st = start (sized c) in let low = (sized c).top-size.result in let up = st.args.used - st.args.n in let down = up - low in Lies (A st).cells down (down + low) 4 t
-    → Lies (A st).cells up (up + st.args.n) 4 s → Agrees c.form-two.result.formed (A' c).cells 0 (of_two (primitive_of st.args.code) t s)
-    × Counted c.form-two.result (pairs_of (primitive_of st.args.code) t s))
+formed : (c : tie.After-form_two-f) (t s : Sum)
+    → (let st = start (sized c) in let low = (sized c).top_size-low.result in let up = st.args.used - st.args.n in let down = up - low in Lies (A st).cells down (down + low) 4 t
+    → Lies (A st).cells up (up + st.args.n) 4 s → Agrees c.form_two-f.result.formed (A' c).cells 0 (of_two (primitive_of st.args.code) t s)
+    × Counted c.form_two-f.result (pairs_of (primitive_of st.args.code) t s))
 formed c t s lt ls =
-    subst (λ (p : Primitive). Agrees c.form-two.result.formed (A' c).cells 0 (of_two p t s) × Counted c.form-two.result (pairs_of p t s))
-    (sized c).before.before.primitive-of.ensures (c.form-two.ensures.1.0 t s lt ls, c.form-two.ensures.1.1 t s lt ls)
+    subst (λ (p : Primitive). Agrees c.form_two-f.result.formed (A' c).cells 0 (of_two p t s) × Counted c.form_two-f.result (pairs_of p t s))
+    (sized c).primitive_of-p.ensures (c.form_two-f.ensures.1.0 t s lt ls, c.form_two-f.ensures.1.1 t s lt ls)
 
-top-size-requires : tie.Need-top-size-requires
+top-size-requires : tie.Need-top_size-low-requires
 top-size-requires c κs =
-    let st = c.before.before.before.before.before in
+    let st = c in
     let some = st.requires.2 in
     let below = st.requires.3.some.1.below in
     let long = st.requires.3.space.sizes in
     (omega arith, omega arith)
 
-form-two-requires : tie.Need-form-two-requires
+form-two-requires : tie.Need-form_two-f-requires
 form-two-requires c κs =
     let st = start c.before.before.before in
     let x = both c.before.before.before in
     let first = x.first in
     let second = x.second in
-    let below = st.pre.3.some.1.below in (
+    let below = st.requires.3.some.1.below in (
       second.some,
       first.some,
       record { few = second.few; held = (x.t, second.lies); apart = over second.low },
       record { few = first.few; held = (x.s, first.lies); apart = over first.low },
-      room-less {n = st.args.v} (omega arith) st.pre.3.space.cells,
+      room-less {n = st.args.v} (omega arith) st.requires.3.space.cells,
     )
 
-push-formed-requires : tie.Need-push-formed-requires
+push-formed-requires : tie.Need-push_formed-put-requires
 push-formed-requires c κs =
     let made = c.before.before.before.before.before.before.before.before.before in
     let st = start (sized made) in
     let x = both (sized made) in
     let p = primitive_of st.args.code in
     let agrees = (formed made x.t x.s x.second.lies x.first.lies).0 in (
-      filled made.form-two.result.formed (A' made).cells (of_two p x.t x.s) (λ r e. of-two-good p x.second.good x.first.good e) agrees,
-      ready-working (worked made) (ready-popped st.pre.3 x.second.rest (omega arith)),
+      filled made.form_two-f.result.formed (A' made).cells (of_two p x.t x.s) (λ r e. of-two-good p x.second.good x.first.good e) agrees,
+      ready-working (worked made) (ready-popped st.requires.3 x.second.rest (omega arith)),
     )
 
 returns : tie.Need-returns
 returns c at complex pairs =
-    let put = c.before.before.before.before.before.before.before.before.push-formed in
+    let put = c.push_formed-put in
     let made = c.before.before.before.before.before.before.before.before.before.before.before.before.before.before.before.before.before.before in
     let st = start (sized made) in
     let p = primitive_of st.args.code in
-    let f = made.form-two.result.formed in
-    rw c.more-pairs.ensures
-    (two_formed at (1152 - st.args.v) p st.pre.0 st.pre.3 (tops (sized made)) (worked made)
+    let f = made.form_two-f.result.formed in
+    rw c.more_pairs.ensures
+    (two_formed at (1152 - st.args.v) p st.requires.0 st.requires.3 (tops (sized made)) (worked made)
     (λ s t ls gs lt gt.
     let told = formed made t s lt ls in
     push-paired at (1152 - st.args.v) put.result f (A' made).cells (of_two p t s) told.0 told.1 (put.ensures (of_two p t s) at told.0 complex pairs)))
 
-pub form-pair-spec : {M : Type 1} → statement M
-form-pair-spec =
+pub form_pair_spec : {M : Type 1} → statement M
+form_pair_spec =
     tie.close
     (tie.spec
     (λ c κs. search rules)

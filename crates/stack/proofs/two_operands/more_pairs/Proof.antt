@@ -4,5 +4,5 @@ use mathlib.Core.Path.{refl}
 use Rattle.stack.proofs.two_operands.more_pairs.Statement.{statement}
 use Rattle.stack.proofs.two_operands.more_pairs.Tie as tie
 
-pub more-pairs-spec : {M : Type 1} → statement M
-more-pairs-spec = tie.close (tie.spec (λ c. search rules) (λ c. search rules) (λ c. rw c.before.s.given.1 refl) (λ c. rw c.before.s2.given.1 refl))
+pub more_pairs_spec : {M : Type 1} → statement M
+more_pairs_spec = tie.close (tie.spec (λ c. search rules) (λ c. search rules) (λ c. rw c.in-Went.is refl) (λ c. rw c.in-Stopped.is refl))

@@ -24,25 +24,25 @@ upper : (c : tie.Start) → Topmost (A c) c.args.used c.args.n c.requires.3.some
 upper c = topmost c.requires.1 c.requires.3.some.1.stack
 
 -- where the lower one's size is known
-abbrev start : tie.After-top-size → tie.Start
-start c = c.before.before.before.before.before.before.before
+abbrev start : tie.After-top_size-m → tie.Start
+start c = c.before.before.before.before.before.before
 
-tops : (c : tie.After-top-size) → Tops (A (start c)) (start c).args.used ((start c).args.n ∷ c.top-size.result ∷ [])
-tops c = tops-two (start c).requires.1 (tops-one {a = A (start c)} (start c).requires.2 c.top-size.ensures)
+tops : (c : tie.After-top_size-m) → Tops (A (start c)) (start c).args.used ((start c).args.n ∷ c.top_size-m.result ∷ [])
+tops c = tops-two (start c).requires.1 (tops-one {a = A (start c)} (start c).requires.2 c.top_size-m.ensures)
 
-both : (c : tie.After-top-size) → Pair (A (start c)) (start c).args.used (start c).args.n c.top-size.result (start c).requires.3.some.0.stack
+both : (c : tie.After-top_size-m) → Pair (A (start c)) (start c).args.used (start c).args.n c.top_size-m.result (start c).requires.3.some.0.stack
 both c = pair (tops c) (start c).requires.3.some.1.stack
 
-form-pair-requires : tie.Need-form-pair-requires
+form-pair-requires : tie.Need-form_pair-requires
 form-pair-requires c κs =
-    let tested = c.before.before.before.before in
-    let known = tested.before in
-    let pre = known.before.before.before.before.requires in
-    (sym known.left.ensures ∙ tested.if1.true, pre.1, pre.2, pre.3)
+    let tested = c in
+    let known = tested in
+    let pre = known.requires in
+    (sym known.left-left.ensures ∙ tested.if-left-eq1.true, pre.1, pre.2, pre.3)
 
-top-size-requires : tie.Need-top-size-requires
+top-size-requires : tie.Need-top_size-m-requires
 top-size-requires c κs =
-    let st = c.before.before.before.before.before.before in
+    let st = c in
     let some = st.requires.2 in
     let below = st.requires.3.some.1.below in
     let long = st.requires.3.space.sizes in
@@ -54,37 +54,37 @@ flip-requires c κs =
     let ready = (start sized).requires.3 in
     (space-less ready.some.1.below ready.space, (tops sized, (ready.some.0.stack, ready.some.1.stack)))
 
-returns-2 : tie.Need-returns-2
+returns-2 : tie.Need-returns-then-left-eq2
 returns-2 c at complex pairs =
-    let flipped = c.before.before.before.before.before.before.before in
-    let tested = flipped.before.before.before.before.before in
-    let sized = tested.before in
+    let flipped = c in
+    let tested = flipped in
+    let sized = tested.before.before.before.before.before.before.before.before.before.before.before.before.before in
     let st = start sized in
-    let left = sym sized.before.before.before.left.ensures ∙ tested.if2.true in
-    two-turned at (primitive_of st.args.code) left st.pre.3 (tops sized) flipped.flip.ensures
+    let left = sym sized.left-left.ensures ∙ tested.if-left-eq2.true in
+    two-turned at (primitive_of st.args.code) left st.requires.3 (tops sized) flipped.flip.ensures
 
-push-cells-requires : tie.Need-push-cells-requires
+push-cells-requires : tie.Need-push_cells-requires
 push-cells-requires c κs =
     let sized = c.before.before.before.before.before in
     let st = start sized in
     let x = both sized in
     let first = x.first.ends in
     let second = x.second.ends in
-    (x.second.some, x.second.few, omega arith, (st.args.handled, st.pre.3))
+    (x.second.some, x.second.few, omega arith, (st.args.handled, st.requires.3))
 
-returns-3 : tie.Need-returns-3
+returns-3 : tie.Need-returns
 returns-3 c at complex pairs =
-    let pushed = c.before.before.before.before.before.before.before in
-    let tested = pushed.before.before.before.before.before in
-    let sized = tested.before in
-    let known = sized.before.before.before in
+    let pushed = c in
+    let tested = pushed in
+    let sized = tested.before.before.before.before.before.before.before.before.before.before.before.before.before in
+    let known = sized in
     let st = start sized in
     let p = primitive_of st.args.code in
-    let some : 3 ≤ (row p).left = omega (arith, known.left.ensures, (rows p).1 st.pre.0, sized.before.before.if1.false, tested.if2.false) in
-    two-over at (1152 - st.args.v) p some st.pre.3 (tops sized) (λ t l. pushed.push-cells.ensures t l at st.args.handled complex pairs)
+    let some : 3 ≤ (row p).left = omega (arith, known.left-left.ensures, (rows p).1 st.requires.0, sized.if-left-eq1.false, tested.if-left-eq2.false) in
+    two-over at (1152 - st.args.v) p some st.requires.3 (tops sized) (λ t l. pushed.push_cells.ensures t l at st.args.handled complex pairs)
 
-pub two-leave-spec : {M : Type 1} → statement M
-two-leave-spec =
+pub two_leave_spec : {M : Type 1} → statement M
+two_leave_spec =
     tie.close
     (tie.spec
     (λ c κs. search rules)
@@ -93,8 +93,8 @@ two-leave-spec =
     (λ c. search rules)
     (λ c. search rules)
     (λ c. search rules)
-    (λ c. c.before.before.before.before.before.before.before.form-pair.ensures)
-    (λ c. let e = (upper c.before.before.before.before.before.before).one.ends in omega arith)
+    (λ c. c.form_pair.ensures)
+    (λ c. let e = (upper c.before.before.before.before.before).one.ends in omega arith)
     top-size-requires
     flip-requires
     (λ c. search rules)

@@ -16,40 +16,40 @@ use Rattle.stack.proofs.two_operands.two_operands.Tie as tie
 abbrev A : tie.Start → Arena
 A c = of (book c.args.kinds.now c.args.insides.now c.args.numbers.now) c.args.sizes.now
 
-abbrev start : tie.After-top-size → tie.Start
-start c = c.before.before.before.before.before.before
+abbrev start : tie.After-top_size-n → tie.Start
+start c = c.before.before.before.before.before
 
-tops : (c : tie.After-top-size) → Tops (A (start c)) (start c).args.used (c.top-size.result ∷ [])
-tops c = let low = stacked-le (start c).requires.1.some.1.stack in tops-one {a = A (start c)} (omega arith) c.top-size.ensures
+tops : (c : tie.After-top_size-n) → Tops (A (start c)) (start c).args.used (c.top_size-n.result ∷ [])
+tops c = let low = stacked-le (start c).requires.1.some.1.stack in tops-one {a = A (start c)} (omega arith) c.top_size-n.ensures
 
-top : (c : tie.After-top-size) → Topmost (A (start c)) (start c).args.used c.top-size.result (start c).requires.1.some.0.stack
+top : (c : tie.After-top_size-n) → Topmost (A (start c)) (start c).args.used c.top_size-n.result (start c).requires.1.some.0.stack
 top c = topmost (tops c) (start c).requires.1.some.1.stack
 
-returns : tie.Need-returns
-returns c at complex pairs = does-none 2 _ (omega arith) (ap (ran_of at c.before.before.before.before.before.args.handled complex pairs) c.short.ensures) c.before.if1.true
+returns : tie.Need-returns-then-used-eq-WORKING
+returns c at complex pairs = does-none 2 _ (omega arith) (ap (ran_of at c.args.handled complex pairs) c.short.ensures) c.if-used-eq-WORKING.true
 
-top-size-requires : tie.Need-top-size-requires
+top-size-requires : tie.Need-top_size-n-requires
 top-size-requires c κs =
-    let y = c.before.before.before.before.before.requires.1 in
+    let y = c.requires.1 in
     let low = stacked-le y.some.1.stack in
     let below = y.some.1.below in
     let long = y.space.sizes in
     (omega arith, omega arith)
 
-returns-2 : tie.Need-returns-2
+returns-2 : tie.Need-returns-then-used-n-eq-WORKING
 returns-2 c at complex pairs =
     let sized = c.before.before in
-    does-only _ (ap (ran_of at (start sized).args.handled complex pairs) c.short2.ensures) (tops sized) c.before.if2.true
+    does-only _ (ap (ran_of at (start sized).args.handled complex pairs) c.short-then-used-n-eq-WORKING.ensures) (tops sized) c.if-used-n-eq-WORKING.true
 
-two-leave-requires : tie.Need-two-leave-requires
+two-leave-requires : tie.Need-two_leave-requires
 two-leave-requires c κs =
     let sized = c.before.before.before.before.before in
     let pre = (start sized).requires in
     let low = (top sized).one.low in
     (pre.0, tops sized, omega arith, pre.1)
 
-pub two-operands-spec : {M : Type 1} → statement M
-two-operands-spec =
+pub two_operands_spec : {M : Type 1} → statement M
+two_operands_spec =
     tie.close
     (tie.spec
     (λ c κs. search rules)
@@ -64,4 +64,4 @@ two-operands-spec =
     (λ c. search rules)
     (λ c. search rules)
     (λ c. search rules)
-    (λ c. c.before.before.before.before.before.before.before.two-leave.ensures))
+    (λ c. c.two_leave.ensures))

@@ -7,14 +7,14 @@ use Rattle.sums.proofs.bytes.Theorem.{from_first}
 use Rattle.sums.proofs.bytes.answer.Statement.{statement}
 use Rattle.sums.proofs.bytes.answer.Tie as tie
 
-pub answer-spec : {M : Type 1} → statement M
-answer-spec =
+pub answer_spec : {M : Type 1} → statement M
+answer_spec =
     tie.close
     (tie.spec
     (λ c κs. search rules)
-    (λ c. good ((from_first _ _ 4 _ c.before.good-sum.ensures).0 c.if1.true))
+    (λ c. good ((from_first _ _ 4 _ c.good_sum.ensures).0 c.if-good_sum.true))
     (λ c κs. search rules)
     (λ c.
-    deep ((from_first _ _ 64 _ c.before.good-sum2.ensures).0 c.if2.true)
-    (λ h. true≢false (sym ((from_first _ _ 4 _ c.before.before.before.good-sum.ensures).1 h) ∙ c.before.before.if1.false)))
-    (λ c. bad (λ h. true≢false (sym ((from_first _ _ 64 _ c.before.good-sum2.ensures).1 h) ∙ c.if2.false))))
+    deep ((from_first _ _ 64 _ c.good_sum-2.ensures).0 c.if-good_sum-2.true)
+    (λ h. true≢false (sym ((from_first _ _ 4 _ c.good_sum.ensures).1 h) ∙ c.if-good_sum.false)))
+    (λ c. bad (λ h. true≢false (sym ((from_first _ _ 64 _ c.good_sum-2.ensures).1 h) ∙ c.if-good_sum-2.false))))

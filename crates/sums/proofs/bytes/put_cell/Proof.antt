@@ -8,31 +8,31 @@ use Rattle.sums.proofs.bytes.put_cell.Tie as tie
 
 returns : tie.Need-returns
 returns c =
-    let last = c.before.before in
-    let fourth = last.before.before.before.before in
-    let third = fourth.before.before.before.before in
-    let second = third.before.before.before.before in
-    let first = second.before.before.before.before in
-    let start = first.before.before.before in
+    let last = c in
+    let fourth = last in
+    let third = fourth in
+    let second = third in
+    let first = second in
+    let start = first in
     let a = start.args in
     record {
       bytes =
-          stored a.out.now first.put_four.new.0 second.put-four2.new.0 third.put-eight.new.0 fourth.put-eight2.new.0 last.put-eight3.new.0
+          stored a.out.now first.put_four.new.out second.put_four-2.new.out third.put_eight.new.out fourth.put_eight-2.new.out last.put_eight-3.new.out
           (entry_bytes * a.j)
           record { kind = a.kind; inside = a.inside; num = a.num; re = a.re; im = a.im }
           (search rules)
           first.put_four.ensures
-          second.put-four2.ensures
-          third.put-eight.ensures
-          fourth.put-eight2.ensures
-          last.put-eight3.ensures;
+          second.put_four-2.ensures
+          third.put_eight.ensures
+          fourth.put_eight-2.ensures
+          last.put_eight-3.ensures;
       num = start.ranges.num.fits;
       re = start.ranges.re.fits;
       im = start.ranges.im.fits;
     }
 
-pub put-cell-spec : {M : Type 1} → statement M
-put-cell-spec =
+pub put_cell_spec : {M : Type 1} → statement M
+put_cell_spec =
     tie.close
     (tie.spec
     (λ c. search rules)

@@ -10,50 +10,50 @@ use Rattle.sums.proofs.bytes.Reading.{Passed, outset, pass, read_all, read-stops
 use Rattle.sums.proofs.bytes.read_cells.Statement.{statement}
 use Rattle.sums.proofs.bytes.read_cells.Tie as tie
 
-abbrev invariant-loop : tie.invariant-loop
+abbrev invariant-loop : tie.invariant-loop-j
 invariant-loop kinds₀ insides₀ numbers₀ list n j₀ kinds insides numbers j = (j ≤ n) × Passed list (book kinds₀ insides₀ numbers₀) (book kinds insides numbers) j
 
-abbrev decreases-loop : tie.decreases-loop
+abbrev decreases-loop : tie.decreases-loop-j
 decreases-loop kinds₀ insides₀ numbers₀ list n j₀ kinds insides numbers j = n - j
 
 -- an entry isn't clean
-returns : tie.Need-returns invariant-loop decreases-loop
+returns : tie.Need-returns-then-not-clean invariant-loop decreases-loop
 returns c =
-    let tested = c.before in
-    let turn = tested.before in
-    read-stops _ _ _ turn.before.loop.j turn.loop-test.true (sym tested.clean.ensures ∙ not-true _ c.if1.true)
+    let tested = c in
+    let turn = tested in
+    read-stops _ _ _ turn.loop-j.j turn.loop-j-test.true (sym tested.clean.ensures ∙ c.if-not-clean.true)
 
 -- one more is read
-loop-again : tie.Need-loop-preserved invariant-loop decreases-loop
+loop-again : tie.Need-loop-j-preserved invariant-loop decreases-loop
 loop-again c =
-    let third = c.before.before in
-    let second = third.before in
-    let first = second.before in
-    let other = first.before in
-    let tested = other.before in
-    let turn = tested.before in
-    let now = turn.before.loop in
-    let s = turn.before.before.before.before.before in
-    let some = turn.loop-test.true in (
+    let third = c in
+    let second = third in
+    let first = second in
+    let other = first in
+    let tested = other in
+    let turn = tested in
+    let now = turn.loop-j in
+    let s = turn in
+    let some = turn.loop-j-test.true in (
       omega (arith, some),
       pass _ _ (book _ _ _) now.j _ _ _ now.invariant.1 (room-less {n = s.args.n} (omega (arith, some)) s.requires.1)
-          (sym tested.clean.ensures ∙ not-false _ other.if1.false)
-          first.eight.ensures
-          second.eight2.ensures
-          third.eight3.ensures,
+          (sym tested.clean.ensures ∙ other.if-not-clean.false)
+          first.eight-num.ensures
+          second.eight-re.ensures
+          third.eight-im.ensures,
     )
 
-pub read-cells-spec : {M : Type 1} → statement M
-read-cells-spec =
+pub read_cells_spec : {M : Type 1} → statement M
+read_cells_spec =
     tie.close
     (tie.spec
     invariant-loop
     decreases-loop
     (λ c. (omega arith, outset _ (book _ _ _)))
     (λ c κs. search rules)
-    (λ c. c.before.before.before.loop.invariant.1.long.kinds)
-    (λ c. c.before.before.before.loop.invariant.1.long.insides)
-    (λ c. c.before.before.before.loop.invariant.1.long.numbers)
+    (λ c. c.loop-j.invariant.1.long.kinds)
+    (λ c. c.loop-j.invariant.1.long.insides)
+    (λ c. c.loop-j.invariant.1.long.numbers)
     returns
     (λ c. search rules)
     (λ c. search rules)
@@ -72,7 +72,7 @@ read-cells-spec =
     (λ c. search rules)
     (λ c. search rules)
     loop-again
-    (λ c. c.before.loop.invariant.1.long.kinds)
-    (λ c. c.before.loop.invariant.1.long.insides)
-    (λ c. c.before.loop.invariant.1.long.numbers)
-    (λ c. read_all _ _ _ _ c.before.loop.j c.before.loop.invariant.1 c.before.loop.invariant.0 c.loop-test.false))
+    (λ c. c.loop-j.invariant.1.long.kinds)
+    (λ c. c.loop-j.invariant.1.long.insides)
+    (λ c. c.loop-j.invariant.1.long.numbers)
+    (λ c. read_all _ _ _ _ c.loop-j.j c.loop-j.invariant.1 c.loop-j.invariant.0 c.loop-j-test.false))

@@ -20,17 +20,17 @@ use Rattle.sums.proofs.bytes.take_in.Statement.{statement}
 use Rattle.sums.proofs.bytes.take_in.Tie as tie
 
 -- after the entries were read
-module _ (c : tie.After-read-cells) where
-  abbrev few-left : tie.Else3
+module _ (c : tie.After-read_cells) where
+  abbrev few-left : tie.Else-n-gt-SUM_ENTRIES
   few-left = c.before.before.before.before
 
-  abbrev some_left : tie.Else2
+  abbrev some_left : tie.Else-n-lt1
   some_left = few-left.before
 
-  abbrev whole-left : tie.Else1
+  abbrev whole-left : tie.Else-list-ne0
   whole-left = some_left.before
 
-  abbrev known : tie.After-shared-slice-known
+  abbrev known : tie.After-shared_slice_known-1
   known = whole-left.before
 
   abbrev s : tie.Start
@@ -67,36 +67,36 @@ module _ (c : tie.After-read-cells) where
     lies : (m : ℕ) → t ≡ taken.Sum m → Laid list b m
     lies = laid list n b bytes long some few room (c.read-cells.ensures.tests.0 done) (c.read-cells.ensures.cells done) t a
 
-read-cells-requires : tie.Need-read-cells-requires
+read-cells-requires : tie.Need-read_cells-requires
 read-cells-requires c κs =
-    let start = c.before.before.before.before.before.before.before.before.before in
+    let start = c in
     (omega arith, omega (arith, start.requires))
 
 -- the places at which the entries were read, from those after
-abbrev after-refusal : tie.Then4 → tie.After-read-cells
+abbrev after-refusal : tie.Then-not-read_cells → tie.After-read_cells
 after-refusal c = c.before.before.before.before.before.before
 
-abbrev after_passing : tie.Else4 → tie.After-read-cells
+abbrev after_passing : tie.Else-not-read_cells → tie.After-read_cells
 after_passing c = c.before.before.before.before.before.before
 
 -- an entry isn't clean
-returns-4 : tie.Need-returns-4
+returns-4 : tie.Need-returns-then-not-read_cells
 returns-4 c =
     let r = after-refusal c in
-    (refuse-entry _ (n r) (long r) (λ f. true≢false (sym (r.read-cells.ensures.tests.1 f) ∙ not-true _ c.if4.true)), none-laid _ _)
+    (refuse-entry _ (n r) (long r) (λ f. true≢false (sym (r.read_cells.ensures.tests.1 f) ∙ c.if-not-read_cells.true)), none-laid _ _)
 
 answer-requires : tie.Need-answer-requires
-answer-requires c κs = room (after_passing c.before.before.before)
+answer-requires c κs = room (after_passing c)
 
-returns-5 : tie.Need-returns-5
+returns-5 : tie.Need-returns
 returns-5 c =
-    let passed = c.before.before.before.before in
+    let passed = c.before in
     let r = after_passing passed in
-    let done = not-false _ passed.if4.false in
+    let done = passed.if-not-read_cells.false in
     (weighed r done c.answer.result c.answer.ensures, lies r done c.answer.result c.answer.ensures)
 
-pub take-in-spec : {M : Type 1} → statement M
-take-in-spec =
+pub take_in_spec : {M : Type 1} → statement M
+take_in_spec =
     tie.close
     (tie.spec
     (λ c. (refuse-length _ (λ m p q e. omega arith), none-laid _ _))

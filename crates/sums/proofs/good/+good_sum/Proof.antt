@@ -31,10 +31,10 @@ below t = and 3 good-sum-kinds.ps (falls 3 good-sum-kinds.ps ◌<◌ μ t) good-
 abbrev claims : ℕ → lts.Claims
 claims t = (good-cell-reads.Asked, good-cell-reads.Learnt, below t, good-sum.Post, follows-reads.Asked, follows-reads.Learnt)
 
-abbrev invariant-loop : lts.invariant-loop
+abbrev invariant-loop : lts.invariant-loop-k
 invariant-loop kinds insides numbers i n left end last₀ k₀ last k = Passed (book kinds insides numbers) i (i + n) left last k
 
-abbrev decreases-loop : lts.decreases-loop
+abbrev decreases-loop : lts.decreases-loop-k
 decreases-loop kinds insides numbers i n left end last₀ k₀ last k = i + n - k
 
 -- the places that the answers start from, the book there, and what is known
@@ -43,17 +43,17 @@ module _ (t : ℕ) where
   Start = lts.Start (claims t) (at-t t) good-sum.Post invariant-loop decreases-loop
 
   abbrev InLoop : Type 0
-  InLoop = lts.In-loop (claims t) (at-t t) good-sum.Post invariant-loop decreases-loop
+  InLoop = lts.In-loop-k (claims t) (at-t t) good-sum.Post invariant-loop decreases-loop
 
   -- the cell passed; so did its inside; and it comes after the one before
   abbrev Else2 : Type 0
-  Else2 = lts.Else2 (claims t) (at-t t) good-sum.Post invariant-loop decreases-loop
+  Else2 = lts.Else-not-good_cell (claims t) (at-t t) good-sum.Post invariant-loop decreases-loop
 
   abbrev Else3 : Type 0
-  Else3 = lts.Else3 (claims t) (at-t t) good-sum.Post invariant-loop decreases-loop
+  Else3 = lts.Else-not-good_sum (claims t) (at-t t) good-sum.Post invariant-loop decreases-loop
 
   abbrev Else4 : Type 0
-  Else4 = lts.Else4 (claims t) (at-t t) good-sum.Post invariant-loop decreases-loop
+  Else4 = lts.Else-not-follows (claims t) (at-t t) good-sum.Post invariant-loop decreases-loop
 
   abbrev looked : Else4 → Else3
   looked c = c.before.before
@@ -71,7 +71,7 @@ module _ (t : ℕ) where
   B s = book s.args.kinds.now s.args.insides.now s.args.numbers.now
 
   abbrev k : InLoop → ℕ
-  k c = c.before.loop.k
+  k c = c.loop-k.k
 
   abbrev end : InLoop → ℕ
   end c = (start c).args.i + (start c).args.n
@@ -80,51 +80,51 @@ module _ (t : ℕ) where
   room c = (start c).requires.1
 
   deep : (c : InLoop) → 1 ≤ (start c).args.left
-  deep c = omega (arith, c.before.before.if1.false)
+  deep c = omega (arith, c.if-left-eq0.false)
 
   fine : (c : Else2) → (let h = turn c in Fine (B (start h)) (k h) (end h))
-  fine c = c.before.good-cell.ensures.0 (not-false _ c.if2.false)
+  fine c = c.good_cell.ensures.0 c.if-not-good_cell.false
 
   held : (c : Else3) → (let h = turn (celled c) in Held (B (start h)) (k h + 1) (k h + 1 + (at (B (start h)) (k h)).inside) ((start h).args.left - 1))
-  held c = c.before.good-sum.ensures.0 (not-false _ c.if3.false)
+  held c = c.good_sum.ensures.0 c.if-not-good_sum.false
 
   -- the next place fits
   fits : (c : Else2) → (let h = turn c in k h + 1 + (at (B (start h)) (k h)).inside < 2 ^ 64)
-  fits c = let h = turn c in omega (arith, (fine c).within, (room h).insides, (start h).good.1.0.0)
+  fits c = let h = turn c in omega (arith, (fine c).within, (room h).insides, (start h).well_formed.1.0.0)
 
-pub +good-sum-spec : {M : Type 1} → statement M
-+good-sum-spec = close μ λ t. lts.spec (claims t) (at-t t) good-sum.Post invariant-loop decreases-loop
+pub +good_sum_spec : {M : Type 1} → statement M
++good_sum_spec = close μ λ t. lts.spec (claims t) (at-t t) good-sum.Post invariant-loop decreases-loop
     -- no levels are left
-    (λ c. let s = c.before.before.before in rw c.if1.true (held-zero _ _ _ s.requires.1))
-    (λ c. let s = c.before.before.before in omega (arith, s.requires.1.insides, s.well-formed.1.0.0))
+    (λ c. let s = c in rw c.if-left-eq0.true (held-zero _ _ _ s.requires.1))
+    (λ c. let s = c in omega (arith, s.requires.1.insides, s.well_formed.1.0.0))
     (λ c. outset _ _ _ _ (omega arith))
     -- the cell by itself
-    (λ c κs. (c.loop-test.true, room-less {n = end t c} (omega (arith, c.loop-test.true)) (room t c)))
+    (λ c κs. (c.loop-k-test.true, room-less {n = end t c} (omega (arith, c.loop-k-test.true)) (room t c)))
     (λ c.
-    let tested = c.before in
-    let h = tested.before in
-    fails _ (not-true _ c.if2.true) (λ w. tested.good-cell.ensures.1 (rest-fine (h.before.loop.invariant.same.0 w) h.loop-test.true)))
-    (λ c. let h = turn t c.before in omega (arith, (room t h).insides, h.loop-test.taken))
+    let tested = c in
+    let h = tested in
+    fails _ c.if-not-good_cell.true (λ w. tested.good_cell.ensures.1 (rest-fine (h.loop-k.invariant.same.0 w) h.loop-k-test.true)))
+    (λ c. let h = turn t c.before in omega (arith, (room t h).insides, h.loop-k-test.true))
     (λ c. omega (arith, fits t c.before))
     (λ c. omega (arith, fits t c.before))
     (λ c. deep t (turn t c.before))
     -- its inside
     (λ c κs.
     let h = turn t c.before in
-    (omega (arith, (start t h).pre.0, deep t h), room-less {n = end t h} (fine t c.before).within (room t h)))
+    (omega (arith, (start t h).requires.0, deep t h), room-less {n = end t h} (fine t c.before).within (room t h)))
     (λ c.
-    let tested = c.before in
-    let h = turn t tested.before.before in
-    fails _ (not-true _ c.if3.true) (λ w. tested.good-sum.ensures.1 (rest-inner (h.before.loop.inv.same.0 w) h.loop-test.taken)))
+    let tested = c in
+    let h = turn t tested.before.before.before in
+    fails _ c.if-not-good_sum.true (λ w. tested.good_sum.ensures.1 (rest-inner (h.loop-k.invariant.same.0 w) h.loop-k-test.true)))
     -- its place
     (λ c. deep t (turn t (celled t c)))
     (λ c κs.
     let h = turn t (celled t c) in
-    (h.before.loop.inv.term, record { plain = (fine t (celled t c)).plain; inner = (held t c).0; lies = (held t c).1 }))
+    (h.loop-k.invariant.term, record { plain = (fine t (celled t c)).plain; inner = (held t c).0; lies = (held t c).1 }))
     (λ c.
-    let tested = c.before in
-    let h = turn t (celled t tested.before) in
-    fails _ (not-true _ c.if4.true) (λ w. rest-follows (h.before.loop.inv.same.0 w) h.loop-test.taken _ tested.follows.ensures))
+    let tested = c in
+    let h = turn t (celled t tested.before.before) in
+    fails _ c.if-not-follows.true (λ w. rest-follows (h.loop-k.invariant.same.0 w) h.loop-k-test.true _ tested.follows.ensures))
     -- on to the next
     (λ c. omega (arith, fits t (celled t (looked t c))))
     (λ c. omega (arith, fits t (celled t (looked t c))))
@@ -132,7 +132,7 @@ pub +good-sum-spec : {M : Type 1} → statement M
     (λ c.
     let e = looked t c in
     let h = turn t (celled t e) in
-    pass h.before.loop.inv (deep t h) (fine t (celled t e)) (held t e) _ c.before.follows.ensures (not-false _ c.if4.false))
+    pass h.loop-k.invariant (deep t h) (fine t (celled t e)) (held t e) _ c.follows.ensures c.if-not-follows.false)
     (λ c.
-    let s = c.before.before.before.before.before in
-    (λ z. passed c.before.loop.invariant c.loop-test.false s.requires.1, λ w. refl))
+    let s = c in
+    (λ z. passed c.loop-k.invariant c.loop-k-test.false s.requires.1, λ w. refl))

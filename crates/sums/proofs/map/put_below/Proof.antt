@@ -29,76 +29,76 @@ B c = book c.args.kinds.now c.args.insides.now c.args.numbers.now
 abbrev power : tie.Start → Entry
 power c = entry X 0 c.args.num c.args.c
 
-abbrev tested : tie.After-find-power → tie.Else1
-tested c = c.before.before.before.before
+abbrev tested : tie.After-find_power → tie.Else-not-is_finite
+tested c = c.before
 
-abbrev start : tie.Else1 → tie.Start
+abbrev start : tie.Else-not-is_finite → tie.Start
 start c = c.before.before.before.before
 
 -- past its test, the number is finite
-number : (c : tie.Else1) → finite (start c).args.num ≡ true
-number c = sym c.before.is_finite.ensures ∙ not-false c.before.is_finite.result c.if1.false
+number : (c : tie.Else-not-is_finite) → finite (start c).args.num ≡ true
+number c = sym c.is_finite.ensures ∙ not-false c.is_finite.result c.if-not-is_finite.false
 
 -- what is known once the place is found
-putting : (c : tie.After-find-power) (f : Found) → c.find-power.result ≡ f →
+putting : (c : tie.After-find_power) (f : Found) → c.find_power.result ≡ f →
     (let st = start (tested c) in let p = st.args.p in
     OfOne (B st) p (p + st.args.n) sum_levels (λ s. Putting (B st) (B st) (power st) p p st.args.n f s none))
 putting c f e s l =
     let st = start (tested c) in
-    power-putting (number (tested c)) st.pre.0.0 st.pre.0.1 l (sym (c.find-power.ensures s (power st) l refl refl) ∙ e)
+    power-putting (number (tested c)) st.requires.0.0 st.requires.0.1 l (sym (c.find_power.ensures s (power st) l refl refl) ∙ e)
 
 -- the number is not finite
-not_finite : (c : tie.Then1) (s : Sum) → (let st = c.before.before.before.before in Answer st.args.how (power st) (B st) (B st) st.args.p (Refused PowerNotFinite) s none)
+not_finite : (c : tie.Then-not-is_finite) (s : Sum) → (let st = c.before.before.before.before in Answer st.args.how (power st) (B st) (B st) st.args.p (Refused PowerNotFinite) s none)
 not_finite c s =
-    let test = c.before in
-    let st = test.before.before.before in
-    let not-number = sym test.is_finite.ensures ∙ not-true test.is_finite.result c.if1.true in
+    let test = c in
+    let st = test.before.before.before.before in
+    let not-number = sym test.is_finite.ensures ∙ not-true test.is_finite.result c.if-not-is_finite.true in
     answer-refused st.args.how (power st) (B st) st.args.p s none PowerNotFinite (formed-number st.args.how (power st) none s not-number)
 
-returns : tie.Need-returns
-returns c = let pre = c.before.before.before.before.requires in ((not_finite c pre.0.2.0).0, λ s l. (not_finite c s).1)
+returns : tie.Need-returns-then-not-is_finite
+returns c = let pre = c.requires in ((not_finite c pre.0.2.0).0, λ s l. (not_finite c s).1)
 
-find-power-requires : tie.Need-find-power-requires
+find-power-requires : tie.Need-find_power-requires
 find-power-requires c κs =
-    let test = c.before.before.before in
+    let test = c in
     ((T_of (number test), (start test).requires.0.2), (start test).requires.1)
 
-put-same-requires : tie.Need-put-same-requires
+put-same-requires : tie.Need-put_same-requires
 put-same-requires c κs =
-    let place = c.before.before.before.before in
-    let found = place.before.before in
+    let place = c in
+    let found = place.before.before.before.before.before.before in
     let held = (start (tested found)).requires.0.2 in
-    (held.0, none, putting found _ place.k.given.1 held.0 held.1)
+    (held.0, none, putting found _ place.in-Same.is held.0 held.1)
 
-put-new-requires : tie.Need-put-new-requires
+put-new-requires : tie.Need-put_new-requires
 put-new-requires c κs =
-    let place = c.before.before.before.before in
-    let found = place.before.before in
+    let place = c in
+    let found = place.before.before.before.before.before.before in
     let held = (start (tested found)).requires.0.2 in
-    ((held.0, none, putting found _ place.k2.given.1 held.0 held.1), under (omega arith))
+    ((held.0, none, putting found _ place.in-Before.is held.0 held.1), under (omega arith))
 
-returns-2 : tie.Need-returns-2
+returns-2 : tie.Need-returns-in-Same
 returns-2 c =
-    let put = c.before.before.before.before.before in
-    let place = put.before.before.before.before.before in
-    let found = place.before.before in
+    let put = c in
+    let place = put in
+    let found = place.before.before.before.before.before.before.before.before.before.before.before.before in
     let held = (start (tested found)).requires.0.2 in
     let answer = put.put_same.ensures in
-    let P = putting found _ place.k.given.1 in
+    let P = putting found _ place.in-Same.is in
     ((answer _ none (P held.0 held.1)).0, λ s l. (answer s none (P s l)).1)
 
-returns-3 : tie.Need-returns-3
+returns-3 : tie.Need-returns-in-Before
 returns-3 c =
-    let put = c.before.before.before.before.before in
-    let place = put.before.before.before.before.before in
-    let found = place.before.before in
+    let put = c in
+    let place = put in
+    let found = place.before.before.before.before.before.before.before.before.before.before.before.before in
     let held = (start (tested found)).requires.0.2 in
-    let answer = put.put-new.ensures in
-    let P = putting found _ place.k2.given.1 in
+    let answer = put.put_new.ensures in
+    let P = putting found _ place.in-Before.is in
     ((answer _ none (P held.0 held.1)).0, λ s l. (answer s none (P s l)).1)
 
-pub put-below-spec : {M : Type 1} → statement M
-put-below-spec =
+pub put_below_spec : {M : Type 1} → statement M
+put_below_spec =
     tie.close
     (tie.spec
     (λ c κs. search rules)

@@ -22,14 +22,14 @@ B c = book c.args.kinds.now c.args.insides.now c.args.numbers.now
 abbrev OfBoth : tie.Start → (Sum → Sum → Type 0) → Type 0
 OfBoth c fact = OfTwo (B c) c.args.p (c.args.p + c.args.n) c.args.i (c.args.i + c.args.x.inside) sum_levels fact
 
-abbrev tested : tie.After-find → tie.Else1
-tested c = c.before.before.before.before
+abbrev tested : tie.After-find → tie.Else-not-is_finite
+tested c = c.before
 
 abbrev start : tie.After-find → tie.Start
 start c = (tested c).before.before.before.before
 
 -- where the number is refused
-abbrev refusing : tie.After-not-finite → tie.Start
+abbrev refusing : tie.After-not_finite-why → tie.Start
 refusing c = c.before.before.before.before.before
 
 -- what is known of them once the place is found
@@ -40,7 +40,7 @@ putting c f e s t ls lt =
     let test = tested c in
     record {
       head = pre.0.0;
-      number = sym test.before.is_finite.ensures ∙ not-false test.before.is_finite.result test.if1.left;
+      number = sym test.is_finite.ensures ∙ not-false test.is_finite.result test.if-not-is_finite.left;
       inside = lt;
       few = pre.1.0;
       room = pre.1.1;
@@ -50,56 +50,56 @@ putting c f e s t ls lt =
 
 -- of those that are held
 held : (c : tie.After-find) (f : Found) → c.find.result ≡ f
-    → (let st = start c in Putting (B st) (B st) st.args.x st.args.i st.args.p st.args.n f st.pre.1.2.0 st.pre.0.1.0)
+    → (let st = start c in Putting (B st) (B st) st.args.x st.args.i st.args.p st.args.n f st.requires.1.2.0 st.requires.0.1.0)
 held c f e = let pre = (start c).requires in putting c f e pre.1.2.0 pre.0.1.0 pre.1.2.1 pre.0.1.1
 
 -- the number is not finite
-not_finite : (c : tie.After-not-finite) (s t : Sum)
-    → (let st = refusing c in Answer st.args.how st.args.x (B st) (B st) st.args.p (Refused c.not_finite.result) s t)
+not_finite : (c : tie.After-not_finite-why) (s t : Sum)
+    → (let st = refusing c in Answer st.args.how st.args.x (B st) (B st) st.args.p (Refused c.not_finite-why.result) s t)
 not_finite c s t =
     let st = refusing c in
-    let test = c.before in
-    let not-number = sym test.before.is_finite.ensures ∙ not-true test.before.is_finite.result test.if1.true in
-    answer-refused st.args.how st.args.x (B st) st.args.p s t c.not_finite.result
-    (formed-number st.args.how st.args.x t s not-number ∙ ap refused (sym c.not_finite.ensures))
+    let test = c in
+    let not-number = sym test.is_finite.ensures ∙ not-true test.is_finite.result test.if-not-is_finite.true in
+    answer-refused st.args.how st.args.x (B st) st.args.p s t c.not_finite-why.result
+    (formed-number st.args.how st.args.x t s not-number ∙ ap refused (sym c.not_finite-why.ensures))
 
-returns : tie.Need-returns
+returns : tie.Need-returns-then-not-is_finite
 returns c =
     let pre = (refusing c).requires in
     ((not_finite c pre.1.2.0 pre.0.1.0).0, λ s t ls lt. (not_finite c s t).1)
 
-put-same-requires : tie.Need-put-same-requires
+put-same-requires : tie.Need-put_same-requires
 put-same-requires c κs =
-    let place = c.before.before.before.before in
-    let found = place.before.before in
+    let place = c in
+    let found = place.before.before.before.before.before.before in
     let pre = (start found).requires in
-    (pre.1.2.0, pre.0.1.0, held found _ place.k.given.1)
+    (pre.1.2.0, pre.0.1.0, held found _ place.in-Same.is)
 
-put-new-requires : tie.Need-put-new-requires
+put-new-requires : tie.Need-put_new-requires
 put-new-requires c κs =
-    let place = c.before.before.before.before in
-    let found = place.before.before in
+    let place = c in
+    let found = place.before.before.before.before.before.before in
     let pre = (start found).requires in
-    ((pre.1.2.0, pre.0.1.0, held found _ place.k2.given.1), pre.0.2)
+    ((pre.1.2.0, pre.0.1.0, held found _ place.in-Before.is), pre.0.2)
 
-returns-2 : tie.Need-returns-2
+returns-2 : tie.Need-returns-in-Same
 returns-2 c =
-    let put = c.before.before.before.before.before in
-    let place = put.before.before.before.before.before in
-    let found = place.before.before in
+    let put = c in
+    let place = put in
+    let found = place.before.before.before.before.before.before.before.before.before.before.before.before in
     let answer = put.put_same.ensures in
-    ((answer _ _ (held found _ place.k.given.1)).0, λ s t ls lt. (answer s t (putting found _ place.k.given.1 s t ls lt)).1)
+    ((answer _ _ (held found _ place.in-Same.is)).0, λ s t ls lt. (answer s t (putting found _ place.in-Same.is s t ls lt)).1)
 
-returns-3 : tie.Need-returns-3
+returns-3 : tie.Need-returns-in-Before
 returns-3 c =
-    let put = c.before.before.before.before.before in
-    let place = put.before.before.before.before.before in
-    let found = place.before.before in
-    let answer = put.put-new.ensures in
-    ((answer _ _ (held found _ place.k2.given.1)).0, λ s t ls lt. (answer s t (putting found _ place.k2.given.1 s t ls lt)).1)
+    let put = c in
+    let place = put in
+    let found = place.before.before.before.before.before.before.before.before.before.before.before.before in
+    let answer = put.put_new.ensures in
+    ((answer _ _ (held found _ place.in-Before.is)).0, λ s t ls lt. (answer s t (putting found _ place.in-Before.is s t ls lt)).1)
 
-pub put-block-spec : {M : Type 1} → statement M
-put-block-spec =
+pub put_block_spec : {M : Type 1} → statement M
+put_block_spec =
     tie.close
     (tie.spec
     (λ c κs. search rules)

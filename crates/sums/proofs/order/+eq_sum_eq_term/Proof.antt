@@ -50,12 +50,12 @@ eq-sum-claims t = (load-reads.Asked, load-reads.Learnt, eq-term-below t, eq-term
 abbrev eq-term-claims : ℕ → eq-term-lts.Claims
 eq-term-claims t = (same-head-reads.Asked, same-head-reads.Learnt, eq-sum-below t, eq-sum.Post)
 
-abbrev invariant-loop : eq-sum-lts.invariant-loop
+abbrev invariant-loop : eq-sum-lts.invariant-loop-p
 invariant-loop kinds insides numbers i n j m left end stop p₀ q₀ p q =
     let b = book kinds insides numbers in
     OfTwo b i (i + n) j (j + m) left (λ s t. Pair b p (i + n) b q (j + m) left s t)
 
-abbrev decreases-loop : eq-sum-lts.decreases-loop
+abbrev decreases-loop : eq-sum-lts.decreases-loop-p
 decreases-loop kinds insides numbers i n j m left end stop p₀ q₀ p q = i + n - p
 
 -- the places of eq_sum that the answers start from, the book there, and what is known
@@ -64,10 +64,10 @@ module _ (t : ℕ) where
   Start = eq-sum-lts.Start (eq-sum-claims t) (eq-sum-at t) eq-sum.Post invariant-loop decreases-loop
 
   abbrev InLoop : Type 0
-  InLoop = eq-sum-lts.In-loop (eq-sum-claims t) (eq-sum-at t) eq-sum.Post invariant-loop decreases-loop
+  InLoop = eq-sum-lts.In-loop-p (eq-sum-claims t) (eq-sum-at t) eq-sum.Post invariant-loop decreases-loop
 
   abbrev Loaded : Type 0
-  Loaded = eq-sum-lts.After-load2 (eq-sum-claims t) (eq-sum-at t) eq-sum.Post invariant-loop decreases-loop
+  Loaded = eq-sum-lts.After-load-y (eq-sum-claims t) (eq-sum-at t) eq-sum.Post invariant-loop decreases-loop
 
   abbrev start : InLoop → Start
   start c = c.before.before.before.before
@@ -83,47 +83,47 @@ module _ (t : ℕ) where
   D s = s.args.j + s.args.m
 
   -- both have an entry left
-  some : (c : InLoop) → (c.before.loop.p < E (start c)) × (c.before.loop.q < D (start c))
+  some : (c : InLoop) → (c.loop-p.p < E (start c)) × (c.loop-p.q < D (start c))
   some c =
       let st = start c in
-      let h = both (ltb c.before.loop.p (E st)) (ltb c.before.loop.q (D st)) c.loop-test.true in
+      let h = both (ltb c.loop-p.p (E st)) (ltb c.loop-p.q (D st)) c.loop-p-test.true in
       (ltb-true _ _ h.0, ltb-true _ _ h.1)
 
   -- what is left of the two sums that are held
   left-now : (c : InLoop) →
       (let st = start c in
-      Pair (B st) c.before.loop.p (E st) (B st) c.before.loop.q (D st) st.args.left st.pre.1.0.0 st.pre.1.1.0)
-  left-now c = let pre = (start c).requires.1 in c.before.loop.invariant pre.0.0 pre.1.0 pre.0.1 pre.1.1
+      Pair (B st) c.loop-p.p (E st) (B st) c.loop-p.q (D st) st.args.left st.requires.1.0.0 st.requires.1.1.0)
+  left-now c = let pre = (start c).requires.1 in c.loop-p.invariant pre.0.0 pre.1.0 pre.0.1 pre.1.1
 
   -- the two entries that were read, of every two sums that lie there
   turn : (c : Loaded) (s u : Sum) →
       (let h = c.before.before in let st = start h in
       Lies (B st) st.args.i (E st) st.args.left s → Lies (B st) st.args.j (D st) st.args.left u
-      → Paired (B st) h.before.loop.p (E st) (B st) h.before.loop.q (D st) st.args.left s u c.before.load.result c.load2.result)
+      → Paired (B st) h.loop-p.p (E st) (B st) h.loop-p.q (D st) st.args.left s u c.load-x.result c.load-y.result)
   turn c s u l k =
       let h = c.before.before in
-      let now = h.before.loop.invariant s u l k in
-      paired _ _ _ _ _ _ _ s u _ _ c.before.load.ensures c.load2.ensures now (some h).0 (some h).1
+      let now = h.loop-p.invariant s u l k in
+      paired _ _ _ _ _ _ _ s u _ _ c.load-x.ensures c.load-y.ensures now (some h).0 (some h).1
 
   -- the same of the two that are held
   held : (c : Loaded) →
       (let h = c.before.before in let st = start h in
-      Paired (B st) h.before.loop.p (E st) (B st) h.before.loop.q (D st) st.args.left
-      st.pre.1.0.0 st.pre.1.1.0 c.before.load.result c.load2.result)
-  held c = let pre = (start c.before.before).pre.1 in turn c pre.0.0 pre.1.0 pre.0.1 pre.1.1
+      Paired (B st) h.loop-p.p (E st) (B st) h.loop-p.q (D st) st.args.left
+      st.requires.1.0.0 st.requires.1.1.0 c.load-x.result c.load-y.result)
+  held c = let pre = (start c.before.before).requires.1 in turn c pre.0.0 pre.1.0 pre.0.1 pre.1.1
 
   -- the next places fit
-  fits-p : (c : Loaded) → c.before.before.before.loop.p + 1 + c.before.load.result.inside < 2 ^ 64
-  fits-p c = let st = start c.before.before in omega (arith, (held c).first.within, st.pre.1.0.1.room.insides, st.good.1.0.0)
+  fits-p : (c : Loaded) → c.loop-p.p + 1 + c.load-x.result.inside < 2 ^ 64
+  fits-p c = let st = start c.before.before in omega (arith, (held c).first.within, st.requires.1.0.1.room.insides, st.well_formed.1.0.0)
 
-  fits-q : (c : Loaded) → c.before.before.before.loop.q + 1 + c.load2.result.inside < 2 ^ 64
-  fits-q c = let st = start c.before.before in omega (arith, (held c).other.within, st.pre.1.1.1.room.insides, st.good.1.0.0)
+  fits-q : (c : Loaded) → c.loop-p.q + 1 + c.load-y.result.inside < 2 ^ 64
+  fits-q c = let st = start c.before.before in omega (arith, (held c).other.within, st.requires.1.1.1.room.insides, st.well_formed.1.0.0)
 
-pub +eq-sum-eq-term-spec : {M : Type 1} → statement M
-+eq-sum-eq-term-spec = close μ-eq-sum μ-eq-term
+pub +eq_sum_eq_term_spec : {M : Type 1} → statement M
++eq_sum_eq_term_spec = close μ-eq-sum μ-eq-term
     (λ t. eq-sum-lts.spec (eq-sum-claims t) (eq-sum-at t) eq-sum.Post invariant-loop decreases-loop
-    (λ c. let st = c.before.before in omega (arith, st.requires.1.0.1.room.insides, st.well-formed.1.0.0))
-    (λ c. let st = c.before.before in omega (arith, st.requires.1.1.1.room.insides, st.well-formed.1.0.0))
+    (λ c. let st = c in omega (arith, st.requires.1.0.1.room.insides, st.well_formed.1.0.0))
+    (λ c. let st = c in omega (arith, st.requires.1.1.1.room.insides, st.well_formed.1.0.0))
     (λ c s u l k. record { s' = s; t' = u; lies-s = l; lies-t = k; same = refl })
     (λ c κs. let n = next-at _ _ _ _ _ (left-now t c).lies-s (some t c).0 in (n.readable, n.first.plain))
     (λ c κs. let n = next-at _ _ _ _ _ (left-now t c.before).lies-t (some t c.before).1 in (n.readable, n.first.plain))
@@ -133,12 +133,12 @@ pub +eq-sum-eq-term-spec : {M : Type 1} → statement M
     (λ c κs.
     let n = (held t c).first in
     let m = (held t c).other in
-    (omega (arith, n.first.deep, (start t c.before.before).pre.0), ((n.inner, n.lies-inner), (m.inner, m.lies-inner))))
+    (omega (arith, n.first.deep, (start t c.before.before).requires.0), ((n.inner, n.lies-inner), (m.inner, m.lies-inner))))
     (λ c s u l k.
     let w = turn t c.before.before s u l k in
-    let term = c.before.eq-term in
+    let term = c.eq_term in
     sym (w.same ∙ ap (λ (o : Bool). o && same_sum w.first.rest w.other.rest)
-    (sym (term .ensures w.first.inner w.other.inner w.first.lies-inner w.other.lies-inner) ∙ not-true (term .result) c.if1.true)))
+    (sym (term .ensures w.first.inner w.other.inner w.first.lies-inner w.other.lies-inner) ∙ not-true (term .result) c.if-not-eq_term.true)))
     (λ c. omega (arith, fits-p t c.before.before))
     (λ c. search rules)
     (λ c. omega (arith, fits-p t c.before.before.before))
@@ -148,21 +148,21 @@ pub +eq-sum-eq-term-spec : {M : Type 1} → statement M
     (λ c. omega (arith, (held t c.before.before.before.before).first.within))
     (λ c s u l k.
     let w = turn t c.before.before.before.before s u l k in
-    let term = c.before.before.before.eq-term in
+    let term = c.eq_term in
     record {
       s' = w.first.rest;
       t' = w.other.rest;
       lies-s = w.first.lies-rest;
       lies-t = w.other.lies-rest;
       same = w.same ∙ ap (λ (o : Bool). o && same_sum w.first.rest w.other.rest)
-          (sym (term .ensures w.first.inner w.other.inner w.first.lies-inner w.other.lies-inner) ∙ not-false (term .result) c.before.before.if1.false);
+          (sym (term .ensures w.first.inner w.other.inner w.first.lies-inner w.other.lies-inner) ∙ not-false (term .result) c.if-not-eq_term.false);
     })
-    (λ c s u l k. pair_end _ _ _ _ _ _ _ s u (c.before.loop.invariant s u l k) c.loop-test.false))
+    (λ c s u l k. pair_end _ _ _ _ _ _ _ s u (c.loop-p.invariant s u l k) c.loop-p-test.false))
     λ t. eq-term-lts.spec (eq-term-claims t) (eq-term-at t) eq-term.Post
     (λ c. search rules)
     (λ c. search rules)
     (λ c κs. tt)
-    (λ c s u l k. ap (λ (o : Bool). o && same_sum s u) (sym (not-true c.before.same_head.result c.if1.true) ∙ c.before.same_head.ensures))
-    (λ c κs. let st = c.before.before.before.before.before.before in (omega (arith, st.requires.0), st.requires.1))
+    (λ c s u l k. ap (λ (o : Bool). o && same_sum s u) (sym (not-true c.same_head.result c.if-not-same_head.true) ∙ c.same_head.ensures))
+    (λ c κs. let st = c in (omega (arith, st.requires.0), st.requires.1))
     (λ c s u l k.
-    c.eq-sum.ensures s u l k ∙ ap (λ (o : Bool). o && same_sum s u) (sym (not-false c.before.before.same_head.result c.before.if1.false) ∙ c.before.before.same_head.ensures))
+    c.eq_sum.ensures s u l k ∙ ap (λ (o : Bool). o && same_sum s u) (sym (not-false c.same_head.result c.if-not-same_head.false) ∙ c.same_head.ensures))

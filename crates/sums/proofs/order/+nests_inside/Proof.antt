@@ -28,14 +28,14 @@ below t = and 1 nests-inside-kinds.ps (falls 1 nests-inside-kinds.ps ◌<◌ μ 
 abbrev claims : ℕ → lts.Claims
 claims t = (below t, nests-inside.Post)
 
-abbrev invariant-loop : lts.invariant-loop
+abbrev invariant-loop : lts.invariant-loop-k
 invariant-loop insides i n left end k₀ k = (s : Sum) → Nests insides i (i + n) s → Rest insides k (i + n) left s
 
-abbrev decreases-loop : lts.decreases-loop
+abbrev decreases-loop : lts.decreases-loop-k
 decreases-loop insides i n left end k₀ k = i + n - k
 
 -- in a turn: the entry that is read, its inside and the rest, of every sum that nests there
-module _ (t : ℕ) (c : lts.In-loop (claims t) (at t) nests-inside.Post invariant-loop decreases-loop) where
+module _ (t : ℕ) (c : lts.In-loop-k (claims t) (at t) nests-inside.Post invariant-loop decreases-loop) where
   abbrev start : lts.Start (claims t) (at t) nests-inside.Post invariant-loop decreases-loop
   start = c.before.before.before.before
 
@@ -56,27 +56,27 @@ module _ (t : ℕ) (c : lts.In-loop (claims t) (at t) nests-inside.Post invarian
   fits : k + 1 + get_or insides k 0 < 2 ^ 64
   fits = omega (arith, held.within, start.pre.1.1.room, start.good)
 
-pub +nests-inside-spec : {M : Type 1} → statement M
-+nests-inside-spec = close μ λ t. lts.spec (claims t) (at t) nests-inside.Post invariant-loop decreases-loop
-    (λ c s h. rw c.if1.true (nests-zero _ _ _ s h))
-    (λ c. omega (arith, c.before.before.requires.1.1.room, c.before.before.well-formed))
+pub +nests_inside_spec : {M : Type 1} → statement M
++nests_inside_spec = close μ λ t. lts.spec (claims t) (at t) nests-inside.Post invariant-loop decreases-loop
+    (λ c s h. rw c.if-left-eq0.true (nests-zero _ _ _ s h))
+    (λ c. omega (arith, c.requires.1.1.room, c.well_formed))
     (λ c s h. record { s' = s; nests = h; same = refl })
     (λ c. omega (arith, (held t c.before).within, (start t c.before).pre.1.1.room))
     (λ c. omega (arith, fits t c.before))
     (λ c. omega (arith, fits t c.before))
-    (λ c. omega (arith, c.before.before.before.if1.false))
-    (λ c κs. (omega (arith, (start t c.before).pre.0, c.before.before.before.if1.false), ((held t c.before).inner, (held t c.before).nests-inner)))
+    (λ c. omega (arith, c.if-left-eq0.false))
+    (λ c κs. (omega (arith, (start t c.before).pre.0, c.if-left-eq0.false), ((held t c.before).inner, (held t c.before).nests-inner)))
     (λ c s h.
-    let called = c.before in
+    let called = c in
     let e = turn t called.before.before s h in
-    let inner = called.nests-inside.ensures e.inner e.nests-inner in
-    sym (e.deeper (sym inner ∙ not-true called.nests-inside.result c.if2.true)))
+    let inner = called.nests_inside.ensures e.inner e.nests-inner in
+    sym (e.deeper (sym inner ∙ not-true called.nests_inside.result c.if-not-nests_inside.true)))
     (λ c. omega (arith, fits t c.before.before.before))
     (λ c. omega (arith, fits t c.before.before.before))
     (λ c. omega (arith, (held t c.before.before.before).within))
     (λ c s h.
-    let called = c.before in
+    let called = c in
     let e = turn t called.before.before s h in
-    let inner = called.nests-inside.ensures e.inner e.nests-inner in
-    record { s' = e.rest; nests = e.nests-rest; same = e.shallow (sym inner ∙ not-false called.nests-inside.result c.if2.false) })
-    (λ c s h. sym (nests-none _ _ _ _ s (c.before.loop.invariant s h) c.loop-test.false))
+    let inner = called.nests_inside.ensures e.inner e.nests-inner in
+    record { s' = e.rest; nests = e.nests-rest; same = e.shallow (sym inner ∙ not-false called.nests_inside.result c.if-not-nests_inside.false) })
+    (λ c s h. sym (nests-none _ _ _ _ s (c.loop-k.invariant s h) c.loop-k-test.false))

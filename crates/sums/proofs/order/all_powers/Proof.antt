@@ -10,14 +10,14 @@ use Rattle.sums.proofs.order.Powers.{only-more}
 use Rattle.sums.proofs.order.all_powers.Statement.{statement}
 use Rattle.sums.proofs.order.all_powers.Tie as tie
 
-abbrev invariant-loop : tie.invariant-loop
+abbrev invariant-loop : tie.invariant-loop-k
 invariant-loop kinds p n end k₀ all₀ k all = (p ≤ k) × (k ≤ p + n) × ((all ≡ true) ↔ OnlyPowers kinds p k)
 
-abbrev decreases-loop : tie.decreases-loop
+abbrev decreases-loop : tie.decreases-loop-k
 decreases-loop kinds p n end k₀ all₀ k all = p + n - k
 
-pub all-powers-spec : {M : Type 1} → statement M
-all-powers-spec =
+pub all_powers_spec : {M : Type 1} → statement M
+all_powers_spec =
     tie.close
     (tie.spec
     invariant-loop
@@ -28,7 +28,7 @@ all-powers-spec =
     (λ c. search rules)
     (λ c. search rules)
     (λ c.
-    let turn = c.before in
-    let inv = turn.before.loop.invariant in
-    (omega arith, omega arith, only-more turn.before.before.args.kinds.now _ _ turn.before.loop.all inv.0 inv.2))
-    (λ c. let inv = c.before.loop.invariant in ((λ h j lo hi. inv.2.0 h j lo (omega (arith, c.loop-test.false))), λ h. inv.2.1 (λ j lo hi. h j lo (omega arith)))))
+    let turn = c in
+    let inv = turn.loop-k.invariant in
+    (omega arith, omega arith, only-more turn.args.kinds.now _ _ turn.loop-k.all inv.0 inv.2))
+    (λ c. let inv = c.loop-k.invariant in ((λ h j lo hi. inv.2.0 h j lo (omega (arith, c.loop-k-test.false))), λ h. inv.2.1 (λ j lo hi. h j lo (omega arith)))))

@@ -6,10 +6,10 @@ use Rattle.sums.proofs.order.cmp_head.Statement.{statement}
 use Rattle.sums.proofs.order.cmp_head.Tie as tie
 
 returns : tie.Need-returns
-returns c = c.and_then.ensures ∙ ap₂ and_then c.before.before.cmp-nat.ensures c.before.cmp.ensures
+returns c = c.and_then.ensures ∙ ap₂ and_then c.cmp_nat-kinds.ensures c.cmp-nums.ensures
 
-pub cmp-head-spec : {M : Type 1} → statement M
-cmp-head-spec =
+pub cmp_head_spec : {M : Type 1} → statement M
+cmp_head_spec =
     tie.close
     (tie.spec
     (λ c. search rules)

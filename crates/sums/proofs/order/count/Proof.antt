@@ -11,20 +11,20 @@ use Rattle.sums.proofs.order.Walk.{opened, len-empty}
 use Rattle.sums.proofs.order.count.Statement.{statement}
 use Rattle.sums.proofs.order.count.Tie as tie
 
-abbrev invariant-loop : tie.invariant-loop
+abbrev invariant-loop : tie.invariant-loop-k
 invariant-loop insides i n end k₀ c₀ k c =
     (c ≤ k) × ((f : ℕ → Entry) (s : Sum) → ((j : ℕ) → (f j).inside ≡ get_or insides j 0) → At f i s → n ≡ size s → (t : Sum) × At f k t × (k + size t ≡ i + n) × (c + len t ≡ len s))
 
-abbrev decreases-loop : tie.decreases-loop
+abbrev decreases-loop : tie.decreases-loop-k
 decreases-loop insides i n end k₀ c₀ k c = i + n - k
 
-loop-again : tie.Need-loop-preserved invariant-loop decreases-loop
+loop-again : tie.Need-loop-k-preserved invariant-loop decreases-loop
 loop-again c =
-    let at-loop = c.before.before in
-    let k = at-loop.loop.k in (
+    let at-loop = c in
+    let k = at-loop.loop-k.k in (
       omega arith,
       λ f s e a z.
-          let w = at-loop.loop.invariant.1 f s e a z in
+          let w = at-loop.loop-k.invariant.1 f s e a z in
           let o = opened f k w.0 w.1 (omega arith) in
           let inside = e k in
           (o.rest, rw inside at o.laid-rest, omega arith, omega arith),
@@ -32,7 +32,7 @@ loop-again c =
 
 returns : tie.Need-returns invariant-loop decreases-loop
 returns c f s e a z =
-    let w = c.before.loop.invariant.1 f s e a z in
+    let w = c.loop-k.invariant.1 f s e a z in
     let nothing_left = len-empty w.0 (omega arith) in
     omega arith
 
@@ -45,9 +45,9 @@ count_spec =
     (λ c. search rules)
     (λ c. (search rules, λ f s e a z. (s, a, omega arith, omega arith)))
     (λ c. search rules)
-    (λ c. omega (arith, c.shared-slice-known.given c.before.before.loop.k))
+    (λ c. omega (arith, c.shared_slice_known-1.given c.loop-k.k))
     (λ c. search rules)
-    (λ c. omega (arith, c.shared-slice-known.given c.before.before.loop.k))
+    (λ c. omega (arith, c.shared_slice_known-1.given c.loop-k.k))
     (λ c. search rules)
     (λ c. search rules)
     loop-again

@@ -12,21 +12,21 @@ use Rattle.sums.proofs.order.Compare.{Seek, inner-more, Sought, sought, past, un
 use Rattle.sums.proofs.order.find.Statement.{statement}
 use Rattle.sums.proofs.order.find.Tie as tie
 
-abbrev invariant-loop : tie.invariant-loop
+abbrev invariant-loop : tie.invariant-loop-k
 invariant-loop kinds insides numbers x i p n left end k₀ k =
     let b = book kinds insides numbers in
     OfTwo b p (p + n) i (i + x.inside) left (λ s t. Seek b k (p + n) left x t s p)
 
-abbrev decreases-loop : tie.decreases-loop
+abbrev decreases-loop : tie.decreases-loop-k
 decreases-loop kinds insides numbers x i p n left end k₀ k = p + n - k
 
 abbrev Start : Type 0
 Start = tie.Start invariant-loop decreases-loop
 
-abbrev from-known : tie.After-shared-slice-known2 invariant-loop decreases-loop → Start
+abbrev from-known : tie.After-shared_slice_known-2-1 invariant-loop decreases-loop → Start
 from-known c = c.before.before
 
-abbrev from-loop : tie.In-loop invariant-loop decreases-loop → Start
+abbrev from-loop : tie.In-loop-k invariant-loop decreases-loop → Start
 from-loop c = from-known c.before.before
 
 abbrev B : Start → Book
@@ -37,33 +37,33 @@ abbrev E : Start → ℕ
 E c = c.args.p + c.args.n
 
 -- what is left of the sum that the contract asks for
-left-now : (c : tie.In-loop invariant-loop decreases-loop) → (let st = from-loop c in
-    Seek (B st) c.before.loop.k (E st) st.args.left st.args.x st.pre.0.0 st.pre.1.0 st.args.p)
+left-now : (c : tie.In-loop-k invariant-loop decreases-loop) → (let st = from-loop c in
+    Seek (B st) c.loop-k.k (E st) st.args.left st.args.x st.requires.0.0 st.requires.1.0 st.args.p)
 left-now c =
     let pre = (from-loop c).requires in
-    c.before.loop.invariant pre.1.0 pre.0.0 pre.1.1 pre.0.1
+    c.loop-k.invariant pre.1.0 pre.0.0 pre.1.1 pre.0.1
 
 -- its next entry, which was read
-first : (c : tie.After-load invariant-loop decreases-loop) → (let h = c.before in let st = from-loop h in
-    Next (B st) h.before.loop.k (E st) st.args.left (left-now h).s' c.load.result)
+first : (c : tie.After-load-y invariant-loop decreases-loop) → (let h = c.before in let st = from-loop h in
+    Next (B st) h.loop-k.k (E st) st.args.left (left-now h).s' c.load-y.result)
 first c =
     let h = c.before in
     let w = left-now h in
-    next _ _ _ _ w.s' _ c.load.ensures w.lies h.loop-test.true
+    next _ _ _ _ w.s' _ c.load-y.ensures w.lies h.loop-k-test.true
 
 -- the next place fits
-bound : (c : tie.After-load invariant-loop decreases-loop) → c.before.before.loop.k + 1 + c.load.result.inside < 2 ^ 64
-bound c = let st = from-loop c.before in omega (arith, (first c).within, st.pre.1.1.room.insides, st.good.1.0.0)
+bound : (c : tie.After-load-y invariant-loop decreases-loop) → c.loop-k.k + 1 + c.load-y.result.inside < 2 ^ 64
+bound c = let st = from-loop c.before in omega (arith, (first c).within, st.requires.1.1.room.insides, st.well_formed.1.0.0)
 
 -- the term and the entry were compared
-compared : (c : tie.After-cmp-term invariant-loop decreases-loop) (o : Ordering) → c.cmp-term.result ≡ o → (s t : Sum) →
-    (let h = c.before.before in let st = from-loop h in let k = h.before.loop.k in
+compared : (c : tie.After-cmp_term invariant-loop decreases-loop) (o : Ordering) → c.cmp_term.result ≡ o → (s t : Sum) →
+    (let h = c.before.before in let st = from-loop h in let k = h.loop-k.k in
     Lies (B st) st.args.p (E st) st.args.left s → Lies (B st) st.args.i (st.args.i + st.args.x.inside) st.args.left t
-    → Sought (B st) k (k + 1 + c.before.load.result.inside) (E st) st.args.left st.args.x t s st.args.p o)
+    → Sought (B st) k (k + 1 + c.load-y.result.inside) (E st) st.args.left st.args.x t s st.args.p o)
 compared c o e s t a g =
-    let h = c.before.before in
-    let now = h.before.loop.invariant s t a g in
-    sought _ _ _ _ _ t s _ _ _ o c.before.load.ensures now h.loop-test.true (λ j l. c.cmp-term.ensures t j g l) e
+    let h = c in
+    let now = h.loop-k.invariant s t a g in
+    sought _ _ _ _ _ t s _ _ _ o c.load-y.ensures now h.loop-k-test.true (λ j l. c.cmp_term.ensures t j g l) e
 
 pub find_spec : {M : Type 1} → statement M
 find_spec =
@@ -71,25 +71,25 @@ find_spec =
     (tie.spec
     invariant-loop
     decreases-loop
-    (λ c. let st = from-known c in omega (arith, st.pre.1.1.room.insides, st.good.1.0.0))
+    (λ c. let st = from-known c in omega (arith, st.requires.1.1.room.insides, st.well_formed.1.0.0))
     (λ c s t a g. record { s' = s; lies = a; same = refl })
     -- the next entry
     (λ c κs.
     let w = left-now c in
-    let n = next-at _ _ _ _ w.s' w.lies c.loop-test.true in
+    let n = next-at _ _ _ _ w.s' w.lies c.loop-k-test.true in
     (n.readable, n.first.plain))
     (λ c. omega (arith, bound c))
     (λ c κs. let n = first c in ((from-loop c.before).requires.0, (n.inner, inner-more n)))
     -- the term comes before it, or is the same
     (λ c. search rules)
-    (λ c s t a g. sym (compared c.before.before _ c.enum_told.given.1 s t a g).same)
+    (λ c s t a g. sym (compared c.before.before _ c.in-Less.is s t a g).same)
     (λ c. search rules)
-    (λ c s t a g. sym (compared c.before.before _ c.enum-told2.given.1 s t a g).same)
+    (λ c s t a g. sym (compared c.before.before _ c.in-Equal.is s t a g).same)
     -- or comes after it
     (λ c. search rules)
     (λ c. omega (arith, bound c.before.before.before))
     (λ c. omega (arith, bound c.before.before.before.before))
     (λ c. omega (arith, bound c.before.before.before.before))
-    (λ c. let l = c.before.before.before.before in omega (arith, (first l).within, l.before.loop-test.true))
-    (λ c s t a g. past (compared c.before.before.before _ c.before.enum-told3.given.1 s t a g))
-    (λ c s t a g. sym (unseen (c.before.loop.invariant s t a g) c.loop-test.false)))
+    (λ c. let l = c.before.before.before.before in omega (arith, (first l).within, l.loop-k-test.true))
+    (λ c s t a g. past (compared c.before.before.before _ c.in-Greater.is s t a g))
+    (λ c s t a g. sym (unseen (c.loop-k.invariant s t a g) c.loop-k-test.false)))

@@ -15,32 +15,32 @@ use Rattle.sums.proofs.order.Powers.{powers-size, Down, down-more, down-after, d
 use Rattle.sums.proofs.order.find_power.Statement.{statement}
 use Rattle.sums.proofs.order.find_power.Tie as tie
 
-abbrev invariant-loop : tie.invariant-loop
+abbrev invariant-loop : tie.invariant-loop-k
 invariant-loop kinds insides numbers num p n end k₀ k =
     let b = book kinds insides numbers in
     (p ≤ k) × (k ≤ p + n) × ((s : Sum) → Lies b p (p + n) sum_levels s → Down (at b) num p k s)
 
-abbrev decreases-loop : tie.decreases-loop
+abbrev decreases-loop : tie.decreases-loop-k
 decreases-loop kinds insides numbers num p n end k₀ k = k
 
-abbrev start : tie.In-loop invariant-loop decreases-loop → tie.Start invariant-loop decreases-loop
+abbrev start : tie.In-loop-k invariant-loop decreases-loop → tie.Start invariant-loop decreases-loop
 start c = c.before.before.before.before
 
 abbrev B : tie.Start invariant-loop decreases-loop → Book
 B c = book c.args.kinds.now c.args.insides.now c.args.numbers.now
 
 -- the power before k holds finite numbers
-plain : (c : tie.In-loop invariant-loop decreases-loop) → Plain (at (B (start c)) (c.before.loop.k - 1))
+plain : (c : tie.In-loop-k invariant-loop decreases-loop) → Plain (at (B (start c)) (c.loop-k.k - 1))
 plain c =
     let st = start c in
-    let lies = st.pre.0.1.1 in
+    let lies = st.requires.0.1.1 in
     let ends = lies.ends in
-    let k = c.before.loop.k in
-    plain_at (at (B st)) st.args.p sum_levels st.pre.0.1.0 lies.laid lies.good (k - 1) (omega (arith, c.loop-test.true)) (omega (arith, c.loop-test.true, c.before.loop.invariant.1))
+    let k = c.loop-k.k in
+    plain_at (at (B st)) st.args.p sum_levels st.requires.0.1.0 lies.laid lies.good (k - 1) (omega (arith, c.loop-k-test.true)) (omega (arith, c.loop-k-test.true, c.loop-k.invariant.1))
 
-loop-holds : tie.Need-loop-init invariant-loop decreases-loop
+loop-holds : tie.Need-loop-k-init invariant-loop decreases-loop
 loop-holds c =
-    let pre = c.before.before.requires in
+    let pre = c.requires in
     let lies = pre.0.1.1 in
     let ends = lies.ends in
     let end = pre.1 pre.0.1.0 lies in
@@ -48,44 +48,44 @@ loop-holds c =
     (omega arith, omega arith, λ s l. let is = pre.1 s l in record { low = omega arith; most = omega arith; next = λ m. absurd (omega arith) })
 
 -- it comes after the power before k
-returns : tie.Need-returns invariant-loop decreases-loop
+returns : tie.Need-returns-in-Greater invariant-loop decreases-loop
 returns c s x l power is =
-    let compared = c.before.before in
-    let turn = compared.before.before in
-    let now = turn.before.loop.invariant.2 s l in
-    down-after now l.laid l.good x power is turn.loop-test.true compared.cmp.ensures c.enum_told.given.1
+    let compared = c in
+    let turn = compared in
+    let now = turn.loop-k.invariant.2 s l in
+    down-after now l.laid l.good x power is turn.loop-k-test.true compared.cmp.ensures c.in-Greater.is
 
 -- it is that power
-returns-2 : tie.Need-returns-2 invariant-loop decreases-loop
+returns-2 : tie.Need-returns-in-Equal invariant-loop decreases-loop
 returns-2 c s x l power is =
-    let compared = c.before.before in
-    let turn = compared.before.before in
-    let now = turn.before.loop.invariant.2 s l in
-    down-same now l.laid l.good x power is turn.loop-test.true (start turn).requires.0.0 (plain turn).num compared.cmp.ensures c.enum-told2.given.1
+    let compared = c in
+    let turn = compared.before.before.before.before in
+    let now = turn.loop-k.invariant.2 s l in
+    down-same now l.laid l.good x power is turn.loop-k-test.true (start turn).requires.0.0 (plain turn).num compared.cmp.ensures c.in-Equal.is
 
 -- it comes before that power
-loop-again : tie.Need-loop-preserved invariant-loop decreases-loop
+loop-again : tie.Need-loop-k-preserved invariant-loop decreases-loop
 loop-again c =
-    let compared = c.before.before in
-    let turn = compared.before.before in
-    let inv = turn.before.loop.invariant in
-    let some = turn.loop-test.true in
-    (omega arith, omega arith, λ s l. down-more (inv.2 s l) some compared.cmp.ensures c.enum-told3.given.1)
+    let compared = c in
+    let turn = compared in
+    let inv = turn.loop-k.invariant in
+    let some = turn.loop-k-test.true in
+    (omega arith, omega arith, λ s l. down-more (inv.2 s l) some compared.cmp.ensures c.in-Less.is)
 
 -- none is left
-returns-3 : tie.Need-returns-3 invariant-loop decreases-loop
-returns-3 c s x l power is = down-first (c.before.loop.invariant.2 s l) l.laid l.good x power is c.loop-test.false
+returns-3 : tie.Need-returns invariant-loop decreases-loop
+returns-3 c s x l power is = down-first (c.loop-k.invariant.2 s l) l.laid l.good x power is c.loop-k-test.false
 
-pub find-power-spec : {M : Type 1} → statement M
-find-power-spec =
+pub find_power_spec : {M : Type 1} → statement M
+find_power_spec =
     tie.close
     (tie.spec
     invariant-loop
     decreases-loop
     loop-holds
     (λ c. search rules)
-    (λ c. omega (arith, (start c).requires.0.1.1.room.numbers, (start c).well-formed))
-    (λ c. omega (arith, (start c).requires.0.1.1.room.numbers, c.loop-test.true))
+    (λ c. omega (arith, (start c).requires.0.1.1.room.numbers, (start c).well_formed))
+    (λ c. omega (arith, (start c).requires.0.1.1.room.numbers, c.loop-k-test.true))
     (λ c. search rules)
     (λ c. rw nan_bits_is (no_nan _ (plain c.before).num))
     (λ c κs. search rules)

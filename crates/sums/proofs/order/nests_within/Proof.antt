@@ -6,10 +6,10 @@ use Rattle.sums.proofs.order.Nesting.{nests-none}
 use Rattle.sums.proofs.order.nests_within.Statement.{statement}
 use Rattle.sums.proofs.order.nests_within.Tie as tie
 
-pub nests-within-spec : {M : Type 1} → statement M
-nests-within-spec =
+pub nests_within_spec : {M : Type 1} → statement M
+nests_within_spec =
     tie.close
     (tie.spec
-    (λ c s h. sym (nests-none _ _ _ _ s (record { s' = s; nests = h; same = refl }) (omega (arith, c.if1.true))))
+    (λ c s h. sym (nests-none _ _ _ _ s (record { s' = s; nests = h; same = refl }) (omega (arith, c.if-n-eq0.true))))
     (λ c κs. search rules)
     (λ c. search rules))

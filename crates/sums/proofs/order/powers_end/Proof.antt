@@ -13,32 +13,32 @@ use Rattle.sums.proofs.order.Powers.{Powers, powers-more, powers-done}
 use Rattle.sums.proofs.order.powers_end.Statement.{statement}
 use Rattle.sums.proofs.order.powers_end.Tie as tie
 
-abbrev invariant-loop : tie.invariant-loop
+abbrev invariant-loop : tie.invariant-loop-k
 invariant-loop kinds p n end k₀ k =
     (p ≤ k) × (k ≤ p + n) × ((f : ℕ → Entry) (s : Sum) → ((j : ℕ) → (f j).kind ≡ get_or kinds j 0) → At f p s → Good sum_levels s → n ≡ size s → Powers f p k (p + n) s)
 
-abbrev decreases-loop : tie.decreases-loop
+abbrev decreases-loop : tie.decreases-loop-k
 decreases-loop kinds p n end k₀ k = p + n - k
 
-returns : tie.Need-returns invariant-loop decreases-loop
+returns : tie.Need-returns-then-kinds-k-ne-X invariant-loop decreases-loop
 returns c =
-    let turn = c.before.before in
-    let inv = turn.before.loop.invariant in
-    ((omega arith, omega arith), λ f s e a g z. powers-done f _ _ _ s (inv.2 f s e a g z) (λ h x. c.if1.true (sym (e _) ∙ x)))
+    let turn = c in
+    let inv = turn.loop-k.invariant in
+    ((omega arith, omega arith), λ f s e a g z. powers-done f _ _ _ s (inv.2 f s e a g z) (λ h x. c.if-kinds-k-ne-X.true (sym (e _) ∙ x)))
 
-loop-again : tie.Need-loop-preserved invariant-loop decreases-loop
+loop-again : tie.Need-loop-k-preserved invariant-loop decreases-loop
 loop-again c =
-    let turn = c.before.before in
-    let inv = turn.before.loop.invariant in
-    (omega arith, omega arith, λ f s e a g z. powers-more f _ _ _ s (inv.2 f s e a g z) turn.loop-test.true (e _ ∙ c.if1.false))
+    let turn = c in
+    let inv = turn.loop-k.invariant in
+    (omega arith, omega arith, λ f s e a g z. powers-more f _ _ _ s (inv.2 f s e a g z) turn.loop-k-test.true (e _ ∙ c.if-kinds-k-ne-X.false))
 
-returns-2 : tie.Need-returns-2 invariant-loop decreases-loop
+returns-2 : tie.Need-returns invariant-loop decreases-loop
 returns-2 c =
-    let inv = c.before.loop.invariant in
+    let inv = c.loop-k.invariant in
     ((inv.0, inv.1), λ f s e a g z. powers-done f _ _ _ s (inv.2 f s e a g z) (λ h x. omega arith))
 
-pub powers-end-spec : {M : Type 1} → statement M
-powers-end-spec =
+pub powers_end_spec : {M : Type 1} → statement M
+powers_end_spec =
     tie.close
     (tie.spec
     invariant-loop

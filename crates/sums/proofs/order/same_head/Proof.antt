@@ -6,5 +6,5 @@ use Rattle.sums.proofs.order.same_head.Tie as tie
 returns : tie.Need-returns
 returns c = refl
 
-pub same-head-spec : {M : Type 1} → statement M
-same-head-spec = tie.close (tie.spec returns)
+pub same_head_spec : {M : Type 1} → statement M
+same_head_spec = tie.close (tie.spec returns)

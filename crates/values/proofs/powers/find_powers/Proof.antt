@@ -11,10 +11,10 @@ use Rattle.values.proofs.Passing.{Passing, passing-start, passing-next, passing-
 use Rattle.values.proofs.powers.find_powers.Statement.{statement}
 use Rattle.values.proofs.powers.find_powers.Tie as tie
 
-abbrev invariant-loop : tie.invariant-loop
+abbrev invariant-loop : tie.invariant-loop-i
 invariant-loop list n x f₀ last₀ i₀ f last i = Passing list n x f last i
 
-abbrev decreases-loop : tie.decreases-loop
+abbrev decreases-loop : tie.decreases-loop-i
 decreases-loop list n x f₀ last₀ i₀ f last i = n - i
 
 no-powers : {f : Found} → Other ≡ Powers f → ⊥
@@ -23,36 +23,36 @@ no-powers e = let z : ◌≡◌ {A = ℕ} 0 1 = cc in omega arith
 same-found : {f g : Found} → Powers f ≡ Powers g → f ≡ g
 same-found e = cc
 
-loop-again : tie.Need-loop-preserved invariant-loop decreases-loop
+loop-again : tie.Need-loop-i-preserved invariant-loop decreases-loop
 loop-again c =
-    let above = c.before in
-    let got = above.before.before in
-    let test = got.before in
-    let l = test.before.before.before in
-    let i<n : l.loop.i < l.before.before.before.args.n = test.before.before.loop-test.true in
-    let is-power = test.before.is-power.ensures (not-false _ test.if1.false) in
-    passing-next l.loop.invariant got.power_at.result i<n is-power got.power_at.ensures (not-false _ above.if2.false) c.take-term.ensures
+    let above = c in
+    let got = above in
+    let test = got in
+    let l = test in
+    let i<n : l.loop-i.i < l.args.n = test.loop-i-test.true in
+    let is-power = test.is_power.ensures test.if-not-is_power.false in
+    passing-next l.loop-i.invariant got.power_at-e.result i<n is-power got.power_at-e.ensures above.if-not-last-e.false c.take_term-f.ensures
 
-pub find-powers-spec : {M : Type 1} → statement M
-find-powers-spec =
+pub find_powers_spec : {M : Type 1} → statement M
+find_powers_spec =
     tie.close
     (tie.spec
     invariant-loop
     decreases-loop
     (λ c κs. search rules)
-    (λ c. passing-start c.nothing-found.ensures)
-    (λ c κs. omega (arith, c.loop-test.true, c.before.before.before.before.requires))
+    (λ c. passing-start c.nothing_found-f.ensures)
+    (λ c κs. omega (arith, c.loop-i-test.true, c.requires))
     (λ c f e. absurd (no-powers e))
     (λ c κs.
-    let turn = c.before.before in
-    (omega (arith, turn.loop-test.true, turn.before.before.before.before.requires), c.before.is-power.ensures (not-false _ c.if1.false)))
+    let turn = c in
+    (omega (arith, turn.loop-i-test.true, turn.requires), c.is_power.ensures c.if-not-is_power.false))
     (λ c f e. absurd (no-powers e))
-    (λ c κs. c.before.before.before.before.before.before.loop.invariant.reached)
-    (λ c. let turn = c.before.before.before.before.before.before in omega (arith, turn.loop-test.true))
-    (λ c. let turn = c.before.before.before.before.before.before in omega (arith, turn.loop-test.true))
+    (λ c κs. c.loop-i.invariant.reached)
+    (λ c. let turn = c in omega (arith, turn.loop-i-test.true))
+    (λ c. let turn = c in omega (arith, turn.loop-i-test.true))
     loop-again
     (λ c f e.
-    let l = c.before in
-    let known = l.before.before in
-    let st = known.before in
-    subst (AllMet _ _ _) (same-found e) (passing-end l.loop.invariant (omega (arith, c.loop-test.false)) (λ j. (known.shared-slice-known.given j).fits) st.requires)))
+    let l = c in
+    let known = l in
+    let st = known in
+    subst (AllMet _ _ _) (same-found e) (passing-end l.loop-i.invariant (omega (arith, c.loop-i-test.false)) (λ j. (known.shared_slice_known-1.given j).fits) st.requires)))

@@ -6,18 +6,18 @@ use Rattle.values.proofs.powers.is_power.Tie as tie
 
 returns : tie.Need-returns
 returns c =
-    let second = c.before in
-    let first = second.before in
-    let im = first.before in
-    let re = im.before in
-    let num = re.before in
-    let head = num.before in
-    let a = head.before.before.args in
-    power-told a.list.now a.i head.eight.ensures num.eight2.ensures re.eight3.ensures im.eight4.ensures
-    first.finite-bits.ensures second.finite-bits2.ensures c.finite-bits3.ensures
+    let second = c in
+    let first = second in
+    let im = first in
+    let re = im in
+    let num = re in
+    let head = num in
+    let a = head.args in
+    power-told a.list.now a.i head.eight-head.ensures num.eight-num.ensures re.eight-re.ensures im.eight-im.ensures
+    first.finite_bits.ensures second.finite_bits-2.ensures c.finite_bits-3.ensures
 
-pub is-power-spec : {M : Type 1} → statement M
-is-power-spec =
+pub is_power_spec : {M : Type 1} → statement M
+is_power_spec =
     tie.close
     (tie.spec
     (λ c. search rules)

@@ -10,14 +10,14 @@ use Rattle.values.proofs.powers.power_at.Tie as tie
 
 returns : tie.Need-returns
 returns c =
-    let re = c.before in
-    let num = re.before in
-    let st = num.before.before in
+    let re = c in
+    let num = re in
+    let st = num in
     let list = st.args.list.now in
-    power-is list (λ j. (num.before.shared-slice-known.given j).fits) st.args.i st.requires.0 st.requires.1 num.eight.ensures re.eight2.ensures c.eight3.ensures
+    power-is list (λ j. (num.shared_slice_known-1.given j).fits) st.args.i st.requires.0 st.requires.1 num.eight-num.ensures re.eight-re.ensures c.eight-im.ensures
 
-pub power-at-spec : {M : Type 1} → statement M
-power-at-spec =
+pub power_at_spec : {M : Type 1} → statement M
+power_at_spec =
     tie.close
     (tie.spec
     (λ c. search rules)
@@ -27,7 +27,7 @@ power-at-spec =
     (λ c κs. search rules)
     (λ c. search rules)
     (λ c κs. search rules)
-    (λ c. no-nans _ refl (ap (λ w. finite (of_bits binary64 w)) c.before.eight2.ensures ∙ c.before.before.before.before.requires.1.re))
-    (λ c. no-nans _ refl (ap (λ w. finite (of_bits binary64 w)) c.eight3.ensures ∙ c.before.before.before.before.requires.1.im))
-    (λ c. no-nans _ refl (ap (λ w. finite (of_bits binary64 w)) c.before.before.eight.ensures ∙ c.before.before.before.before.requires.1.num))
+    (λ c. no-nans _ refl (ap (λ w. finite (of_bits binary64 w)) c.eight-re.ensures ∙ c.requires.1.re))
+    (λ c. no-nans _ refl (ap (λ w. finite (of_bits binary64 w)) c.eight-im.ensures ∙ c.requires.1.im))
+    (λ c. no-nans _ refl (ap (λ w. finite (of_bits binary64 w)) c.eight-num.ensures ∙ c.requires.1.num))
     returns)

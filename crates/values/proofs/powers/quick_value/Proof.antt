@@ -20,27 +20,27 @@ no_answer e = let z : ◌≡◌ {A = ℕ} 0 1 = cc in omega arith
 same_answer : {a b : ValueAnswer} → Answer a ≡ Answer b → a ≡ b
 same_answer e = cc
 
-returns-5 : tie.Need-returns-5
+returns-5 : tie.Need-returns-in-Powers
 returns-5 c a e =
-    let told = c.before.before in
-    let found = told.before.before in
-    let test = found.before in
-    let few = test.before.before in
-    let some = few.before in
-    let whole = some.before in
-    let st = whole.before.before in
+    let told = c in
+    let found = told in
+    let test = found in
+    let few = test in
+    let some = few in
+    let whole = some in
+    let st = whole in
     let l = st.args.list.now in
     let x = st.args.x in
     let n = length l / 32 in
-    let long : length l ≡ 32 * n = omega (arith, whole.if1.false) in
-    let w = found.find-powers.ensures told.met.given.0.0 told.met.given.1 in
-    let fine = sym test.before.is_finite.ensures ∙ not-false _ test.if4.false in
-    let low : 1 ≤ size w.s = omega (arith, some.if2.false, w.sized) in
-    let high : size w.s ≤ 64 = omega (arith, few.if3.false, w.sized) in
-    subst (ValueOfBytes l x) (same_answer e) (value-known w.s (w.encodes long) w.good low high (c.judge.ensures ∙ judged-all x w.s told.met.given.0.0 fine w.finds))
+    let long : length l ≡ 32 * n = omega (arith, whole.if-list-ne0.false) in
+    let w = found.find_powers-met.ensures told.in-Powers.f told.in-Powers.is in
+    let fine = sym test.is_finite.ensures ∙ test.if-not-is_finite.false in
+    let low : 1 ≤ size w.s = omega (arith, some.if-n-lt1.false, w.sized) in
+    let high : size w.s ≤ 64 = omega (arith, few.if-n-gt-SUM_ENTRIES.false, w.sized) in
+    subst (ValueOfBytes l x) (same_answer e) (value-known w.s (w.encodes long) w.good low high (c.judge.ensures ∙ judged-all x w.s told.in-Powers.f fine w.finds))
 
-pub quick-value-spec : {M : Type 1} → statement M
-quick-value-spec =
+pub quick_value_spec : {M : Type 1} → statement M
+quick_value_spec =
     tie.close
     (tie.spec
     (λ c a e. absurd (no_answer e))

@@ -10,14 +10,14 @@ use Rattle.writing.proofs.draft.Lying.{copy_more, copy-all}
 use Rattle.writing.proofs.draft.copy_out.Statement.{statement}
 use Rattle.writing.proofs.draft.copy_out.Tie as tie
 
-abbrev invariant-loop : tie.invariant-loop
+abbrev invariant-loop : tie.invariant-loop-j
 invariant-loop b from n out₀ j₀ out j = (j ≤ n) × (out ≡ sets out₀ 0 (part from j b))
 
-abbrev decreases-loop : tie.decreases-loop
+abbrev decreases-loop : tie.decreases-loop-j
 decreases-loop b from n out₀ j₀ out j = n - j
 
-pub copy-out-spec : {M : Type 1} → statement M
-copy-out-spec =
+pub copy_out_spec : {M : Type 1} → statement M
+copy_out_spec =
     tie.close
     (tie.spec
     invariant-loop
@@ -25,13 +25,13 @@ copy-out-spec =
     (λ c. (omega arith, refl))
     (λ c. search rules)
     (λ c. search rules)
-    (λ c. omega (arith, simp length-sets at (ap length c.before.before.loop.invariant.1)))
+    (λ c. omega (arith, simp length-sets at (ap length c.loop-j.invariant.1)))
     (λ c. search rules)
     (λ c. search rules)
-    (λ c. let s = c.before.before.before in (
+    (λ c. let s = c in (
       omega arith,
-      copy_more s.args.b.now s.args.out.now _ s.args.from c.before.before.loop.j (omega arith)
-          c.before.before.loop.invariant.1,
+      copy_more s.args.b.now s.args.out.now _ s.args.from c.loop-j.j (omega arith)
+          c.loop-j.invariant.1,
     ))
-    (λ c. ap length c.before.loop.invariant.1 ∙ simp length-sets)
-    (λ c. let s = c.before.before in copy-all s.args.b.now s.args.out.now _ s.args.from s.args.n c.before.loop.j c.before.loop.invariant.1 (omega arith)))
+    (λ c. ap length c.loop-j.invariant.1 ∙ simp length-sets)
+    (λ c. let s = c in copy-all s.args.b.now s.args.out.now _ s.args.from s.args.n c.loop-j.j c.loop-j.invariant.1 (omega arith)))

@@ -4,11 +4,11 @@ use Rattle.writing.proofs.draft.Growing.{said-drawn}
 use Rattle.writing.proofs.draft.say.Statement.{statement}
 use Rattle.writing.proofs.draft.say.Tie as tie
 
-pub say-spec : {M : Type 1} → statement M
-say-spec =
+pub say_spec : {M : Type 1} → statement M
+say_spec =
     tie.close
     (tie.spec
     (λ c κs. search rules)
     (λ c. search rules)
     (λ c. search rules)
-    (λ c. let s = c.before.before.before.before.before in said-drawn s.args.d s.requires c.before.before.put_record.ensures))
+    (λ c. let s = c in said-drawn s.args.d s.requires c.put_record.ensures))

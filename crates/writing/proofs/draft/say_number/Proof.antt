@@ -7,16 +7,16 @@ use Rattle.writing.proofs.draft.Growing.{number-done, number-refused}
 use Rattle.writing.proofs.draft.say_number.Statement.{statement}
 use Rattle.writing.proofs.draft.say_number.Tie as tie
 
-pub say-number-spec : {M : Type 1} → statement M
-say-number-spec =
+pub say_number_spec : {M : Type 1} → statement M
+say_number_spec =
     tie.close
     (tie.spec
     (λ c κs. search rules)
-    (λ c. let s = c.before.before.before in number-refused s.args.complex s.args.c (sym c.before.can-write.ensures ∙ not-true _ c.if1.true))
-    (λ c κs. subst T (sym (not-false _ c.before.if1.false) ∙ c.before.before.can-write.ensures) tt)
+    (λ c. let s = c in number-refused s.args.complex s.args.c (sym c.can_write.ensures ∙ c.if-not-can_write.true))
+    (λ c κs. subst T (sym c.if-not-can_write.false ∙ c.can_write.ensures) tt)
     (λ c κs. search rules)
     (λ c. search rules)
     (λ c.
-    let s = c.before.before.before.before.before.before.before.before in
-    number-done s.args.complex s.args.c (sym c.before.before.before.before.before.before.can-write.ensures ∙ not-false _
-    c.before.before.before.before.before.if1.false) c.before.before.before.number-record.ensures c.before.before.say.ensures))
+    let s = c in
+    number-done s.args.complex s.args.c (sym c.can_write.ensures ∙ not-false _
+    c.if-not-can_write.false) c.number_record.ensures c.say-q.ensures))

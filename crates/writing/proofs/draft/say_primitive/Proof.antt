@@ -7,11 +7,11 @@ use Rattle.writing.proofs.draft.Growing.{drawn-as}
 use Rattle.writing.proofs.draft.say_primitive.Statement.{statement}
 use Rattle.writing.proofs.draft.say_primitive.Tie as tie
 
-pub say-primitive-spec : {M : Type 1} → statement M
-say-primitive-spec =
+pub say_primitive_spec : {M : Type 1} → statement M
+say_primitive_spec =
     tie.close
     (tie.spec
     (λ c κs. search rules)
     (λ c κs. search rules)
     (λ c. search rules)
-    (λ c. drawn-as c.before.before.say.ensures _ (λ ns. ap (λ (x : Record). append ns (one x)) c.before.before.before.does.ensures)))
+    (λ c. drawn-as c.say.ensures _ (λ ns. ap (λ (x : Record). append ns (one x)) c.does.ensures)))

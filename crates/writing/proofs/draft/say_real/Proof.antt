@@ -7,11 +7,11 @@ use Rattle.writing.proofs.draft.Growing.{drawn-as}
 use Rattle.writing.proofs.draft.say_real.Statement.{statement}
 use Rattle.writing.proofs.draft.say_real.Tie as tie
 
-pub say-real-spec : {M : Type 1} → statement M
-say-real-spec =
+pub say_real_spec : {M : Type 1} → statement M
+say_real_spec =
     tie.close
     (tie.spec
     (λ c κs. search rules)
     (λ c κs. search rules)
     (λ c. search rules)
-    (λ c. drawn-as c.before.before.say.ensures _ (λ ns. ap (λ (x : Record). append ns (one x)) c.before.before.before.push.ensures)))
+    (λ c. drawn-as c.say.ensures _ (λ ns. ap (λ (x : Record). append ns (one x)) c.push.ensures)))

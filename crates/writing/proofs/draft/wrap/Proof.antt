@@ -20,7 +20,7 @@ wrap_spec =
     (λ c κs. search rules)
     (λ c. search rules)
     (λ c.
-    let first = c.before.before.before.before.before.before.before in
-    let s = first.before.before.before.before.before.before in
-    wrapped-drawn s.args.d _ _ s.requires (omega arith) (omega arith) first.before.on.ensures c.before.before.before.body.ensures first.put_record.ensures
-    c.before.before.put-record2.ensures))
+    let first = c in
+    let s = first in
+    wrapped-drawn s.args.d _ _ s.requires (omega arith) (omega arith) first.on.ensures c.body.ensures first.put_record.ensures
+    c.put_record-2.ensures))

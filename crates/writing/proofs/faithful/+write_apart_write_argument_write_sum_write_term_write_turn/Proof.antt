@@ -158,11 +158,11 @@ write-turn-claims t = (
 
 -- ---- write_sum
 
-abbrev Inv : write-sum-lts.invariant-loop
+abbrev Inv : write-sum-lts.invariant-loop-q
 Inv kinds insides numbers j m complex left b₀ q₀ identity₀ draft₀ b q identity draft =
     (s : Sum) → Lies (book kinds insides numbers) j (j + m) left s → Left b₀ b draft₀ draft (book kinds insides numbers) j q (j + m) left (faithful-loop complex) identity s
 
-abbrev μ : write-sum-lts.decreases-loop
+abbrev μ : write-sum-lts.decreases-loop-q
 μ kinds insides numbers j m complex left b₀ q₀ identity₀ draft₀ b q identity draft = j + m - q
 
 module _ (t : ℕ) where
@@ -170,13 +170,13 @@ module _ (t : ℕ) where
   Sum-start = write-sum-lts.Start (write-sum-claims t) (write-sum-at t) write-sum.Post Inv μ
 
   abbrev Sum-loop : Type 0
-  Sum-loop = write-sum-lts.At-loop (write-sum-claims t) (write-sum-at t) write-sum.Post Inv μ
+  Sum-loop = write-sum-lts.At-loop-q (write-sum-claims t) (write-sum-at t) write-sum.Post Inv μ
 
   abbrev Sum-load : Type 0
-  Sum-load = write-sum-lts.After-load (write-sum-claims t) (write-sum-at t) write-sum.Post Inv μ
+  Sum-load = write-sum-lts.After-load-x (write-sum-claims t) (write-sum-at t) write-sum.Post Inv μ
 
   abbrev Sum-turn : Type 0
-  Sum-turn = write-sum-lts.After-write-turn (write-sum-claims t) (write-sum-at t) write-sum.Post Inv μ
+  Sum-turn = write-sum-lts.After-write_turn (write-sum-claims t) (write-sum-at t) write-sum.Post Inv μ
 
   abbrev sum-start : Sum-loop → Sum-start
   sum-start c = c.before.before.before.before
@@ -192,47 +192,47 @@ module _ (t : ℕ) where
 
   -- what is left of the sum that is held
   abbrev now-left : (c : Sum-loop) → (let st = sum-start c in
-      Left st.args.b.now c.loop.b st.args.d c.loop.draft (sum-book st) st.args.j c.loop.q (st.args.j + st.args.m)
-      st.args.left (faithful-loop st.args.complex) c.loop.identity st.pre.1.0.0)
-  now-left c = let h = (sum-start c).requires.1.0 in c.loop.invariant h.0 h.1
+      Left st.args.b.now c.loop-q.b st.args.d c.loop-q.draft (sum-book st) st.args.j c.loop-q.q (st.args.j + st.args.m)
+      st.args.left (faithful-loop st.args.complex) c.loop-q.identity st.requires.1.0.0)
+  now-left c = let h = (sum-start c).requires.1.0 in c.loop-q.invariant h.0 h.1
 
   -- its next entry, which was read
   held : (c : Sum-load) → (let l = sum-loop c in let st = sum-start l in
-      Next (sum-book st) l.loop.q (st.args.j + st.args.m) st.args.left (now-left l).rest c.load.result)
-  held c = first (sum-start (sum-loop c)).args.m (now-left (sum-loop c)) c.load.result c.load.ensures c.before.loop-test.true
+      Next (sum-book st) l.loop-q.q (st.args.j + st.args.m) st.args.left (now-left l).rest c.load-x.result)
+  held c = first (sum-start (sum-loop c)).args.m (now-left (sum-loop c)) c.load-x.result c.load-x.ensures c.loop-q-test.true
 
   -- the next place fits
-  bound : (c : Sum-load) → (sum-loop c).loop.q + 1 + c.load.result.inside < 2 ^ 64
-  bound c = let st = sum-start (sum-loop c) in omega (arith, (held c).within, st.pre.1.0.1.room.insides, st.good)
+  bound : (c : Sum-load) → (sum-loop c).loop-q.q + 1 + c.load-x.result.inside < 2 ^ 64
+  bound c = let st = sum-start (sum-loop c) in omega (arith, (held c).within, st.requires.1.0.1.room.insides, st.well_formed)
 
-  ready : (c : Sum-load) → (let n = c.load.result.inside in
-      Ready (sum-loop c).loop.b (sum-loop c).loop.draft (2 * n + 2) (10 * n + 9 + argument_front * ((sum-start (sum-loop c)).args.left - 1 + 1)))
+  ready : (c : Sum-load) → (let n = c.load-x.result.inside in
+      Ready (sum-loop c).loop-q.b (sum-loop c).loop-q.draft (2 * n + 2) (10 * n + 9 + argument_front * ((sum-start (sum-loop c)).args.left - 1 + 1)))
   ready c =
       let l = sum-loop c in
       let st = sum-start l in
       let m = st.args.m in
       let deep = (held c).first.deep in
       let more = argument_front * st.args.left in
-      ready-less (turn-ready m (now-left l) c.load.result c.load.ensures c.before.loop-test.true more st.pre.1.1) (omega arith) (omega arith)
+      ready-less (turn-ready m (now-left l) c.load-x.result c.load-x.ensures c.loop-q-test.true more st.requires.1.1) (omega arith) (omega arith)
 
-  fine : (c : Sum-load) → T (finite c.load.result.num)
-  fine c = number-finite (sum-start (sum-loop c)).args.m (now-left (sum-loop c)) c.load.result c.load.ensures c.before.loop-test.true
+  fine : (c : Sum-load) → T (finite c.load-x.result.num)
+  fine c = number-finite (sum-start (sum-loop c)).args.m (now-left (sum-loop c)) c.load-x.result c.load-x.ensures c.loop-q-test.true
 
   -- an entry is refused
-  sum-stop : write-sum-lts.Need-returns (write-sum-claims t) (write-sum-at t) write-sum.Post Inv μ
+  sum-stop : write-sum-lts.Need-returns-in-Refused (write-sum-claims t) (write-sum-at t) write-sum.Post Inv μ
   sum-stop c s l =
       let turned = c.before.before.before.before.before in
       let read = sum-load turned in
       let at = sum-loop read in
-      left-stop (sum-start at).args.m (at.loop.inv s l) read.load.result read.load.ensures read.before.loop-test.taken
-      turned.write-turn.ensures c.before.r.given.0.0 c.before.r.given.1
+      left-stop (sum-start at).args.m (at.loop-q.invariant s l) read.load-x.result read.load-x.ensures read.loop-q-test.true
+      turned.write_turn.ensures c.in-Refused.r c.in-Refused.is
 
   -- nothing is left
-  sum-end : write-sum-lts.Need-returns-2 (write-sum-claims t) (write-sum-at t) write-sum.Post Inv μ
+  sum-end : write-sum-lts.Need-returns (write-sum-claims t) (write-sum-at t) write-sum.Post Inv μ
   sum-end c s l =
-      let tested = c.before.before.before.before in
-      let at = tested.before in
-      left_end (sum-start at).args.m (at.loop.invariant s l) tested.loop-test.false c.before.before.close.ensures
+      let tested = c in
+      let at = tested.before.before.before.before.before in
+      left_end (sum-start at).args.m (at.loop-q.invariant s l) tested.loop-q-test.false c.close.ensures
 
 -- ---- write_apart
 
@@ -241,7 +241,7 @@ module _ (t : ℕ) where
   Apart-start = write-apart-lts.Start (write-apart-claims t) (write-apart-at t) write-apart.Post
 
   abbrev Apart-sum : Type 0
-  Apart-sum = write-apart-lts.After-write-sum (write-apart-claims t) (write-apart-at t) write-apart.Post
+  Apart-sum = write-apart-lts.After-write_sum (write-apart-claims t) (write-apart-at t) write-apart.Post
 
   abbrev apart-start : Apart-sum → Apart-start
   apart-start c = c.before.before.before.before.before
@@ -251,40 +251,40 @@ module _ (t : ℕ) where
   apart-room c = omega (arith, c.requires.1.1.after)
 
   abbrev Apart-done : Type 0
-  Apart-done = write-apart-lts.After-f (write-apart-claims t) (write-apart-at t) write-apart.Post
+  Apart-done = write-apart-lts.In-Done-2 (write-apart-claims t) (write-apart-at t) write-apart.Post
 
   -- what was written lies where the draft says
-  apart-lies : (c : Apart-done) → (ns : Nodes) × Lying c.before.before.before.before.write-sum.new.1.1.1.1.1.1.1.0 c.f.given.0.0 ns
+  apart-lies : (c : Apart-done) → (ns : Nodes) × Lying c.write_sum.new.b c.in-Done.f ns
   apart-lies c =
       let written = c.before.before.before.before in
       let st = apart-start written in
-      let h = st.pre.1.0 in
-      front-lies st.args.n st.args.complex h.0 (omega (arith, h.1.ends)) (apart-room st) (written.write-sum.ensures h.0 h.1) c.f.given.0.0 c.f.given.1
+      let h = st.requires.1.0 in
+      front-lies st.args.n st.args.complex h.0 (omega (arith, h.1.ends)) (apart-room st) (written.write_sum.ensures h.0 h.1) c.in-Done.f c.in-Done.is
 
-  apart-ends : (c : Apart-done) → c.f.given.0.0.end < 1024
+  apart-ends : (c : Apart-done) → c.in-Done.f.end < 1024
   apart-ends c =
       let written = c.before.before.before.before in
       let st = apart-start written in
-      let h = st.pre.1.0 in
-      let few = st.pre.1.1.few in
-      let e = front_ends st.args.n st.args.complex h.0 (omega (arith, h.1.ends)) (apart-room st) (written.write-sum.ensures h.0 h.1) c.f.given.0.0 c.f.given.1 in
+      let h = st.requires.1.0 in
+      let few = st.requires.1.1.few in
+      let e = front_ends st.args.n st.args.complex h.0 (omega (arith, h.1.ends)) (apart-room st) (written.write_sum.ensures h.0 h.1) c.in-Done.f c.in-Done.is in
       omega arith
 
-  apart-refused : write-apart-lts.Need-returns (write-apart-claims t) (write-apart-at t) write-apart.Post
+  apart-refused : write-apart-lts.Need-returns-in-Refused (write-apart-claims t) (write-apart-at t) write-apart.Post
   apart-refused c s l =
       let written = c.before.before.before.before.before in
       let st = apart-start written in
-      front-stop st.args.n st.args.complex s (omega (arith, l.ends)) (apart-room st) (written.write-sum.ensures s l) c.before.q.given.0.0 c.before.q.given.1
+      front-stop st.args.n st.args.complex s (omega (arith, l.ends)) (apart-room st) (written.write_sum.ensures s l) c.in-Refused.q c.in-Refused.is
 
-  apart-moved : write-apart-lts.Need-returns-2 (write-apart-claims t) (write-apart-at t) write-apart.Post
+  apart-moved : write-apart-lts.Need-returns-in-Done (write-apart-claims t) (write-apart-at t) write-apart.Post
   apart-moved c s l =
       let done = c.before.before.before.before.before.before.before in
       let written = done.before.before.before.before in
       let st = apart-start written in
-      let f = done.f.given.0.0 in
+      let f = done.in-Done.f in
       let here = (apart-lies done).1.ends in
-      front-done st.args.n st.args.complex s (omega (arith, l.ends)) (apart-room st) (written.write-sum.ensures s l) f (f.end - f.from) done.f.given.1 (omega arith)
-      c.before.before.bring-down.ensures
+      front-done st.args.n st.args.complex s (omega (arith, l.ends)) (apart-room st) (written.write_sum.ensures s l) f (f.end - f.from) done.in-Done.is (omega arith)
+      c.bring_down.ensures
 
 -- ---- write_argument
 
@@ -293,30 +293,30 @@ module _ (t : ℕ) where
   Argument-start = write-argument-lts.Start (write-argument-claims t) (write-argument-at t) write-argument.Post
 
   abbrev Argument-apart : Type 0
-  Argument-apart = write-argument-lts.After-write-apart (write-argument-claims t) (write-argument-at t) write-argument.Post
+  Argument-apart = write-argument-lts.After-write_apart (write-argument-claims t) (write-argument-at t) write-argument.Post
 
   abbrev argument-start : Argument-apart → Argument-start
   argument-start c = c.before.before.before.before.before.before
 
   argument-long : (c : Argument-apart) (s : Sum) → (let st = argument-start c in
       Lies (book st.args.kinds.now st.args.insides.now st.args.numbers.now) st.args.i (st.args.i + st.args.n) st.args.left s
-      → length (put_mid (24 * st.args.d.end) (length st.args.b.now - 24 * st.args.d.end) st.args.b.now c.write-apart.new.1.1.1.1.1.1.1.0) ≡ length st.args.b.now)
-  argument-long c s l = let st = argument-start c in long-back st.args.b.now (24 * st.args.d.end) (omega (arith, st.pre.1.1.after)) c.write-apart.new.1.1.1.1.1.1.1.0
-      (c.write-apart.ensures s l).long
+      → length (put_mid (24 * st.args.d.end) (length st.args.b.now - 24 * st.args.d.end) st.args.b.now c.write_apart.new.b) ≡ length st.args.b.now)
+  argument-long c s l = let st = argument-start c in long-back st.args.b.now (24 * st.args.d.end) (omega (arith, st.requires.1.1.after)) c.write_apart.new.b
+      (c.write_apart.ensures s l).long
 
-  argument-refused : write-argument-lts.Need-returns (write-argument-claims t) (write-argument-at t) write-argument.Post
+  argument-refused : write-argument-lts.Need-returns-in-Refused (write-argument-claims t) (write-argument-at t) write-argument.Post
   argument-refused c s l =
       let made = c.before.before.before.before.before in
       let st = argument-start made in
-      argument-stop (write_faithful st.args.complex s false end) (made.write-apart.ensures s l) (argument-long made s l) c.before.q.given.0.0 c.before.q.given.1
+      argument-stop (write_faithful st.args.complex s false end) (made.write_apart.ensures s l) (argument-long made s l) c.in-Refused.q c.in-Refused.is
 
-  argument-joined : write-argument-lts.Need-returns-2 (write-argument-claims t) (write-argument-at t) write-argument.Post
+  argument-joined : write-argument-lts.Need-returns-in-Done (write-argument-claims t) (write-argument-at t) write-argument.Post
   argument-joined c s l =
-      let went = c.before.before.before in
-      let made = went.before.before.before.before in
+      let went = c in
+      let made = went.before.before.before.before.before.before.before in
       let st = argument-start made in
-      argument-done (write_faithful st.args.complex s false end) (made.write-apart.ensures s l) (argument-long made s l) went.f.given.0.0
-      (post_of (24 * st.args.d.end) (length st.args.b.now - 24 * st.args.d.end) st.args.b.now) went.f.given.1 refl
+      argument-done (write_faithful st.args.complex s false end) (made.write_apart.ensures s l) (argument-long made s l) went.in-Done.f
+      (post_of (24 * st.args.d.end) (length st.args.b.now - 24 * st.args.d.end) st.args.b.now) went.in-Done.is refl
 
 -- ---- write_term
 
@@ -325,34 +325,34 @@ module _ (t : ℕ) where
   Term-start = write-term-lts.Start (write-term-claims t) (write-term-at t) write-term.Post
 
   abbrev Term-sum : Type 0
-  Term-sum = write-term-lts.After-write-argument (write-term-claims t) (write-term-at t) write-term.Post
+  Term-sum = write-term-lts.After-write_argument (write-term-claims t) (write-term-at t) write-term.Post
 
   -- where the argument was written, and where the function began
-  abbrev term-else : Term-sum → write-term-lts.Else1 (write-term-claims t) (write-term-at t) write-term.Post
+  abbrev term-else : Term-sum → write-term-lts.Else-x-eq-X (write-term-claims t) (write-term-at t) write-term.Post
   term-else c = c.before.before.before
 
   abbrev term-start : Term-sum → Term-start
   term-start c = (term-else c).before.before.before.before.before
 
   -- the argument is refused
-  term-refused : write-term-lts.Need-returns-2 (write-term-claims t) (write-term-at t) write-term.Post
+  term-refused : write-term-lts.Need-returns-in-Refused (write-term-claims t) (write-term-at t) write-term.Post
   term-refused c s l =
       let argument = c.before.before.before.before.before in
       let st = term-start argument in
       let n = st.args.x.inside in
-      term-stop st.args.x st.args.complex (apart st.args.complex s) (10 * st.args.x.inside) (term-else argument).if1.false
-      (spoken-more (argument.write-argument.ensures s l) (2 * n) (10 * n + 2) (omega arith) (omega arith)) c.before.q.given.0.0 c.before.q.given.1
+      term-stop st.args.x st.args.complex (apart st.args.complex s) (10 * st.args.x.inside) (term-else argument).if-x-eq-X.false
+      (spoken-more (argument.write_argument.ensures s l) (2 * n) (10 * n + 2) (omega arith) (omega arith)) c.in-Refused.q c.in-Refused.is
 
   -- the argument is written, and the function after it
-  term-done : write-term-lts.Need-returns-3 (write-term-claims t) (write-term-at t) write-term.Post
+  term-done : write-term-lts.Need-returns-in-Done (write-term-claims t) (write-term-at t) write-term.Post
   term-done c s l =
-      let went = c.before.before.before.before.before.before in
-      let argument = went.before.before.before.before in
+      let went = c in
+      let argument = went.before.before.before.before.before.before.before.before.before.before.before in
       let st = term-start argument in
       let n = st.args.x.inside in
-      term-function st.args.x st.args.complex (apart st.args.complex s) (10 * st.args.x.inside) (term-else argument).if1.false
-      (spoken-more (argument.write-argument.ensures s l) (2 * n) (10 * n + 2) (omega arith) (omega arith)) went.e.given.1
-      c.before.before.before.is_one.ensures c.before.before.write-function.ensures
+      term-function st.args.x st.args.complex (apart st.args.complex s) (10 * st.args.x.inside) (term-else argument).if-x-eq-X.false
+      (spoken-more (argument.write_argument.ensures s l) (2 * n) (10 * n + 2) (omega arith) (omega arith)) went.in-Done.is
+      c.is_one.ensures c.write_function.ensures
 
 -- ---- write_turn
 
@@ -361,50 +361,50 @@ module _ (t : ℕ) where
   Turn-start = write-turn-lts.Start (write-turn-claims t) (write-turn-at t) write-turn.Post
 
   abbrev Turn-kept : Type 0
-  Turn-kept = write-turn-lts.After-before2 (write-turn-claims t) (write-turn-at t) write-turn.Post
+  Turn-kept = write-turn-lts.After-before-e (write-turn-claims t) (write-turn-at t) write-turn.Post
 
   abbrev Turn-term : Type 0
-  Turn-term = write-turn-lts.After-write-term (write-turn-claims t) (write-turn-at t) write-turn.Post
+  Turn-term = write-turn-lts.After-write_term (write-turn-claims t) (write-turn-at t) write-turn.Post
 
   -- from the term back: what was written is kept, the coefficient is not zero, and where the turn began
   abbrev turn-kept : Turn-term → Turn-kept
   turn-kept c = c.before.before.before.before
 
-  abbrev turn-else : Turn-kept → write-turn-lts.Else1 (write-turn-claims t) (write-turn-at t) write-turn.Post
+  abbrev turn-else : Turn-kept → write-turn-lts.Else-is_zero (write-turn-claims t) (write-turn-at t) write-turn.Post
   turn-else c = c.before.before.before
 
   abbrev turn-start : Turn-kept → Turn-start
   turn-start c = (turn-else c).before.before.before.before.before
 
   -- the term is refused
-  turn-refused : write-turn-lts.Need-returns-2 (write-turn-claims t) (write-turn-at t) write-turn.Post
+  turn-refused : write-turn-lts.Need-returns-in-Refused (write-turn-claims t) (write-turn-at t) write-turn.Post
   turn-refused c s l =
       let term = c.before.before.before.before.before in
       let kept = turn-kept term in
       let test = turn-else kept in
       let st = turn-start kept in
-      turn-stop st.args.x st.args.complex (apart st.args.complex s) (10 * st.args.x.inside) st.args.identity (sym test.before.is_zero.ensures ∙ test.if1.left) refl
-      kept.before2.ensures
-      (term.write-term.ensures s l) c.before.q.given.0.0 c.before.q.given.1
+      turn-stop st.args.x st.args.complex (apart st.args.complex s) (10 * st.args.x.inside) st.args.identity (sym test.is_zero.ensures ∙ test.if-is_zero.left) refl
+      kept.before-e.ensures
+      (term.write_term.ensures s l) c.in-Refused.q c.in-Refused.is
 
   -- the term is written, and what follows it
-  turn-done : write-turn-lts.Need-returns-3 (write-turn-claims t) (write-turn-at t) write-turn.Post
+  turn-done : write-turn-lts.Need-returns-in-Done (write-turn-claims t) (write-turn-at t) write-turn.Post
   turn-done c s l =
-      let went = c.before.before.before.before.before in
-      let term = went.before.before.before.before in
+      let went = c in
+      let term = went.before.before.before.before.before.before.before.before.before in
       let kept = turn-kept term in
       let test = turn-else kept in
       let st = turn-start kept in
-      turn_more st.args.x st.args.complex (apart st.args.complex s) (10 * st.args.x.inside) st.args.identity (sym test.before.is_zero.ensures ∙ test.if1.left) refl
-      kept.before2.ensures
-      (term.write-term.ensures s l) went.f.given.1 c.before.before.finish.ensures
+      turn_more st.args.x st.args.complex (apart st.args.complex s) (10 * st.args.x.inside) st.args.identity (sym test.is_zero.ensures ∙ test.if-is_zero.left) refl
+      kept.before-e.ensures
+      (term.write_term.ensures s l) went.in-Done.is c.finish.ensures
 
-pub +write-apart-write-argument-write-sum-write-term-write-turn-spec : {M : Type 1} → statement M
-+write-apart-write-argument-write-sum-write-term-write-turn-spec =
+pub +write_apart_write_argument_write_sum_write_term_write_turn_spec : {M : Type 1} → statement M
++write_apart_write_argument_write_sum_write_term_write_turn_spec =
     close μ-write-apart μ-write-argument μ-write-sum μ-write-term μ-write-turn
     (λ t. write-apart-lts.spec (write-apart-claims t) (write-apart-at t) write-apart.Post
     (λ c κs.
-    let st = c.before.before.before.before in
+    let st = c in
     let r = st.requires.1.1 in
     let few = r.few in
     (omega (arith, st.requires.0), (st.requires.1.0, ready-fresh 128 (omega arith) r.after r.most, few)))
@@ -414,43 +414,43 @@ pub +write-apart-write-argument-write-sum-write-term-write-turn-spec : {M : Type
     (λ c. let done = c.before.before.before.before in omega (arith, (apart-lies t done).1.ends, apart-ends t done))
     (λ c. let done = c.before.before.before.before in omega (arith, apart-ends t done))
     (λ c κs. let l = (apart-lies t c.before.before.before.before).1 in omega (arith, l.ends, l.room))
-    (λ c. let h = (apart-start t c.before.before.before.before.before).pre.1.0 in (apart-refused t c h.0 h.1).long)
+    (λ c. let h = (apart-start t c.before.before.before.before.before).requires.1.0 in (apart-refused t c h.0 h.1).long)
     (apart-refused t)
-    (λ c. let h = (apart-start t c.before.before.before.before.before.before.before.before.before.before.before).pre.1.0 in (apart-moved t c h.0 h.1).long)
+    (λ c. let h = (apart-start t c.before.before.before.before.before.before.before.before.before.before.before).requires.1.0 in (apart-moved t c h.0 h.1).long)
     (apart-moved t))
     (λ t. write-argument-lts.spec (write-argument-claims t) (write-argument-at t) write-argument.Post
-    (λ c. let r = c.before.before.before.before.requires.1.1 in omega (arith, r.few))
-    (λ c. let r = c.before.before.before.before.requires.1.1 in omega (arith, r.after))
+    (λ c. let r = c.requires.1.1 in omega (arith, r.few))
+    (λ c. let r = c.requires.1.1 in omega (arith, r.after))
     (λ c. search rules)
     (λ c. search rules)
-    (λ c κs. let st = c.before.before.before.before.before in (omega (arith, st.requires.0), (st.requires.1.0, separate st.args.n st.args.left st.requires.1.2 st.requires.1.1)))
+    (λ c κs. let st = c in (omega (arith, st.requires.0), (st.requires.1.0, separate st.args.n st.args.left st.requires.1.2 st.requires.1.1)))
     (λ c. search rules)
     (λ c. search rules)
     (λ c.
     let st = argument-start t c.before.before.before.before.before.before.before in
-    let h = st.pre.1.0 in
-    omega (arith, (argument-joined t c h.0 h.1).grown.ends, st.pre.1.1.few))
-    (λ c. let h = (argument-start t c.before.before.before.before.before).pre.1.0 in (argument-refused t c h.0 h.1).long)
+    let h = st.requires.1.0 in
+    omega (arith, (argument-joined t c h.0 h.1).grown.ends, st.requires.1.1.few))
+    (λ c. let h = (argument-start t c.before.before.before.before.before).requires.1.0 in (argument-refused t c h.0 h.1).long)
     (argument-refused t)
-    (λ c. let h = (argument-start t c.before.before.before.before.before.before.before).pre.1.0 in (argument-joined t c h.0 h.1).long)
+    (λ c. let h = (argument-start t c.before.before.before.before.before.before.before).requires.1.0 in (argument-joined t c h.0 h.1).long)
     (argument-joined t))
     (λ t. write-sum-lts.spec (write-sum-claims t) (write-sum-at t) write-sum.Post Inv μ
     (λ c s l. outset l)
-    (λ c. let st = sum-start t c in omega (arith, st.pre.1.0.1.room.insides, st.good))
+    (λ c. let st = sum-start t c in omega (arith, st.requires.1.0.1.room.insides, st.well_formed))
     -- the next entry
-    (λ c κs. let w = now-left t c.before in let n = next-at _ _ _ _ w.rest w.lies c.loop-test.true in (n.readable, n.first.plain))
+    (λ c κs. let w = now-left t c.before in let n = next-at _ _ _ _ w.rest w.lies c.loop-q-test.true in (n.readable, n.first.plain))
     (λ c. omega (arith, bound t c))
     (λ c. (held t c).first.deep)
     (λ c κs.
     let read = c.before in
     let n = held t read in
-    let few = (sum-start t (sum-loop t read)).pre.1.2 in
+    let few = (sum-start t (sum-loop t read)).requires.1.2 in
     let within = n.within in
     let here = (now-left t (sum-loop t read)).here in
-    (omega (arith, n.first.deep, (sum-start t (sum-loop t read)).pre.0), ((n.inner, n.lies-inner), ready t read, fine t read, omega arith)))
+    (omega (arith, n.first.deep, (sum-start t (sum-loop t read)).requires.0), ((n.inner, n.lies-inner), ready t read, fine t read, omega arith)))
     (λ c. search rules)
     -- it is refused
-    (λ c. let turned = c.before.before.before.before.before in let h = (sum-start t (sum-loop t (sum-load t turned))).pre.1.0 in (sum-stop t c h.0 h.1).long)
+    (λ c. let turned = c.before.before.before.before.before in let h = (sum-start t (sum-loop t (sum-load t turned))).requires.1.0 in (sum-stop t c h.0 h.1).long)
     (sum-stop t)
     -- or written
     (λ c. search rules)
@@ -458,60 +458,60 @@ pub +write-apart-write-argument-write-sum-write-term-write-turn-spec : {M : Type
     (λ c. omega (arith, bound t c.before.before.before.before.before.before.before.before))
     (λ c. omega (arith, bound t c.before.before.before.before.before.before.before.before.before))
     (λ c. omega (arith, bound t c.before.before.before.before.before.before.before.before.before))
-    (λ c. let read = c.before.before.before.before.before.before.before.before.before in omega (arith, (held t read).within, read.before.loop-test.true))
+    (λ c. let read = c.before.before.before.before.before.before.before.before.before in omega (arith, (held t read).within, read.loop-q-test.true))
     (λ c s l.
     let turned = c.before.before.before.before.before.before.before in
     let read = sum-load t turned in
     let at = sum-loop t read in
-    left-more (sum-start t at).args.m (at.loop.inv s l) read.load.result read.load.ensures read.before.loop-test.taken
-    turned.write-turn.ensures c.before.before.before.next.given.1 c.before.meets-x.ensures)
+    left-more (sum-start t at).args.m (at.loop-q.invariant s l) read.load-x.result read.load-x.ensures read.loop-q-test.true
+    turned.write_turn.ensures c.in-Done.is c.meets_x-identity.ensures)
     -- nothing is left
-    (λ c κs. let at = c.before.before in let st = sum-start t at in close-ready st.args.m (now-left t at) c.before.loop-test.false (ready-less st.pre.1.1 (omega arith) (omega arith)))
-    (λ c. let h = (sum-start t c.before.before.before.before.before).pre.1.0 in (sum-end t c h.0 h.1).long)
+    (λ c κs. let at = c.before.before in let st = sum-start t at in close-ready st.args.m (now-left t at) c.loop-q-test.false (ready-less st.requires.1.1 (omega arith) (omega arith)))
+    (λ c. let h = (sum-start t c.before.before.before.before.before).requires.1.0 in (sum-end t c h.0 h.1).long)
     (sum-end t))
     (λ t. write-term-lts.spec (write-term-claims t) (write-term-at t) write-term.Post
     -- a power of x
-    (λ c κs. let st = c.before.before.before.before.before.before in (ready-less st.requires.1.1 (omega arith) (omega arith), st.requires.1.2))
-    (λ c. c.before.before.write-power.ensures.long)
+    (λ c κs. let st = c in (ready-less st.requires.1.1 (omega arith) (omega arith), st.requires.1.2))
+    (λ c. c.write_power.ensures.long)
     (λ c s l.
-    let test = c.before.before.before.before in
-    let st = test.before.before.before.before.before in
-    term-power st.args.x st.args.complex (apart st.args.complex s) (10 * st.args.x.inside) test.if1.true c.before.before.write-power.ensures)
+    let test = c in
+    let st = test in
+    term-power st.args.x st.args.complex (apart st.args.complex s) (10 * st.args.x.inside) test.if-x-eq-X.true c.write_power.ensures)
     -- a function of a sum
     (λ c. search rules)
     (λ c κs.
-    let st = c.before.before.before.before.before.before.before in
+    let st = c in
     (omega (arith, st.requires.0), (st.requires.1.0, ready-less st.requires.1.1 (omega arith) (omega arith), st.requires.1.3)))
     (λ c. search rules)
     (λ c. search rules)
     (λ c κs. search rules)
     (λ c κs.
-    let argument = c.before.before.before.before.before.before.before in
+    let argument = c.before.before.before.before.before.before.before.before in
     let st = term-start t argument in
-    let h = st.pre.1.0 in
-    (ready-spoken st.pre.1.1 (argument.write-argument.ensures h.0 h.1) c.before.before.before.e.given.1 0 3 (omega arith) (omega arith), st.pre.1.2))
-    (λ c. let h = (term-start t c.before.before.before.before.before).pre.1.0 in (term-refused t c h.0 h.1).long)
+    let h = st.requires.1.0 in
+    (ready-spoken st.requires.1.1 (argument.write_argument.ensures h.0 h.1) c.in-Done.is 0 3 (omega arith) (omega arith), st.requires.1.2))
+    (λ c. let h = (term-start t c.before.before.before.before.before).requires.1.0 in (term-refused t c h.0 h.1).long)
     (term-refused t)
-    (λ c. let h = (term-start t c.before.before.before.before.before.before.before.before.before.before).pre.1.0 in (term-done t c h.0 h.1).long)
+    (λ c. let h = (term-start t c.before.before.before.before.before.before.before.before.before.before.before).requires.1.0 in (term-done t c h.0 h.1).long)
     (term-done t))
     (λ t. write-turn-lts.spec (write-turn-claims t) (write-turn-at t) write-turn.Post
     (λ c κs. search rules)
     -- the coefficient is zero
     (λ c s l.
-    let st = c.before.before.before.before.before in
-    turn-zero st.args.x st.args.complex (apart st.args.complex s) (10 * st.args.x.inside) st.args.identity (sym c.before.is_zero.ensures ∙ c.if1.true))
+    let st = c in
+    turn-zero st.args.x st.args.complex (apart st.args.complex s) (10 * st.args.x.inside) st.args.identity (sym c.is_zero.ensures ∙ c.if-is_zero.true))
     -- it is not
-    (λ c κs. ready-less c.before.before.before.before.before.before.before.requires.1.1 (omega arith) (omega arith))
+    (λ c κs. ready-less c.requires.1.1 (omega arith) (omega arith))
     (λ c κs.
     let kept = c.before.before.before in
     let st = turn-start t kept in
     let n = st.args.x.inside in (
-      omega (arith, st.pre.0),
+      omega (arith, st.requires.0),
       (
-        st.pre.1.0,
-        ready-drawn st.pre.1.1 kept.before2.ensures (2 * n) (10 * n + 5 + argument_front * (st.args.left + 1)) (omega arith) (omega arith),
-        st.pre.1.2,
-        st.pre.1.3,
+        st.requires.1.0,
+        ready-drawn st.requires.1.1 kept.before-e.ensures (2 * n) (10 * n + 5 + argument_front * (st.args.left + 1)) (omega arith) (omega arith),
+        st.requires.1.2,
+        st.requires.1.3,
       ),
     ))
     (λ c. search rules)
@@ -520,14 +520,14 @@ pub +write-apart-write-argument-write-sum-write-term-write-turn-spec : {M : Type
     let term = c.before.before.before.before.before.before in
     let kept = turn-kept t term in
     let st = turn-start t kept in
-    let h = st.pre.1.0 in
+    let h = st.requires.1.0 in
     let n = st.args.x.inside in
-    ready-spoken (ready-drawn st.pre.1.1 kept.before2.ensures (2 * n) (10 * n + 8) (omega arith) (omega arith)) (term.write-term.ensures h.0 h.1)
-    c.before.before.f.given.1 0 3 (omega arith) (omega arith))
-    (λ c. let h = (turn-start t (turn-kept t c.before.before.before.before.before)).pre.1.0 in (turn-refused t c h.0 h.1).long)
+    ready-spoken (ready-drawn st.requires.1.1 kept.before-e.ensures (2 * n) (10 * n + 8) (omega arith) (omega arith)) (term.write_term.ensures h.0 h.1)
+    c.in-Done.is 0 3 (omega arith) (omega arith))
+    (λ c. let h = (turn-start t (turn-kept t c.before.before.before.before.before)).requires.1.0 in (turn-refused t c h.0 h.1).long)
     (turn-refused t)
     (λ c.
-    let went = c.before.before.before.before.before in
-    let h = (turn-start t (turn-kept t went.before.before.before.before)).pre.1.0 in
+    let went = c in
+    let h = (turn-start t (turn-kept t went.before.before.before.before.before.before.before.before.before)).requires.1.0 in
     (turn-done t c h.0 h.1).long)
     (turn-done t))

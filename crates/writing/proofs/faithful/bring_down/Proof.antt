@@ -11,18 +11,18 @@ use Rattle.writing.proofs.faithful.Apart.{unmoved}
 use Rattle.writing.proofs.faithful.bring_down.Statement.{statement}
 use Rattle.writing.proofs.faithful.bring_down.Tie as tie
 
-abbrev invariant-loop : tie.invariant-loop
+abbrev invariant-loop : tie.invariant-loop-j
 invariant-loop b₀ from n j₀ b j = (j ≤ n) × (b ≡ sets b₀ 0 (part from j b₀))
 
-abbrev decreases-loop : tie.decreases-loop
+abbrev decreases-loop : tie.decreases-loop-j
 decreases-loop b₀ from n j₀ b j = n - j
 
 -- the buffer is as long as it was
-long : (c : tie.At-loop invariant-loop decreases-loop) → length c.loop.b ≡ length c.before.args.b.now
-long c = ap length c.loop.invariant.1 ∙ simp length-sets
+long : (c : tie.At-loop-j invariant-loop decreases-loop) → length c.loop-j.b ≡ length c.args.b.now
+long c = ap length c.loop-j.invariant.1 ∙ simp length-sets
 
-pub bring-down-spec : {M : Type 1} → statement M
-bring-down-spec =
+pub bring_down_spec : {M : Type 1} → statement M
+bring_down_spec =
     tie.close
     (tie.spec
     invariant-loop
@@ -34,11 +34,11 @@ bring-down-spec =
     (λ c. search rules)
     (λ c. search rules)
     (λ c.
-    let l = c.before.before in
-    let st = l.before in
-    let here = unmoved st.args.b.now l.loop.b st.args.from l.loop.j (omega arith) l.loop.invariant.1 in (
+    let l = c in
+    let st = l in
+    let here = unmoved st.args.b.now l.loop-j.b st.args.from l.loop-j.j (omega arith) l.loop-j.invariant.1 in (
       omega arith,
-      ap (set l.loop.b l.loop.j) here ∙ copy_more st.args.b.now st.args.b.now _ st.args.from l.loop.j (omega arith) l.loop.invariant.1,
+      ap (set l.loop-j.b l.loop-j.j) here ∙ copy_more st.args.b.now st.args.b.now _ st.args.from l.loop-j.j (omega arith) l.loop-j.invariant.1,
     ))
     (λ c. long c.before)
-    (λ c. let st = c.before.before in copy-all st.args.b.now st.args.b.now _ st.args.from st.args.n c.before.loop.j c.before.loop.invariant.1 (omega arith)))
+    (λ c. let st = c in copy-all st.args.b.now st.args.b.now _ st.args.from st.args.n c.loop-j.j c.loop-j.invariant.1 (omega arith)))

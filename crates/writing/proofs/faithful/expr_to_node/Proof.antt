@@ -16,20 +16,20 @@ use Rattle.writing.proofs.faithful.expr_to_node.Statement.{statement}
 use Rattle.writing.proofs.faithful.expr_to_node.Tie as tie
 
 -- every cell is a power
-powers-only : (c : tie.Then1) → (let st = c.before.before.before.before.before in
+powers-only : (c : tie.Then-powers_end-j) → (let st = c in
     (s : Sum) → Lies (book st.args.kinds.now st.args.insides.now st.args.numbers.now) st.args.j (st.args.j + st.args.m) 4 s → powers s ≡ size s)
 powers-only c s l =
-    let st = c.before.before.before.before.before in
+    let st = c in
     let b = book st.args.kinds.now st.args.insides.now st.args.numbers.now in
     let ends = l.ends in
-    let end = c.before.powers-end.ensures.1 (at b) s (λ k. refl) l.laid l.good (omega arith) in
-    omega (arith, end, c.if1.true)
+    let end = c.powers_end.ensures.1 (at b) s (λ k. refl) l.laid l.good (omega arith) in
+    omega (arith, end, c.if-powers_end-j.true)
 
 same_answer : {out out' : List ℕ} {r : Wrote} {w v : Written} → v ≡ w → Answered out out' r w → Answered out out' r v
 same_answer {out} {out'} {r} e a = subst (λ (w : Written). Answered out out' r w) (sym e) a
 
-pub expr-to-node-spec : {M : Type 1} → statement M
-expr-to-node-spec =
+pub expr_to_node_spec : {M : Type 1} → statement M
+expr_to_node_spec =
     tie.close
     (tie.spec
     (λ c κs. search rules)
@@ -37,10 +37,10 @@ expr-to-node-spec =
     (λ c κs. search rules)
     (λ c. search rules)
     (λ c s l.
-    let wrote = c.before.before in
-    let tested = wrote.before.before in
-    let st = tested.before.before.before.before.before in
-    same_answer (alike st.args.complex s (all-powers s (powers-only tested s l))) (wrote.expr-to-node.ensures s l))
+    let wrote = c in
+    let tested = wrote.before.before.before.before in
+    let st = tested in
+    same_answer (alike st.args.complex s (all-powers s (powers-only tested s l))) (wrote.expr_to_node.ensures s l))
     (λ c κs. search rules)
     (λ c. search rules)
     (λ c. search rules))

@@ -11,11 +11,11 @@ cmp-requires c κs = search rules
 cmp-requires-2 : tie.Need-cmp-requires-2
 cmp-requires-2 c κs = search rules
 
-and-then-requires : tie.Need-and-then-requires
+and-then-requires : tie.Need-and_then-requires
 and-then-requires c κs = search rules
 
 returns : tie.Need-returns
-returns c = c.and_then.ensures ∙ ap₂ and_then c.before.before.cmp.ensures c.before.cmp2.ensures
+returns c = c.and_then.ensures ∙ ap₂ and_then c.cmp.ensures c.cmp-2.ensures
 
-pub cmp-spec : {M : Type 1} → statement M
-cmp-spec = tie.close (tie.spec cmp-requires cmp-requires-2 and-then-requires returns)
+pub cmp_spec : {M : Type 1} → statement M
+cmp_spec = tie.close (tie.spec cmp-requires cmp-requires-2 and-then-requires returns)

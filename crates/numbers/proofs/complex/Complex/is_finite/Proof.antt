@@ -5,14 +5,14 @@ use mathlib.Core.Bool.{◌&&◌}
 use Rattle.numbers.proofs.complex.Complex.is_finite.Statement.{statement}
 use Rattle.numbers.proofs.complex.Complex.is_finite.Tie as tie
 
-is-finite-requires : tie.Need-is-finite-requires
+is-finite-requires : tie.Need-is_finite-requires
 is-finite-requires c κs = search rules
 
-is-finite-requires-2 : tie.Need-is-finite-requires-2
+is-finite-requires-2 : tie.Need-is_finite-requires-2
 is-finite-requires-2 c κs = search rules
 
 returns : tie.Need-returns
-returns c = ap₂ ◌&&◌ c.before.is_finite.ensures c.is-finite2.ensures
+returns c = ap₂ ◌&&◌ c.is_finite.ensures c.is_finite-2.ensures
 
-pub is-finite-spec : {M : Type 1} → statement M
-is-finite-spec = tie.close (tie.spec is-finite-requires is-finite-requires-2 returns)
+pub is_finite_spec : {M : Type 1} → statement M
+is_finite_spec = tie.close (tie.spec is-finite-requires is-finite-requires-2 returns)
