@@ -125,6 +125,7 @@ pub fn kind_no(k: Kind) -> u8
     }
 }
 
+#[tactic(auto, unfolding(crate::specs::Names::kind_of))]
 pub fn kind_of(b: u8) -> KindFound
     ensures { result ≡ kind_of b }
 {
@@ -182,6 +183,7 @@ pub fn primitive_no(p: Primitive) -> u8
     }
 }
 
+#[tactic(auto, unfolding(crate::specs::Names::primitive_of))]
 pub fn primitive_of(code: u8) -> Primitive
     ensures { result ≡ primitive_of code }
 {
@@ -233,6 +235,7 @@ pub fn modifier_no(m: Modifier) -> u8
     }
 }
 
+#[tactic(auto, unfolding(crate::specs::Names::modifier_of))]
 pub fn modifier_of(code: u8) -> Modifier
     ensures { result ≡ modifier_of code }
 {

@@ -28,7 +28,7 @@ unfolding fields_ok
 returns c =
     let r = c.args.r in
     rw (
-      c.is_Known.ensures,
+      c.is_known-known.ensures,
       c.is_a-real.ensures,
       c.is_a-complex.ensures,
       c.is_a-primitive.ensures,

@@ -14,19 +14,19 @@ use Rattle.formats.proofs.record.put_record.Statement.{statement}
 use Rattle.formats.proofs.record.put_record.Tie as tie
 
 module _ (c : tie.After-slice_known-4-1) where
-  stored : c.before.before.put-eight2.new.0 ≡ sets c.before.before.before.before.before.before.before.before.before.before.before.before.before.before.args.out.now
-      (24 * c.before.before.before.before.before.before.before.before.before.before.before.before.before.before.args.i)
-      (encode_rec c.before.before.before.before.before.before.before.before.before.before.before.before.before.before.args.r)
+  stored : c.put_eight-2.new.out ≡ sets c.args.out.now
+      (24 * c.args.i)
+      (encode_rec c.args.r)
   stored =
-      let a = c.before.before.before.before.before.before.before.before.before.before.before.before.before.before.args in
-      c.before.before.put-eight2.ensures
+      let a = c.args in
+      c.put_eight-2.ensures
       ∙ ap (λ (l : List ℕ). sets l (24 * a.i + 16) (bytes 8 a.r.im))
-      (c.before.before.before.before.before.before.put-eight.ensures ∙ ap (λ (l : List ℕ). sets l (24 * a.i + 8) (bytes 8 a.r.re))
-      c.before.before.before.before.before.before.before.before.before.before.put_four.ensures)
+      (c.put_eight.ensures ∙ ap (λ (l : List ℕ). sets l (24 * a.i + 8) (bytes 8 a.r.re))
+      c.put_four.ensures)
       ∙ stores-record a.out.now (24 * a.i) a.r
 
-  long : length c.before.before.put-eight2.new.0 ≡ length c.before.before.before.before.before.before.before.before.before.before.before.before.before.before.args.out.now
-  long = let a = c.before.before.before.before.before.before.before.before.before.before.before.before.before.before.args in ap length stored ∙ length-sets a.out.now
+  long : length c.put_eight-2.new.out ≡ length c.args.out.now
+  long = let a = c.args in ap length stored ∙ length-sets a.out.now
       (24 * a.i) (encode_rec a.r)
 
 returns : tie.Need-returns
@@ -51,8 +51,8 @@ put_record_spec =
     (λ c. search rules)
     (λ c κs. simp length-set (omega arith))
     (λ c. search rules)
-    (λ c κs. omega (arith, simp length-set at c.put_four.auto.0))
+    (λ c κs. omega (arith, simp length-set at c.put_four.auto.out))
     (λ c. search rules)
-    (λ c κs. omega (arith, c.put_eight.auto.0, simp length-set at c.put_four.auto.0))
+    (λ c κs. omega (arith, c.put_eight.auto.out, simp length-set at c.put_four.auto.out))
     long
     returns)

@@ -16,16 +16,16 @@ use Rattle.formats.proofs.rules.all_stand.Statement.{statement}
 use Rattle.formats.proofs.rules.all_stand.Tie as tie
 
 abbrev Inv : tie.invariant-loop-at
-Inv list from n ends₀ of-bodies₀ depth₀ at₀ end₀ bodies₀ ends of-bodies depth at end bodies =
+Inv list from n ends₀ of_bodies₀ depth₀ at₀ end₀ bodies₀ ends of_bodies depth at end bodies =
     (at ≤ end)
     × Within ends n depth end
     × (depth ≤ 128)
     × (length ends ≡ 128)
-    × (length of-bodies ≡ 128)
-    × ((Low list at end bodies (129 - depth) × Owed list ends of-bodies depth end) ↔ Low list from n false 129)
+    × (length of_bodies ≡ 128)
+    × ((Low list at end bodies (129 - depth) × Owed list ends of_bodies depth end) ↔ Low list from n false 129)
 
 abbrev μ : tie.decreases-loop-at
-μ list from n ends₀ of-bodies₀ depth₀ at₀ end₀ bodies₀ ends of-bodies depth at end bodies = 2 * (n - at) + depth
+μ list from n ends₀ of_bodies₀ depth₀ at₀ end₀ bodies₀ ends of_bodies depth at end bodies = 2 * (n - at) + depth
 
 -- no stretch lies around the one that ends here
 done : tie.Need-returns-then-depth-eq0 Inv μ
@@ -36,7 +36,7 @@ done c =
     let k : 0 < 129 - l.depth = omega arith in
     let i = p.ensures.2 (129 - l.depth) k in
     let y = i.0 (low-none a.list.now p.result l.end l.bodies (129 - l.depth) (omega arith)) in
-    (λ _. l.invariant.5.0 (y, owed_none a.list.now l.ends l.of-bodies l.depth l.end c.if-depth-eq0.true), λ _. refl)
+    (λ _. l.invariant.5.0 (y, owed_none a.list.now l.ends l.of_bodies l.depth l.end c.if-depth-eq0.true), λ _. refl)
 
 -- the one around it goes on
 out : tie.Need-loop-at-preserved-then-at-end Inv μ
@@ -47,7 +47,7 @@ out c =
     let k : 0 < 129 - l.depth = omega arith in
     let i = p.ensures.2 (129 - l.depth) k in
     let w = within-pop l.ends a.n l.depth l.end (omega arith) l.invariant.1 in
-    let o = owed-pop a.list.now l.ends l.of-bodies l.depth l.end (omega arith) in
+    let o = owed-pop a.list.now l.ends l.of_bodies l.depth l.end (omega arith) in
     let q = c.if-at-end.true in
     let z = i.0 (low-none a.list.now p.result l.end l.bodies (129 - l.depth) (omega arith)) in (
       omega (arith, w.0),
@@ -124,12 +124,12 @@ into c =
     let f : x ≤ l.end = stands-within r.result p.result l.end l.bodies m in
     let d : l.depth < 128 = omega arith in
     let q : 129 - (l.depth + 1) ≡ 129 - l.depth - 1 = omega arith in
-    let u = owed-push a.list.now l.ends l.of-bodies l.depth l.end x l.bodies (omega arith) (omega arith) in (
+    let u = owed-push a.list.now l.ends l.of_bodies l.depth l.end x l.bodies (omega arith) (omega arith) in (
       omega arith,
       within-push l.ends a.n l.depth l.end x (omega arith) f l.invariant.1,
       omega arith,
       length-set l.ends l.depth l.end ∙ l.invariant.3,
-      length-set l.of-bodies l.depth l.bodies ∙ l.invariant.4,
+      length-set l.of_bodies l.depth l.bodies ∙ l.invariant.4,
       (
         λ y.
             let v = u.0 y.1 in
