@@ -107,6 +107,8 @@ div-by-nan f (fin s m e) = refl
 pub div-by-inf : (f : Format) (x : Float) (s : Bool) → T (finite x) → div f x (inf s) ≡ ±0 (unlike (sign x) s)
 unfolding div
 div-by-inf f (fin t m e) s h = refl
+div-by-inf f nan s h = elim h [ ]
+div-by-inf f (inf _) s h = elim h [ ]
 
 -- anything ⊘ a zero is not finite
 pub div-by-zero : (f : Format) (x y : Float) → Zero y → finite (div f x y) ≡ false
@@ -115,6 +117,10 @@ div-by-zero f nan y z = refl
 div-by-zero f (inf s) (fin t n d) z = refl
 div-by-zero f (fin s m e) (fin t zero d) z = neither (eqb m 0) nan (inf (unlike s t)) refl refl
 div-by-zero f (fin s m e) (fin t (suc n) d) z = absurd (omega (arith, mul-pos (zero-lt-suc n) (up_pos d)))
+div-by-zero f (inf s) nan z = elim z [ ]
+div-by-zero f (inf s) (inf _) z = elim z [ ]
+div-by-zero f (fin s m e) nan z = elim z [ ]
+div-by-zero f (fin s m e) (inf _) z = elim z [ ]
 
 -- a finite quotient has a finite dividend, and a divisor that is no NaN and no zero
 pub div-finite : (f : Format) (x y : Float) → T (finite (div f x y)) → T (finite x) × T (not (is_nan y)) × (Zero y → ⊥)
@@ -127,6 +133,8 @@ div-finite f x y t = (
   where
     nan_is : (y : Float) → T (is_nan y) → y ≡ nan
     nan_is nan n = refl
+    nan_is (inf _) n = elim n [ ]
+    nan_is (fin _ _ _) n = elim n [ ]
 
 -- ---- the test `x - x == 0`
 

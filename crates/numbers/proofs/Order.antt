@@ -108,6 +108,8 @@ lt-irreflexive (fin false m e) = le-ltb (m * up e * down e) (m * up e * down e) 
 top : (y : Float) → T (lt (inf false) y) → ⊥
 unfolding lt
 top (inf t) p = p
+top nan p = elim p [ ]
+top (fin _ _ _) p = elim p [ ]
 
 -- of two numbers only one is below the other
 pub lt-asymmetric : (x y : Float) → lt x y ≡ true → lt y x ≡ false
@@ -122,6 +124,11 @@ lt-asymmetric x y e = is_false (lt y x) (not_T (lt y x) (no x y (T_of e)))
     no (fin s m e) (fin t n d) p q =
         let r = ranks₂ (fin s m e) (fin t n d) tt tt in
         omega (arith, ltb→lt r.0 r.1 (subst T r.2.less p), ltb→lt r.1 r.0 (subst T r.2.more q))
+    no nan y p q = elim p [ ]
+    no (inf true) nan p q = elim p [ ]
+    no (inf true) (inf true) p q = elim p [ ]
+    no (fin s m e) nan p q = elim p [ ]
+    no (fin s m e) (inf true) p q = elim p [ ]
 
 -- what is below a number that is below a third is below that
 pub lt-transitive : (x y z : Float) → lt x y ≡ true → lt y z ≡ true → lt x z ≡ true
@@ -139,6 +146,15 @@ lt-transitive x y z e g = is_true (lt x z) (go x y z (T_of e) (T_of g))
         let r = ranks (fin s m e) (fin t n d) (fin u o g) tt tt tt in
         subst T (sym r.5.less)
         (lt→ltb r.0 r.2 (omega (arith, ltb→lt r.0 r.1 (subst T r.3.less p), ltb→lt r.1 r.2 (subst T r.4.less q))))
+    go nan y z p q = elim p [ ]
+    go (inf true) nan z p q = elim p [ ]
+    go (inf true) (inf true) z p q = elim p [ ]
+    go (inf true) (fin t n d) nan p q = elim q [ ]
+    go (inf true) (fin t n d) (inf true) p q = elim q [ ]
+    go (fin s m e) nan z p q = elim p [ ]
+    go (fin s m e) (inf true) z p q = elim p [ ]
+    go (fin s m e) (fin t n d) nan p q = elim q [ ]
+    go (fin s m e) (fin t n d) (inf true) p q = elim q [ ]
 
 -- of two finite numbers one is below the other or they are equal, and only one of that holds
 pub lt-total : (x y : Float) → T (finite x) → T (finite y) → OneOf (lt x y) (eq x y) (lt y x)
@@ -205,6 +221,15 @@ eq-same f x y p q e = go x y p q (T_of e)
           | inl g ↦ inl (value-unique f (fin s m e) (fin t n d) s (m * up e) (down e) p q (refl, refl) (sym g, sym k) (down_pos e))
           | inr z ↦ let w = eqb→eq a 0 z in inr (no_part (m * up e) (down d) (down_pos d) w, no_part (n * up d) (down e) (down_pos e) (sym k ∙ w))
         ]
+    go nan _ p q t = elim t [ ]
+    go (inf false) nan p q t = elim t [ ]
+    go (inf false) (inf true) p q t = elim t [ ]
+    go (inf false) (fin _ n d) p q t = elim t [ ]
+    go (inf true) nan p q t = elim t [ ]
+    go (inf true) (inf false) p q t = elim t [ ]
+    go (inf true) (fin _ n d) p q t = elim t [ ]
+    go (fin s m e) nan p q h = elim h [ ]
+    go (fin s m e) (inf _) p q h = elim h [ ]
 
 -- ---- `cmp_num`
 

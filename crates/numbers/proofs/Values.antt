@@ -34,19 +34,27 @@ bits-1 = refl
 -- a finite number's value is the fraction num / den
 pub own_value : (x : Float) → T (finite x) → HasValue x (sign x) (num x) (den x)
 own_value (fin s m e) t = (refl, refl)
+own_value nan t = elim t [ ]
+own_value (inf _) t = elim t [ ]
 
 -- what has a value is finite
 pub value-finite : (x : Float) (s : Bool) (a c : ℕ) → HasValue x s a c → T (finite x)
 value-finite (fin t m e) s a c v = tt
+value-finite nan s a c v = elim v [ ]
+value-finite (inf _) s a c v = elim v [ ]
 
 -- a value as a fraction with larger terms
 pub value-scale : (x : Float) (s : Bool) (a c k : ℕ) → HasValue x s a c → HasValue x s (a * k) (c * k)
 value-scale (fin t m e) s a c k v = (v.0, sym (mul_assoc (m * up e) c k) ∙ ap (λ (z : ℕ). z * k) v.1 ∙ mul_right_comm a (down e) k)
+value-scale nan s a c k v = elim v [ ]
+value-scale (inf _) s a c k v = elim v [ ]
 
 -- the negative's value
 pub neg_value : (x : Float) (s : Bool) (a c : ℕ) → HasValue x s a c → HasValue (neg x) (not s) a c
 unfolding neg
 neg_value (fin t m e) s a c v = (ap not v.0, v.1)
+neg_value nan s a c v = elim v [ ]
+neg_value (inf _) s a c v = elim v [ ]
 
 -- two fractions that equal a third equal one another
 cross : (M N d g a c : ℕ) → 0 < c → M * c ≡ a * d → N * c ≡ a * g → M * g ≡ N * d
@@ -63,6 +71,10 @@ same_bits f (fin t m e) (fin u n d) s a c v w C =
     div_same (m * up e * l) (down e) (n * up d * l) (down d) (down_pos e) (down_pos d)
     (mul_right_comm (m * up e) l (down d) ∙ ap (λ (z : ℕ). z * l) k ∙ mul_right_comm (n * up d) (down e) l) in
     ap₂ (λ (b : Bool) (z : ℕ). cond b (top f) 0 + (size z - prec f) * hid f + z / 2 ^ (size z - prec f)) (v.0 ∙ sym w.0) same
+same_bits f nan y s a c v w C = elim v [ ]
+same_bits f (inf _) y s a c v w C = elim v [ ]
+same_bits f (fin t m e) nan s a c v w C = elim w [ ]
+same_bits f (fin t m e) (inf _) s a c v w C = elim w [ ]
 
 -- two numbers that fit and have one value are the same
 pub value-unique : (f : Format) (x y : Float) (s : Bool) (a c : ℕ) → T (fits f x) → T (fits f y) → HasValue x s a c → HasValue y s a c → 0 < c → x ≡ y
@@ -121,6 +133,8 @@ round-itself f s m e t =
 pub round-to : (f : Format) (x : Float) (s : Bool) (a c : ℕ) → T (fits f x) → 0 < c → HasValue x s a c → round f s a c ≡ x
 round-to f (fin t m e) s a c p C v =
     round_same f s a c (m * up e) (down e) C (down_pos e) (sym v.1) ∙ ap (λ (b : Bool). round f b (m * up e) (down e)) (sym v.0) ∙ round-itself f t m e p
+round-to f nan s a c p C v = elim v [ ]
+round-to f (inf _) s a c p C v = elim v [ ]
 
 -- ---- an operation sees only the values of its operands
 
@@ -176,16 +190,28 @@ below-same true true A B C a b c P p e g = ltb-same B A C b a c P p g e
 pub add_at : (f : Format) (x y : Float) (s t : Bool) (a b c : ℕ) → HasValue x s a c → HasValue y t b c → 0 < c → add f x y ≡ sum f s a t b c
 unfolding add
 add_at f (fin u m e) (fin v n d) s t a b c p q C = by_value (λ s t A B C. sum f s A t B C) (sum_same f) u m e v n d s t a b c p q C
+add_at f nan y s t a b c p q C = elim p [ ]
+add_at f (inf _) y s t a b c p q C = elim p [ ]
+add_at f (fin u m e) nan s t a b c p q C = elim q [ ]
+add_at f (fin u m e) (inf _) s t a b c p q C = elim q [ ]
 
 -- ==, by any two fractions with one denominator that the operands equal
 pub eq-at : (x y : Float) (s t : Bool) (a b c : ℕ) → HasValue x s a c → HasValue y t b c → 0 < c → eq x y ≡ level s a t b
 unfolding eq
 eq-at (fin u m e) (fin v n d) s t a b c p q C = by_value (λ s t A B C. level s A t B) level-same u m e v n d s t a b c p q C
+eq-at nan y s t a b c p q C = elim p [ ]
+eq-at (inf _) y s t a b c p q C = elim p [ ]
+eq-at (fin u m e) nan s t a b c p q C = elim q [ ]
+eq-at (fin u m e) (inf _) s t a b c p q C = elim q [ ]
 
 -- <, by any two fractions with one denominator that the operands equal
 pub lt_at : (x y : Float) (s t : Bool) (a b c : ℕ) → HasValue x s a c → HasValue y t b c → 0 < c → lt x y ≡ below s a t b
 unfolding lt
 lt_at (fin u m e) (fin v n d) s t a b c p q C = by_value (λ s t A B C. below s A t B) below-same u m e v n d s t a b c p q C
+lt_at nan y s t a b c p q C = elim p [ ]
+lt_at (inf _) y s t a b c p q C = elim p [ ]
+lt_at (fin u m e) nan s t a b c p q C = elim q [ ]
+lt_at (fin u m e) (inf _) s t a b c p q C = elim q [ ]
 
 -- ⊗, by any two fractions that the operands equal
 pub mul_at : (f : Format) (x y : Float) (s t : Bool) (a c b d : ℕ) → HasValue x s a c → HasValue y t b d → 0 < c → 0 < d → mul f x y ≡ round f (unlike s t) (a * b) (c * d)
@@ -194,6 +220,10 @@ mul_at f (fin s' m e) (fin t' n g) s t a c b d v w C D =
     ap₂ (λ (p q : Bool). round f (unlike p q) (m * up e * (n * up g)) (down e * down g)) v.0 w.0
     ∙ round_same f (unlike s t) (m * up e * (n * up g)) (down e * down g) (a * b) (c * d) (mul-pos (down_pos e) (down_pos g)) (mul-pos C D)
     (mul-mul-mul_comm (m * up e) (n * up g) c d ∙ ap₂ (λ (x y : ℕ). x * y) v.1 w.1 ∙ mul-mul-mul_comm a (down e) b (down g))
+mul_at f nan y s t a c b d v w C D = elim v [ ]
+mul_at f (inf _) y s t a c b d v w C D = elim v [ ]
+mul_at f (fin s' m e) nan s t a c b d v w C D = elim w [ ]
+mul_at f (fin s' m e) (inf _) s t a c b d v w C D = elim w [ ]
 
 -- ⊘ by a number that is not zero, by any two fractions that the operands equal
 pub div-at : (f : Format) (x y : Float) (s t : Bool) (a c b d : ℕ) → HasValue x s a c → HasValue y t b d → 0 < c → 0 < d → 0 < b → div f x y ≡ round f (unlike s t) (a * d) (b * c)
@@ -208,6 +238,10 @@ div-at f (fin s' m e) (fin t' (suc n) g) s t a c b d v w C D B =
     (ap (λ (z : ℕ). M * down g * z) (mul_comm b c) ∙ mul-mul-mul_comm M (down g) c b
     ∙ ap₂ (λ (x y : ℕ). x * y) v.1 (mul_comm (down g) b ∙ sym w.1)
     ∙ ap (λ (z : ℕ). a * down e * z) (mul_comm N d) ∙ mul-mul-mul_comm a (down e) d N ∙ ap (λ (z : ℕ). a * d * z) (mul_comm (down e) N)))
+div-at f nan y s t a c b d v w C D B = elim v [ ]
+div-at f (inf _) y s t a c b d v w C D B = elim v [ ]
+div-at f (fin s' m e) nan s t a c b d v w C D B = elim w [ ]
+div-at f (fin s' m e) (inf _) s t a c b d v w C D B = elim w [ ]
 
 -- ---- the operands of ⊕ and ⊗ may be exchanged
 

@@ -287,6 +287,7 @@ small-says false q n e = absurd (let z : ◌≡◌ {A = ℕ} 0 1 = cc in omega a
 
 small_is : (r q : ℕ) (c : Bool) (n : ℕ) → r ≡ 0 → q ≡ n → T c → n ≤ 64 → cond (eqb r 0 && leb q 64 && c) (Is q) Other ≡ Is n
 small_is r q true n z e t h = rw (z, e, le-leb n 64 h)
+small_is r q false n z e t h = elim t [ ]
 
 -- not below 0, so its size is the number
 unsigned : (s : Bool) (a d : ℕ) → T (not s || eqb a 0) → signed s (a / d) ≡ pos (a / d)
@@ -360,6 +361,11 @@ eq-means x y {z} e k = go x y k.sign k.size (T_of e) k.value k.is
             | inr w ↦ rw (nothing w, signed-zero s) (sym (signed-zero t) ∙ ap (signed t) (sym (nothing w)) ∙ k)
           ];
         }
+    go nan _ t b h v k = elim h [ ]
+    go (inf s) nan t b h v k = elim h [ ]
+    go (inf s) (inf _) t b h v k = elim v [ ]
+    go (fin s m e) nan t b h v k = elim h [ ]
+    go (fin s m e) (inf _) t b h v k = elim h [ ]
 
 -- x == n exactly where x is n, for a whole n that is small enough
 pub is-int : (f : Format) (x : Float) (z : ℤ) → nat_abs z ≤ 2 ^ prec f → (eq x (of_int f z) ≡ true) ↔ Means x z

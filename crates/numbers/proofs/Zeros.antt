@@ -21,14 +21,20 @@ use Rattle.numbers.proofs.Values.{bits-0, own_value, value-unique, round-to, rou
 -- a zero is 0 of whatever unit
 pub zero-value : (v : Float) (c : ℕ) → Zero v → HasValue v (sign v) 0 c
 zero-value (fin s m e) c z = (refl, ap (λ (k : ℕ). k * c) z ∙ zero-mul c ∙ sym (zero-mul (down e)))
+zero-value nan c z = elim z [ ]
+zero-value (inf _) c z = elim z [ ]
 
 -- a zero is finite
 pub zero-finite : (v : Float) → Zero v → T (finite v)
 zero-finite (fin s m e) z = tt
+zero-finite nan z = elim z [ ]
+zero-finite (inf _) z = elim z [ ]
 
 -- of a finite number that is no zero the value isn't 0
 pub num_pos : (v : Float) → T (finite v) → (Zero v → ⊥) → 0 < num v
 num_pos (fin s m e) t n = elim (eq-zero-or-pos (m * up e)) [ inl z ↦ absurd (n z) | inr p ↦ p ]
+num_pos nan t n = elim t [ ]
+num_pos (inf _) t n = elim t [ ]
 
 -- a number is a zero or it isn't
 pub zero_or_not : (v : Float) → Zero v ⊎ (Zero v → ⊥)
@@ -49,6 +55,8 @@ zero_test v = rw bits-0 (λ e. only v (T_of e), λ z. eq-zeros v (±0 false) z r
     only (fin s m e) t =
         let z = eqb→eq (m * up e * 1) (0 * down e) (and_l (eqb (m * up e * 1) (0 * down e)) (beq s false || eqb (m * up e * 1) 0) t) in
         omega arith
+    only nan t = elim t [ ]
+    only (inf _) t = elim t [ ]
 
 -- a zero that fits is +0 or -0 as it is written
 pub zero_is : (f : Format) (v : Float) → T (fits f v) → Zero v → v ≡ ±0 (sign v)
@@ -81,6 +89,8 @@ add-zeros-is f x y p q = add_at f x y (sign x) (sign y) 0 0 1 (zero-value x 1 p)
 pub neg-zero : (x : Float) → Zero x → Zero (neg x) × (sign (neg x) ≡ not (sign x))
 unfolding neg
 neg-zero (fin s m e) z = (z, refl)
+neg-zero nan z = elim z [ ]
+neg-zero (inf _) z = elim z [ ]
 
 -- zero ⊖ zero is -0 where the first is and the second isn't
 pub sub-zeros-is : (f : Format) (x y : Float) → Zero x → Zero y → sub f x y ≡ ±0 (sign x && not (sign y))
@@ -137,6 +147,8 @@ sub_self f (fin s m e) t =
     beq-not : (s : Bool) → beq s (not s) ≡ false
     beq-not true = refl
     beq-not false = refl
+sub_self f nan t = elim t [ ]
+sub_self f (inf _) t = elim t [ ]
 
 -- ---- adding a zero, or taking it away
 
@@ -162,6 +174,8 @@ zero-plus f (fin s m e) (fin t n d) z p h = elim (zero_or_not (fin t n d)) [
       ∙ sum-zero-left f s t (n * up d) (down d) (num_pos (fin t n d) tt w)
       ∙ round-itself f t n d p
 ]
+zero-plus f nan c z p h = elim z [ ]
+zero-plus f (inf _) c z p h = elim z [ ]
 
 -- c ⊕ zero is c, unless c is -0 and the zero is +0
 pub plus-zero : (f : Format) (c z : Float) → T (fits f c) → Zero z → (Zero c → sign z && sign c ≡ sign c) → add f c z ≡ c

@@ -56,6 +56,8 @@ negative (fin true m e) n c h l = go (m * up e) l
   where
     go : (k : ℕ) → ltb 0 (k * 1 + 0 * down e) ≡ false → k ≡ 0
     go k i = omega (arith, ltb-false 0 (k * 1 + 0 * down e) i)
+negative nan n c h l = elim h [ ]
+negative (inf _) n c h l = elim h [ ]
 
 bits_above : (b : ℕ) (s : Bool) → leb (2 ^ 63) b ≡ s → T (finite (of_bits binary64 b)) → lt (of_bits binary64 b) zero64 ≡ false → (Zero (of_bits binary64 b) → ⊥)
     → (0 < b) × (b < 2047 * 2 ^ 52)
