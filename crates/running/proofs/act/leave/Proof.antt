@@ -57,10 +57,8 @@ leave_spec =
     (λ c. search rules)
     (λ c.
     let x = c.args in
-    let g = c.l-in-Two-1.given in
-    (rw g.1 (ap went (stack-push-two x.stack.now x.n g.0.1.0 g.0.0 (omega arith))), omega arith))
+    (rw c.in-Two.is (ap went (stack-push-two x.stack.now x.n c.in-Two.b c.in-Two.a (omega arith))), omega arith))
     (λ c. search rules)
     (λ c.
     let x = c.args in
-    let g = c.l-in-Three-1.given in
-    (rw g.1 (ap went (stack-push-three x.stack.now x.n g.0.1.1.0 g.0.1.0 g.0.0 (omega arith))), omega arith)))
+    (rw c.in-Three.is (ap went (stack-push-three x.stack.now x.n c.in-Three.c c.in-Three.b c.in-Three.a (omega arith))), omega arith)))

@@ -14,9 +14,8 @@ raise_spec =
     (λ c. search rules)
     (λ c. search rules)
     (λ c. sym (power-other _ _ (sym c.small_whole.ensures ∙ c.in_default.is)))
-    (λ c. let g = c.n-1.given in sym (power_zero _ _ g.0.0 (sym c.small_whole.ensures ∙ g.1) c.if-n-eq0.true))
+    (λ c. sym (power_zero _ _ c.in-Is.n (sym c.small_whole.ensures ∙ c.in-Is.is) c.if-n-eq0.true))
     (λ c κs. search rules)
     (λ c.
-    let g = c.n-1.given in
     let a = c.args in
-    rw c.multiplied.ensures (sym (power-more a.b a.a g.0.0 (sym c.small_whole.ensures ∙ g.1) (omega (arith, c.if-n-eq0.false))))))
+    rw c.multiplied.ensures (sym (power-more a.b a.a c.in-Is.n (sym c.small_whole.ensures ∙ c.in-Is.is) (omega (arith, c.if-n-eq0.false))))))

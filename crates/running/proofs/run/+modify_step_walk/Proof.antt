@@ -125,8 +125,7 @@ pub +modify_step_walk_spec : {M : Type 1} → statement M
     let a = x.args in
     let y = x.requires.1.0 in
     let f = q.settled-first in
-    let d = c.first-1.given in
-    let i = room-done (a.held + 1) (a.st.steps + 1) f.result d.1 f.ensures.1 in
+    let i = room-done (a.held + 1) (a.st.steps + 1) f.result c.in-Done.is f.ensures.1 in
     omega (arith, i.2, y.steps, y.few))
     (λ c. omega (arith, c.requires.1.0.inside.few))
     (λ c. omega (arith, c.requires.1.0.room))
@@ -141,17 +140,15 @@ pub +modify_step_walk_spec : {M : Type 1} → statement M
     let a = x.args in
     let y = x.requires.1.0 in
     let f = q.settled-first in
-    let d = c.first-1.given in
-    let i = room-done (a.held + 1) (a.st.steps + 1) f.result d.1 f.ensures.1 in
+    let i = room-done (a.held + 1) (a.st.steps + 1) f.result c.in-Done.is f.ensures.1 in
     let one = sym q.count_nodes.ensures ∙ q.if-count_nodes-ne1.false in
     (omega (arith, x.requires.0, (body-levels y x.requires.1.1 one).0), ready-body y x.requires.1.1 one _ (i.0, omega (arith, i.1), omega (arith, i.2))))
     (λ c. search rules)
     (λ c. search rules)
-    (λ c. c.walk-ran.auto.1.1.1.0)
+    (λ c. c.walk-ran.auto.stack)
     (λ c.
     let v = c in
     let w = v.walk-ran in
-    let d = v.first-1.given in
     let q = v in
     let x = q in
     let a = x.args in
@@ -161,54 +158,50 @@ pub +modify_step_walk_spec : {M : Type 1} → statement M
     let b = stack_of xs a.st.n in
     let on = eq-eqb _ _ (q.if-r-modifier_no.false ∙ q.modifier_no.ensures) in
     let one = sym q.count_nodes.ensures ∙ q.if-count_nodes-ne1.false in
-    let e = on-begun y x.requires.1.1 one on (omega (arith, q.if-n-eq0.false)) f.result (f.ensures.0 xs) d.1 in (
-      sym (e ∙ ap (λ z. and_then z (give_back b)) (sym w.ensures.0) ∙ after-refused w.new.1.1.1.0 w.result (give_back b) c.in_default-ran.is),
+    let e = on-begun y x.requires.1.1 one on (omega (arith, q.if-n-eq0.false)) f.result (f.ensures.0 xs) v.in-Done.is in (
+      sym (e ∙ ap (λ z. and_then z (give_back b)) (sym w.ensures.0) ∙ after-refused w.new.stack w.result (give_back b) c.in_default-ran.is),
       room-refused _ _ _ c.in_default-ran.is,
     ))
     (λ c.
     let v = c in
     let w = v.walk-ran in
-    let d = v.first-1.given in
     let q = v in
     let x = q in
     let a = x.args in
     let y = x.requires.1.0 in
     let f = q.settled-first in
-    let i = room-done (a.held + 1) (a.st.steps + 1) f.result d.1 f.ensures.1 in
-    let m = room-done (a.held + 1) (d.0.0.steps + 1 + (a.at + 1 + a.r.inside - (a.at + 2))) w.result c.in-Done-ran.is w.ensures.1 in
+    let i = room-done (a.held + 1) (a.st.steps + 1) f.result v.in-Done.is f.ensures.1 in
+    let m = room-done (a.held + 1) (v.in-Done.begun.steps + 1 + (a.at + 1 + a.r.inside - (a.at + 2))) w.result c.in-Done-ran.is w.ensures.1 in
     let u = (body-levels y x.requires.1.1 (sym q.count_nodes.ensures ∙ q.if-count_nodes-ne1.false)).1 in
-    omega (arith, m.0, m.1, m.2, i.2, w.auto.1.1.1.0, y.values, y.steps))
+    omega (arith, m.0, m.1, m.2, i.2, w.auto.stack, y.values, y.steps))
     (λ c.
     let v = c in
     let w = v.walk-ran in
-    let d = v.first-1.given in
     let q = v in
     let x = q in
     let a = x.args in
     let y = x.requires.1.0 in
     let f = q.settled-first in
-    let i = room-done (a.held + 1) (a.st.steps + 1) f.result d.1 f.ensures.1 in
-    let m = room-done (a.held + 1) (d.0.0.steps + 1 + (a.at + 1 + a.r.inside - (a.at + 2))) w.result c.in-Done-ran.is w.ensures.1 in
+    let i = room-done (a.held + 1) (a.st.steps + 1) f.result v.in-Done.is f.ensures.1 in
+    let m = room-done (a.held + 1) (v.in-Done.begun.steps + 1 + (a.at + 1 + a.r.inside - (a.at + 2))) w.result c.in-Done-ran.is w.ensures.1 in
     let u = (body-levels y x.requires.1.1 (sym q.count_nodes.ensures ∙ q.if-count_nodes-ne1.false)).1 in
-    omega (arith, m.0, m.1, m.2, i.2, w.auto.1.1.1.0, y.values, y.steps))
+    omega (arith, m.0, m.1, m.2, i.2, w.auto.stack, y.values, y.steps))
     (λ c.
     let v = c in
     let w = v.walk-ran in
-    let d = v.first-1.given in
     let q = v in
     let x = q in
     let a = x.args in
     let y = x.requires.1.0 in
     let f = q.settled-first in
-    let i = room-done (a.held + 1) (a.st.steps + 1) f.result d.1 f.ensures.1 in
-    let m = room-done (a.held + 1) (d.0.0.steps + 1 + (a.at + 1 + a.r.inside - (a.at + 2))) w.result c.in-Done-ran.is w.ensures.1 in
+    let i = room-done (a.held + 1) (a.st.steps + 1) f.result v.in-Done.is f.ensures.1 in
+    let m = room-done (a.held + 1) (v.in-Done.begun.steps + 1 + (a.at + 1 + a.r.inside - (a.at + 2))) w.result c.in-Done-ran.is w.ensures.1 in
     let u = (body-levels y x.requires.1.1 (sym q.count_nodes.ensures ∙ q.if-count_nodes-ne1.false)).1 in
-    omega (arith, m.0, m.1, m.2, i.2, w.auto.1.1.1.0, y.values, y.steps))
-    (λ c. simp length-set c.walk-ran.auto.1.1.1.0)
+    omega (arith, m.0, m.1, m.2, i.2, w.auto.stack, y.values, y.steps))
+    (λ c. simp length-set c.walk-ran.auto.stack)
     (λ c.
     let v = c in
     let w = v.walk-ran in
-    let d = v.first-1.given in
     let q = v in
     let x = q in
     let a = x.args in
@@ -218,15 +211,14 @@ pub +modify_step_walk_spec : {M : Type 1} → statement M
     let b = stack_of xs a.st.n in
     let on = eq-eqb _ _ (q.if-r-modifier_no.false ∙ q.modifier_no.ensures) in
     let one = sym q.count_nodes.ensures ∙ q.if-count_nodes-ne1.false in
-    let e = on-begun y x.requires.1.1 one on (omega (arith, q.if-n-eq0.false)) f.result (f.ensures.0 xs) d.1 in
-    let i = room-done (a.held + 1) (a.st.steps + 1) f.result d.1 f.ensures.1 in
-    let m = room-done (a.held + 1) (d.0.0.steps + 1 + (a.at + 1 + a.r.inside - (a.at + 2))) w.result c.in-Done-ran.is w.ensures.1 in
-    let g = c.ran-1.given in
-    let ys = w.new.1.1.1.0 in
+    let e = on-begun y x.requires.1.1 one on (omega (arith, q.if-n-eq0.false)) f.result (f.ensures.0 xs) v.in-Done.is in
+    let i = room-done (a.held + 1) (a.st.steps + 1) f.result v.in-Done.is f.ensures.1 in
+    let m = room-done (a.held + 1) (v.in-Done.begun.steps + 1 + (a.at + 1 + a.r.inside - (a.at + 2))) w.result c.in-Done-ran.is w.ensures.1 in
+    let ys = w.new.stack in
     let u = (body-levels y x.requires.1.1 one).1 in
-    let k : g.0.0.n < length ys = omega (arith, m.0, m.1, m.2, i.2, w.auto.1.1.1.0, y.values, y.steps) in (
-      sym (e ∙ ap (λ z. and_then z (give_back b)) (sym w.ensures.0) ∙ after-done ys w.result (give_back b) g.1
-          ∙ back-stack xs a.st.n (omega (arith, q.if-n-eq0.false)) ys g.0.0 k),
+    let k : c.in-Done-ran.then.n < length ys = omega (arith, m.0, m.1, m.2, i.2, w.auto.stack, y.values, y.steps) in (
+      sym (e ∙ ap (λ z. and_then z (give_back b)) (sym w.ensures.0) ∙ after-done ys w.result (give_back b) c.in-Done-ran.is
+          ∙ back-stack xs a.st.n (omega (arith, q.if-n-eq0.false)) ys c.in-Done-ran.then k),
       (omega (arith, m.0), omega (arith, m.1), omega (arith, m.2, i.2)),
     )))
     (λ t.
@@ -247,31 +239,30 @@ pub +modify_step_walk_spec : {M : Type 1} → statement M
     (λ c. search rules)
     (λ c κs.
     let x = c in
-    (omega (arith, x.requires.0), (x.requires.1.0, modifier-kind x.args.r.kind (sym c.Way-of.ensures ∙ c.in-Modifies.is))))
+    (omega (arith, x.requires.0), (x.requires.1.0, modifier-kind x.args.r.kind (sym c.way_of.ensures ∙ c.in-Modifies.is))))
     (λ c.
     let x = c in
     let a = x.args in
-    let g = c.d-1.given in
-    let w = sym c.Way-of.ensures ∙ g.1 in
-    let p = other-refuses a.r.kind x.requires.1.1 g.0.0 w in (
-      sym (one-refused a.r (forest a.list.now (a.at + 1) (a.at + 1 + a.r.inside)) a.at a.held (view_state a.stack.now a.st) g.0.0 w p
+    let w = sym c.way_of.ensures ∙ c.in-Acts.is in
+    let p = other-refuses a.r.kind x.requires.1.1 c.in-Acts.d w in (
+      sym (one-refused a.r (forest a.list.now (a.at + 1) (a.at + 1 + a.r.inside)) a.at a.held (view_state a.stack.now a.st) c.in-Acts.d w p
           ∙ ap (λ q. refused_at q a.at) (sym (c.refusal_of.ensures p.0 p.1))),
       tt,
     ))
-    (λ c. c.walk.auto.1.1.1.0)
+    (λ c. c.walk.auto.stack)
     (λ c.
     let a = c.args in
     let w = c.walk in (
       w.ensures.0 ∙ sym (one-runs a.r (forest a.list.now (a.at + 1) (a.at + 1 + a.r.inside)) a.at a.held (view_state a.stack.now a.st)
-          (sym c.Way-of.ensures ∙ c.in-Runs.is)),
+          (sym c.way_of.ensures ∙ c.in-Runs.is)),
       room-more a.held w.result (omega arith) w.ensures.1,
     ))
-    (λ c. c.modify.auto.1.1.1.0)
+    (λ c. c.modify.auto.stack)
     (λ c.
     let a = c.args in
     let w = c.modify in (
       w.ensures.0 ∙ sym (one-modifies a.r (forest a.list.now (a.at + 1) (a.at + 1 + a.r.inside)) a.at a.held (view_state a.stack.now a.st)
-          (sym c.Way-of.ensures ∙ c.in-Modifies.is)),
+          (sym c.way_of.ensures ∙ c.in-Modifies.is)),
       w.ensures.1,
     )))
     (λ t.
@@ -304,12 +295,12 @@ pub +modify_step_walk_spec : {M : Type 1} → statement M
     let r = v.record_at-r in
     let l = v.loop-at in
     let h : ℕ = v.args.held in (
-      act-within v.deed_of.result r.result l.stack o.new.1.1.0 l.cur.n h (l.cur.steps + 2) o.result o.ensures.0 (omega (arith, l.invariant.0.adds)),
+      act-within v.deed_of.result r.result l.stack o.new.stack l.cur.n h (l.cur.steps + 2) o.result o.ensures.0 (omega (arith, l.invariant.0.adds)),
       (values-in l.invariant.0 (omega arith) r.ensures.0).1,
     ))
     (λ c. search rules)
     (λ c. search rules)
-    (λ c. c.act-did.auto.1.1.0 ∙ c.loop-at.invariant.3)
+    (λ c. c.act-did.auto.stack ∙ c.loop-at.invariant.3)
     (λ c.
     let v = c in
     let a = v.args in
@@ -321,7 +312,7 @@ pub +modify_step_walk_spec : {M : Type 1} → statement M
     let d = v.deed_of in
     let o = v.act-did in
     let s = c.settled-ran in
-    let ys = o.new.1.1.0 in
+    let ys = o.new.stack in
     let f = runs (forest a.list.now (l.at + 1) a.to) (l.at + 1) a.held in
     let ns = forest a.list.now (l.at + 1) (l.at + 1 + r.result.inside) in
     let e = l.invariant.1 ∙ turn y h r.ensures.0 (l.at + 1) z ys s.result
@@ -340,17 +331,16 @@ pub +modify_step_walk_spec : {M : Type 1} → statement M
     let d = v.deed_of in
     let o = v.act-did in
     let s = c.settled-ran in
-    let ys = o.new.1.1.0 in
+    let ys = o.new.stack in
     let f = runs (forest a.list.now (l.at + 1) a.to) (l.at + 1) a.held in
     let ns = forest a.list.now (l.at + 1) (l.at + 1 + r.result.inside) in
     let e = l.invariant.1 ∙ turn y h r.ensures.0 (l.at + 1) z ys s.result
     (acted r.result ns l.at a.held l.cur l.stack ys d.result d.ensures o.result o.ensures.0 s.result (s.ensures.0 ys)) in
-    let g = c.ran-1.given in
-    let m = room-done a.held (l.cur.steps + 1) s.result g.1 s.ensures.1 in (
-      ready-next y h r.ensures.0 (l.at + 1) z ys o.auto.1.1.0 g.0.0 (m.0, m.1, omega (arith, m.2)),
-      e ∙ after-done ys s.result f g.1,
+    let m = room-done a.held (l.cur.steps + 1) s.result c.in-Done.is s.ensures.1 in (
+      ready-next y h r.ensures.0 (l.at + 1) z ys o.auto.stack c.in-Done.then (m.0, m.1, omega (arith, m.2)),
+      e ∙ after-done ys s.result f c.in-Done.is,
       omega (arith, m.2, l.invariant.2),
-      o.auto.1.1.0 ∙ l.invariant.3,
+      o.auto.stack ∙ l.invariant.3,
     ))
     (λ c κs.
     let l = c.loop-at in
@@ -359,7 +349,7 @@ pub +modify_step_walk_spec : {M : Type 1} → statement M
     (omega (arith, c.requires.0), (ready-one l.invariant.0 (omega arith) r.ensures.0, p)))
     (λ c. search rules)
     (λ c. search rules)
-    (λ c. c.step-ran.auto.1.1.1.0 ∙ c.loop-at.invariant.3)
+    (λ c. c.step-ran.auto.stack ∙ c.loop-at.invariant.3)
     (λ c.
     let v = c in
     let a = v.args in
@@ -368,7 +358,7 @@ pub +modify_step_walk_spec : {M : Type 1} → statement M
     let r = v.record_at-r in
     let h : l.at < a.to = omega arith in
     let o = v.step-ran in
-    let ys = o.new.1.1.1.0 in
+    let ys = o.new.stack in
     let x : ℕ = l.at + 1 + r.result.inside in
     let f = runs (forest a.list.now x a.to) x a.held in
     let e = l.invariant.1 ∙ turn y h r.ensures.0 x refl ys o.result o.ensures.0 in
@@ -391,16 +381,15 @@ pub +modify_step_walk_spec : {M : Type 1} → statement M
     let r = v.record_at-r in
     let h : l.at < a.to = omega arith in
     let o = v.step-ran in
-    let ys = o.new.1.1.1.0 in
+    let ys = o.new.stack in
     let x : ℕ = l.at + 1 + r.result.inside in
     let f = runs (forest a.list.now x a.to) x a.held in
     let e = l.invariant.1 ∙ turn y h r.ensures.0 x refl ys o.result o.ensures.0 in
-    let g = c.ran-in-Done-ran-2-1.given in
-    let m = room-done a.held (l.cur.steps + 1 + r.result.inside) o.result g.1 o.ensures.1 in (
-      ready-next y h r.ensures.0 x refl ys o.auto.1.1.1.0 g.0.0 m,
-      e ∙ after-done ys o.result f g.1,
+    let m = room-done a.held (l.cur.steps + 1 + r.result.inside) o.result c.in-Done-ran.is o.ensures.1 in (
+      ready-next y h r.ensures.0 x refl ys o.auto.stack c.in-Done-ran.then m,
+      e ∙ after-done ys o.result f c.in-Done-ran.is,
       omega (arith, m.2, next-in y h r.ensures.0, l.invariant.2),
-      o.auto.1.1.1.0 ∙ l.invariant.3,
+      o.auto.stack ∙ l.invariant.3,
     ))
     (λ c. c.loop-at.invariant.3)
     (λ c.

@@ -16,15 +16,12 @@ last_of_spec =
     (λ c. search rules)
     (λ c.
     let a = c.args in
-    let g = c.ran-in-Done-1.given in
-    sym (ap (λ o. ended (view_ran a.stack.now o)) g.1 ∙ ended-none a.stack.now g.0.0 c.if-st-eq0.true))
+    sym (ap (λ o. ended (view_ran a.stack.now o)) c.in-Done.is ∙ ended-none a.stack.now c.in-Done.st c.if-st-eq0.true))
     (λ c. search rules)
     (λ c.
     let a = c.args in
-    let g = c.ran-in-Done-1.given in
-    sym (ap (λ o. ended (view_ran a.stack.now o)) g.1 ∙ ended-one a.stack.now g.0.0 c.if-st-eq1.true))
+    sym (ap (λ o. ended (view_ran a.stack.now o)) c.in-Done.is ∙ ended-one a.stack.now c.in-Done.st c.if-st-eq1.true))
     (λ c. rw c.in-Refused.is)
     (λ c.
     let a = c.args in
-    let g = c.ran-in-Done-1.given in
-    sym (ap (λ o. ended (view_ran a.stack.now o)) g.1 ∙ ended-many a.stack.now g.0.0 (omega (arith, c.if-st-eq0.false, c.if-st-eq1.false)))))
+    sym (ap (λ o. ended (view_ran a.stack.now o)) c.in-Done.is ∙ ended-many a.stack.now c.in-Done.st (omega (arith, c.if-st-eq0.false, c.if-st-eq1.false)))))

@@ -30,8 +30,8 @@ run_in_spec =
     rw p.1 (start-ready a.list.now p.0 (set a.stack.now 0 a.x) (simp length-set (omega arith)) _ refl refl))
     (λ c κs.
     let a = c.args in
-    omega (arith, c.walk-ran.auto.1.1.1.0, length-set a.stack.now 0 a.x, c.requires.2))
-    (λ c. let a = c.args in c.walk-ran.auto.1.1.1.0 ∙ length-set a.stack.now 0 a.x)
+    omega (arith, c.walk-ran.auto.stack, length-set a.stack.now 0 a.x, c.requires.2))
+    (λ c. let a = c.args in c.walk-ran.auto.stack ∙ length-set a.stack.now 0 a.x)
     (λ c.
     let a = c.args in
     let p = c.requires in

@@ -21,12 +21,11 @@ settled_spec =
     (λ c. (λ xs. rw c.in-Stop.is, tt))
     (λ c.
     let a = c.args in
-    let g = c.d-in-Went-1.given in
-    let w = rw g.1 at c.requires.0 in (
-      λ xs. rw g.1 (sym (settle-went xs a.held a.at (view_state xs a.st) g.0.0 ∙ rw (le-leb _ _ c.if-m-held-le-RUN_VALUES.true, ← c.larger-peak.ensures))),
+    let w = rw c.in-Went.is at c.requires.0 in (
+      λ xs. rw c.in-Went.is (sym (settle-went xs a.held a.at (view_state xs a.st) c.in-Went.m ∙ rw (le-leb _ _ c.if-m-held-le-RUN_VALUES.true, ← c.larger-peak.ensures))),
       (omega arith, omega (arith, w), omega arith),
     ))
     (λ c.
     let a = c.args in
-    let g = c.d-in-Went-1.given in
-    (λ xs. rw g.1 (sym (settle-went xs a.held a.at (view_state xs a.st) g.0.0 ∙ rw (lt-leb _ _ c.if-m-held-le-RUN_VALUES.false))), tt)))
+    
+    (λ xs. rw c.in-Went.is (sym (settle-went xs a.held a.at (view_state xs a.st) c.in-Went.m ∙ rw (lt-leb _ _ c.if-m-held-le-RUN_VALUES.false))), tt)))

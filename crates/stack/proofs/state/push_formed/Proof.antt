@@ -20,16 +20,14 @@ push-cells-requires c κs =
 returns : tie.Need-returns-in-Done
 returns c o at g complex pairs =
     let start = c in
-    let f = c.f-1.given in
     let pushed = c.push_cells.ensures in
-    push-done _ at (1152 - start.args.v) f.0.0 start.args.f o f.1 (λ s l. pushed s l at start.args.handled complex pairs) g
+    push-done _ at (1152 - start.args.v) c.in-Done.n start.args.f o c.in-Done.is (λ s l. pushed s l at start.args.handled complex pairs) g
 
 returns-2 : tie.Need-returns-in-Refused
 returns-2 c o at g complex pairs =
     let start = c in
-    let f = c.f-in-Refused-1.given in
     let halted = c.halt.ensures in
-    push-refused _ at (1152 - start.args.v) f.0.0 start.args.f o f.1 (does-stop (λ ss k. ap (ran_of at start.args.handled complex pairs) (halted ss k))) g
+    push-refused _ at (1152 - start.args.v) c.in-Refused.q start.args.f o c.in-Refused.is (does-stop (λ ss k. ap (ran_of at start.args.handled complex pairs) (halted ss k))) g
 
 pub push_formed_spec : {M : Type 1} → statement M
 push_formed_spec =
