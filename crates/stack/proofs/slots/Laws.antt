@@ -192,7 +192,7 @@ stacked-split {hi = hi} zero ss h st = (hi, refl, no_sum, st)
 stacked-split (suc k) [] h st = absurd (omega arith)
 stacked-split {a} {lo} {hi} (suc k) (s ∷ ss) h st =
     let one = stacked-one {n = size s} refl st in
-    let ih = stacked-split k ss (omega arith) one.rest in
+    let ih = stacked-split {hi = hi - size s} k ss (omega arith) one.rest in
     (ih.0, ih.1, on_top one.top ih.2, ih.3)
 
 pub deep-short : (k : ℕ) (ss : List Sum) (hi : ℕ) → length ss < k → deep k (sizes_of ss) hi ≡ Short

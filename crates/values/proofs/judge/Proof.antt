@@ -10,11 +10,11 @@ pub judge_spec : {M : Type 1} → statement M
 judge_spec =
     tie.close
     (tie.spec
-    (λ c. let f = c.args.f in rw (not-true f.whole c.if-not-f.true) refl)
+    (λ c. let f = c.args.f in rw c.if-not-f.true refl)
     (λ c.
     let asked = c in
     let f = asked.args.f in
-    rw (not-false f.whole asked.if-not-f.false, not-true f.real c.if-not-f-2.true) refl)
+    rw (not-false f.whole asked.if-not-f.false, c.if-not-f-2.true) refl)
     (λ c κs. search rules)
     (λ c κs. search rules)
     (λ c.

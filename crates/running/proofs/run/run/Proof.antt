@@ -15,7 +15,7 @@ run_spec =
     (λ c. search rules)
     (λ c. search rules)
     (λ c κs. search rules)
-    (λ c. rw (← c.check.ensures.0, c.in-Good.is, ← c.is_finite.ensures, not-true c.is_finite.result c.if-not-is_finite.true))
+    (λ c. rw (← c.check.ensures.0, c.in-Good.is, ← c.is_finite.ensures, c.if-not-is_finite.true))
     (λ c κs. sym c.check.ensures.0 ∙ c.in-Good.is)
     (λ c. rw (← c.check.ensures.0, c.in-Refused.is))
     (λ c. rw (

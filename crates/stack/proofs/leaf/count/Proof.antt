@@ -9,7 +9,7 @@ pub count_spec : {M : Type 1} → statement M
 count_spec =
     tie.close
     (tie.spec
-    (λ c. rw (not-true c.args.more c.if-not-more.true))
+    (λ c. rw c.if-not-more.true)
     (λ c. search rules)
-    (λ c. rw (not-false c.args.more c.if-not-more.false) (omega arith))
-    (λ c. rw (not-false c.args.more c.if-not-more.false) (omega arith)))
+    (λ c. rw c.if-not-more.false (omega arith))
+    (λ c. rw c.if-not-more.false (omega arith)))

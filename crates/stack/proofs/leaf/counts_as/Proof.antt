@@ -18,4 +18,4 @@ counts_as_spec =
     (λ c. search rules)
     (λ c κs. search rules)
     returns
-    (λ c. uncounted-but c.args.k _ c.in_default.keys2))
+    (λ c. uncounted-but c.args.k _ c.in_default.in_default-own.keys2))

@@ -27,4 +27,4 @@ flags_as_spec =
     (λ c κs. search rules)
     (λ c. search rules)
     returns-2
-    (λ c. of-no-kind c.args.k _ _ c.in_default.keys3))
+    (λ c. of-no-kind c.args.k _ _ c.in_default.in_default-own.keys3))

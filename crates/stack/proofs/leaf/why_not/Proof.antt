@@ -14,4 +14,4 @@ why_not_spec =
     (λ c. search rules)
     (λ c. search rules)
     (λ c. search rules)
-    (λ c. other-kind c.args.k c.in_default.keys4))
+    (λ c. other-kind c.args.k c.in_default.in_default-own.keys4))

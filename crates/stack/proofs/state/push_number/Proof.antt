@@ -21,14 +21,14 @@ made : (c : tie.Else-not-finite_bits) → (let x = c.args in constant_of x.re x.
 made c =
     let after-finite-bits = c in
     constant-formed _ _ after-finite-bits.finite_bits.ensures c.finite_bits-2.ensures
-    (not-false (after-finite-bits.finite_bits.result && c.finite_bits-2.result) c.if-not-finite_bits.false)
+    c.if-not-finite_bits.false
 
 returns : tie.Need-returns-then-not-finite_bits
 returns c at complex pairs =
     let start = c in
     let x = start.args in
     let tests = c in
-    let no = not-true (tests.finite_bits.result && tests.finite_bits-2.result) c.if-not-finite_bits.true in
+    let no = c.if-not-finite_bits.true in
     let none = not_finite x.re x.im tests.finite_bits.ensures tests.finite_bits-2.ensures no in
     push-none at (1152 - x.v) none (does-stop (λ ss k. ap (ran_of at x.handled complex pairs) (c.halt.ensures ss k)))
 
@@ -45,7 +45,7 @@ returns-3 c at complex pairs =
     let x = start.args in
     let room = c.if-v-used.false in
     let within = start.requires.within in
-    let a = arena x.kinds x.insides x.numbers x.sizes in
+    let a = arena x.kinds.now x.insides.now x.numbers.now x.sizes.now in
     let top = numbered-top a x.used x.re x.im (space-less (omega arith) start.requires.space) (made c.before) in
     rw (made c.before) (does-push {n = 1} at (of-bits x.re x.im) within (number_size x.re x.im) (omega arith) (numbered-outside a x.used x.re x.im) top)
 
