@@ -5,11 +5,11 @@ ghost use Rattle.std.specs.Prelude.{◌+◌, ◌*◌, ◌≤◌, length};
 ghost use Rattle.limits.specs.Limits.{entry_bytes, sum_entries};
 
 use cases::{Case, FOUR_SUMS};
-use libc::{STDIN_FILENO, STDOUT_FILENO};
 use limits::{ENTRY_BYTES, SUM_ENTRIES};
 
 mod arith;
 mod cases;
+mod streams;
 mod text;
 
 // Whether the case whose entries are stored from p on gives what is stored.
@@ -40,40 +40,40 @@ fn agrees(b: &[u8], p: usize, c: Case) -> bool
 }
 
 // Writes which case does not agree, if few did not before it.
-fn report(k: u64, before: u64) {
+fn report(rt: &impl Print, k: u64, before: u64) {
     if 8 <= before {
         return;
     }
-    io::write_all(STDOUT_FILENO, b"case ");
-    io::print_decimal(STDOUT_FILENO, k);
-    io::write_all(STDOUT_FILENO, b"\n");
+    streams::write_all(rt, b"case ");
+    streams::print_decimal(rt, k);
+    streams::write_all(rt, b"\n");
 }
 
 // 1 where the case agrees; else 0, and it is reported.
-fn tally(b: &[u8], p: usize, c: Case, k: u64, before: u64) -> u64
+fn tally(rt: &impl Print, b: &[u8], p: usize, c: Case, k: u64, before: u64) -> u64
     requires { p + entry_bytes * (c.n + c.m + c.r) ≤ length b.now }
     ensures { result ≤ 1 }
 {
     if agrees(b, p, c) {
         return 1;
     }
-    report(k, before);
+    report(rt, k, before);
     0
 }
 
-fn summary(cases: u64, agree: u64) {
-    io::print_decimal(STDOUT_FILENO, cases);
-    io::write_all(STDOUT_FILENO, b" cases, ");
-    io::print_decimal(STDOUT_FILENO, agree);
-    io::write_all(STDOUT_FILENO, b" agree\n");
+fn summary(rt: &impl Print, cases: u64, agree: u64) {
+    streams::print_decimal(rt, cases);
+    streams::write_all(rt, b" cases, ");
+    streams::print_decimal(rt, agree);
+    streams::write_all(rt, b" agree\n");
 }
 
-fn cut_short() {
-    io::write_all(STDOUT_FILENO, b"cut short\n");
+fn cut_short(rt: &impl Print) {
+    streams::write_all(rt, b"cut short\n");
 }
 
 // Every case of the first n bytes, in turn.
-fn replay(b: &[u8], n: usize)
+fn replay(rt: &impl Print, b: &[u8], n: usize)
     requires { n ≤ length b.now }
 {
     let mut p = 0usize;
@@ -83,19 +83,19 @@ fn replay(b: &[u8], n: usize)
         let c = cases::head(b, p);
         let q = p + 5 + ENTRY_BYTES * (c.n + c.m + c.r);
         if n < q {
-            cut_short();
+            cut_short(rt);
             return;
         }
-        agree = agree + tally(b, p + 5, c, cases, cases - agree);
+        agree = agree + tally(rt, b, p + 5, c, cases, cases - agree);
         cases = cases + 1;
         p = q;
     }
-    summary(cases, agree);
+    summary(rt, cases, agree);
 }
 
-fn main() {
+fn main(rt: HostRuntime) {
     let mut text = [0u8; 600000];
-    let n = io::read_full(STDIN_FILENO, &mut text);
+    let n = streams::read_full(&mut rt.stdin(), &mut text);
     let m = text::decode(&mut text, n);
-    replay(&text, m);
+    replay(&rt, &text, m);
 }

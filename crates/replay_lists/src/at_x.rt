@@ -57,7 +57,7 @@ fn is_given(sum: &[u8], want: Asked) -> bool {
 }
 
 // The sum less its last byte is refused, and has the value +0.
-fn with_short_input(name: &[u8], counts: &mut [u64; COUNTS], sum: &[u8], x: u64) {
+fn with_short_input(rt: &impl Print, name: &[u8], counts: &mut [u64; COUNTS], sum: &[u8], x: u64) {
     let n = sum.len();
     if n == 0 {
         return;
@@ -70,6 +70,7 @@ fn with_short_input(name: &[u8], counts: &mut [u64; COUNTS], sum: &[u8], x: u64)
     };
     let goes = is_given(&sum[..m], refused);
     crate::count::tally(
+        rt,
         name,
         counts,
         crate::count::VALUE,
@@ -80,7 +81,7 @@ fn with_short_input(name: &[u8], counts: &mut [u64; COUNTS], sum: &[u8], x: u64)
 }
 
 // The value of the sum that a line asks for.
-pub fn replay(name: &[u8], counts: &mut [u64; COUNTS], line: &[u8], sum: &[u8]) {
+pub fn replay(rt: &impl Print, name: &[u8], counts: &mut [u64; COUNTS], line: &[u8], sum: &[u8]) {
     let stored = stored_of(line);
     let Stored::Answer(asked) = stored else {
         crate::count::note_line(counts, crate::count::BROKEN);
@@ -88,6 +89,7 @@ pub fn replay(name: &[u8], counts: &mut [u64; COUNTS], line: &[u8], sum: &[u8]) 
     };
     let goes = is_given(sum, asked);
     crate::count::tally(
+        rt,
         name,
         counts,
         crate::count::VALUE,
@@ -95,5 +97,5 @@ pub fn replay(name: &[u8], counts: &mut [u64; COUNTS], line: &[u8], sum: &[u8]) 
         goes,
         b"value",
     );
-    with_short_input(name, counts, sum, asked.x);
+    with_short_input(rt, name, counts, sum, asked.x);
 }

@@ -68,7 +68,14 @@ fn is_refused(k: Keyword, input: &[u8], room: usize, number: u64) -> bool
 }
 
 // The room that a success needs, less a byte.
-fn with_short_room(name: &[u8], counts: &mut [u64; COUNTS], k: Keyword, input: &[u8], n: usize)
+fn with_short_room(
+    rt: &impl Print,
+    name: &[u8],
+    counts: &mut [u64; COUNTS],
+    k: Keyword,
+    input: &[u8],
+    n: usize,
+)
     requires { n ≤ 16389 }
 {
     if n == 0 {
@@ -76,6 +83,7 @@ fn with_short_room(name: &[u8], counts: &mut [u64; COUNTS], k: Keyword, input: &
     }
     let goes = is_refused(k, input, n - 1, OUTPUT_ROOM);
     crate::count::tally(
+        rt,
         name,
         counts,
         entries::row(k),
@@ -86,7 +94,13 @@ fn with_short_room(name: &[u8], counts: &mut [u64; COUNTS], k: Keyword, input: &
 }
 
 // The input less its last byte.
-fn with_short_input(name: &[u8], counts: &mut [u64; COUNTS], k: Keyword, input: &[u8]) {
+fn with_short_input(
+    rt: &impl Print,
+    name: &[u8],
+    counts: &mut [u64; COUNTS],
+    k: Keyword,
+    input: &[u8],
+) {
     let n = input.len();
     if n == 0 {
         return;
@@ -94,6 +108,7 @@ fn with_short_input(name: &[u8], counts: &mut [u64; COUNTS], k: Keyword, input: 
     let m = n - 1;
     let goes = is_refused(k, &input[..m], AMPLE, BAD_RECORD);
     crate::count::tally(
+        rt,
         name,
         counts,
         entries::row(k),
@@ -105,6 +120,7 @@ fn with_short_input(name: &[u8], counts: &mut [u64; COUNTS], k: Keyword, input: 
 
 // With just the room that is needed, and with more.
 fn with_enough_room(
+    rt: &impl Print,
     name: &[u8],
     counts: &mut [u64; COUNTS],
     k: Keyword,
@@ -117,6 +133,7 @@ fn with_enough_room(
     let exact = is_given(k, input, want.len(), answer, want);
     let more = is_given(k, input, AMPLE, answer, want);
     crate::count::tally(
+        rt,
         name,
         counts,
         entries::row(k),
@@ -128,6 +145,7 @@ fn with_enough_room(
 
 // Every call on one input, whose answer and output are stored.
 pub fn replay(
+    rt: &impl Print,
     name: &[u8],
     counts: &mut [u64; COUNTS],
     k: Keyword,
@@ -140,7 +158,7 @@ pub fn replay(
         crate::count::note_line(counts, crate::count::BROKEN);
         return;
     }
-    with_enough_room(name, counts, k, input, answer, want);
-    with_short_room(name, counts, k, input, n);
-    with_short_input(name, counts, k, input);
+    with_enough_room(rt, name, counts, k, input, answer, want);
+    with_short_room(rt, name, counts, k, input, n);
+    with_short_input(rt, name, counts, k, input);
 }

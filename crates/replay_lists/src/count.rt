@@ -1,7 +1,7 @@
 // What the replay of stored answers counts: a row of eight counters for the lines, and one for each entry.
 ghost use Rattle.std.specs.Prelude.{◌<◌};
 
-use libc::STDOUT_FILENO;
+use crate::streams;
 
 // The row of the lines: which line of its file is at hand, and how many lines there were of each sort.
 pub const LINES: usize = 0;
@@ -77,27 +77,28 @@ pub fn note_line(counts: &mut [u64; COUNTS], column: usize)
     note(counts, LINES, column);
 }
 
-fn print(counts: &[u64; COUNTS], row: usize, column: usize)
+fn print(rt: &impl Print, counts: &[u64; COUNTS], row: usize, column: usize)
     requires { (row < 14) × (column < 8) }
 {
-    io::print_decimal(STDOUT_FILENO, counts[row * COLUMNS + column]);
+    streams::print_decimal(rt, counts[row * COLUMNS + column]);
 }
 
 // Writes the place of a call that did not go as it should, if few did not before it.
-fn report(name: &[u8], counts: &[u64; COUNTS], what: &[u8]) {
+fn report(rt: &impl Print, name: &[u8], counts: &[u64; COUNTS], what: &[u8]) {
     if 8 < counts[FAILED] {
         return;
     }
-    io::write_all(STDOUT_FILENO, name);
-    io::write_all(STDOUT_FILENO, b":");
-    print(counts, LINES, LINE);
-    io::write_all(STDOUT_FILENO, b": ");
-    io::write_all(STDOUT_FILENO, what);
-    io::write_all(STDOUT_FILENO, b"\n");
+    streams::write_all(rt, name);
+    streams::write_all(rt, b":");
+    print(rt, counts, LINES, LINE);
+    streams::write_all(rt, b": ");
+    streams::write_all(rt, what);
+    streams::write_all(rt, b"\n");
 }
 
 // Counts a call, and whether it went as it should; where not, it is reported.
 pub fn tally(
+    rt: &impl Print,
     name: &[u8],
     counts: &mut [u64; COUNTS],
     row: usize,
@@ -113,24 +114,32 @@ pub fn tally(
         return;
     }
     note_line(counts, FAILED);
-    report(name, counts, what);
+    report(rt, name, counts, what);
 }
 
-fn print_both(counts: &[u64; COUNTS], row: usize, column: usize, between: &[u8], after: &[u8])
+fn print_both(
+    rt: &impl Print,
+    counts: &[u64; COUNTS],
+    row: usize,
+    column: usize,
+    between: &[u8],
+    after: &[u8],
+)
     requires { (row < 14) × (column < 7) }
 {
-    print(counts, row, column);
-    io::write_all(STDOUT_FILENO, between);
-    print(counts, row, column + 1);
-    io::write_all(STDOUT_FILENO, after);
+    print(rt, counts, row, column);
+    streams::write_all(rt, between);
+    print(rt, counts, row, column + 1);
+    streams::write_all(rt, after);
 }
 
-fn summary_of(counts: &[u64; COUNTS], row: usize, name: &[u8])
+fn summary_of(rt: &impl Print, counts: &[u64; COUNTS], row: usize, name: &[u8])
     requires { row < 14 }
 {
-    io::write_all(STDOUT_FILENO, name);
-    print_both(counts, row, ANSWERS, b" answers, ", b" agree; ");
+    streams::write_all(rt, name);
+    print_both(rt, counts, row, ANSWERS, b" answers, ", b" agree; ");
     print_both(
+        rt,
         counts,
         row,
         SHORT_ROOMS,
@@ -138,6 +147,7 @@ fn summary_of(counts: &[u64; COUNTS], row: usize, name: &[u8])
         b" refused; ",
     );
     print_both(
+        rt,
         counts,
         row,
         SHORT_INPUTS,
@@ -147,12 +157,13 @@ fn summary_of(counts: &[u64; COUNTS], row: usize, name: &[u8])
 }
 
 // A run and a value write no bytes, so there is no room that could be short.
-fn summary_without_room(counts: &[u64; COUNTS], row: usize, name: &[u8])
+fn summary_without_room(rt: &impl Print, counts: &[u64; COUNTS], row: usize, name: &[u8])
     requires { row < 14 }
 {
-    io::write_all(STDOUT_FILENO, name);
-    print_both(counts, row, ANSWERS, b" answers, ", b" agree; ");
+    streams::write_all(rt, name);
+    print_both(rt, counts, row, ANSWERS, b" answers, ", b" agree; ");
     print_both(
+        rt,
         counts,
         row,
         SHORT_INPUTS,
@@ -161,30 +172,30 @@ fn summary_without_room(counts: &[u64; COUNTS], row: usize, name: &[u8])
     );
 }
 
-fn print_line(counts: &[u64; COUNTS], column: usize, after: &[u8])
+fn print_line(rt: &impl Print, counts: &[u64; COUNTS], column: usize, after: &[u8])
     requires { column < 8 }
 {
-    print(counts, LINES, column);
-    io::write_all(STDOUT_FILENO, after);
+    print(rt, counts, LINES, column);
+    streams::write_all(rt, after);
 }
 
-pub fn summary(counts: &[u64; COUNTS]) {
-    print_line(counts, LISTS, b" lists, ");
-    print_line(counts, SUMS, b" sums\n");
-    summary_of(counts, READ, b"read: ");
-    summary_of(counts, DERIVE, b"derive: ");
-    summary_of(counts, INTEGRATE, b"integrate: ");
-    summary_of(counts, WRITE, b"write: ");
-    summary_of(counts, DERIVATIVE, b"derivative: ");
-    summary_of(counts, INTEGRAL, b"integral: ");
-    summary_of(counts, INVERSE, b"inverse: ");
-    summary_of(counts, BACK, b"back: ");
-    summary_of(counts, WRITE_FAITHFUL, b"write_faithful: ");
-    summary_of(counts, DERIVATIVE_FAITHFUL, b"derivative_faithful: ");
-    summary_of(counts, INTEGRAL_FAITHFUL, b"integral_faithful: ");
-    summary_without_room(counts, RUN, b"run: ");
-    summary_without_room(counts, VALUE, b"value: ");
-    print_line(counts, SKIPPED, b" lines skipped, ");
-    print_line(counts, BROKEN, b" broken, ");
-    print_line(counts, CUT_OFF, b" cut off or too long\n");
+pub fn summary(rt: &impl Print, counts: &[u64; COUNTS]) {
+    print_line(rt, counts, LISTS, b" lists, ");
+    print_line(rt, counts, SUMS, b" sums\n");
+    summary_of(rt, counts, READ, b"read: ");
+    summary_of(rt, counts, DERIVE, b"derive: ");
+    summary_of(rt, counts, INTEGRATE, b"integrate: ");
+    summary_of(rt, counts, WRITE, b"write: ");
+    summary_of(rt, counts, DERIVATIVE, b"derivative: ");
+    summary_of(rt, counts, INTEGRAL, b"integral: ");
+    summary_of(rt, counts, INVERSE, b"inverse: ");
+    summary_of(rt, counts, BACK, b"back: ");
+    summary_of(rt, counts, WRITE_FAITHFUL, b"write_faithful: ");
+    summary_of(rt, counts, DERIVATIVE_FAITHFUL, b"derivative_faithful: ");
+    summary_of(rt, counts, INTEGRAL_FAITHFUL, b"integral_faithful: ");
+    summary_without_room(rt, counts, RUN, b"run: ");
+    summary_without_room(rt, counts, VALUE, b"value: ");
+    print_line(rt, counts, SKIPPED, b" lines skipped, ");
+    print_line(rt, counts, BROKEN, b" broken, ");
+    print_line(rt, counts, CUT_OFF, b" cut off or too long\n");
 }

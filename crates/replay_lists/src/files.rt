@@ -2,15 +2,17 @@
 ghost use Rattle.std.specs.Prelude.{◌≡◌, ◌≤◌, length};
 
 use crate::count::COUNTS;
-use crate::lines;
 use crate::lines::Held;
+use crate::{lines, streams};
+use std::io::Read;
+use std::rt::Files;
 
 // Reads on behind the bytes that the text has: how many it has then.
-fn fill(fd: i32, text: &mut [u8], had: usize) -> usize
+fn fill<F: Read>(file: &mut F, text: &mut [u8], had: usize) -> usize
     requires { had ≤ length text.old }
     ensures { (had ≤ result) × (result ≤ length text.old) × (length text.new ≡ length text.old) }
 {
-    let got = io::read_full(fd, &mut text[had..]);
+    let got = streams::read_full(file, &mut text[had..]);
     had + got
 }
 
@@ -36,9 +38,10 @@ fn finish(counts: &mut [u64; COUNTS], had: usize) {
 }
 
 // Every line of an open file. No run uses up the turns.
-fn run_open(
+fn run_open<F: Read>(
+    rt: &impl Print,
     name: &[u8],
-    fd: i32,
+    file: &mut F,
     counts: &mut [u64; COUNTS],
     text: &mut [u8],
     input: &mut [u8],
@@ -46,32 +49,31 @@ fn run_open(
 ) {
     let mut had = 0usize;
     let mut held = Held::Nothing;
-    let mut turns = u64::MAX;
-    while 0 < turns {
-        let n = fill(fd, text, had);
+    for _ in 0..u64::MAX {
+        let n = fill(file, text, had);
         if n == had {
             finish(counts, had);
             return;
         }
-        let reached = lines::run_all(name, text, n, counts, held, input, want);
+        let reached = lines::run_all(rt, name, text, n, counts, held, input, want);
         held = reached.held;
         had = keep(text, reached.at, n);
-        turns = turns - 1;
     }
     crate::count::note_line(counts, crate::count::CUT_OFF);
 }
 
 // Every line of the file of this name. The text has room for a line of 2,048 records in full.
-pub fn run(name: &[u8], counts: &mut [u64; COUNTS]) {
-    let fd = os::open_read(name);
-    if fd < 0 {
+pub fn run<R: Files + Print>(rt: &R, name: &[u8], counts: &mut [u64; COUNTS]) {
+    let opened = streams::open_read(rt, name);
+    let Some(mut file) = opened else {
         crate::count::note_line(counts, crate::count::CUT_OFF);
         return;
-    }
+    };
     counts[crate::count::LINE] = 0;
     let mut text = [0u8; 131072];
     let mut input = [0u8; 65536];
     let mut want = [0u8; 16384];
-    run_open(name, fd, counts, &mut text, &mut input, &mut want);
-    libc::close(fd);
+    run_open(
+        rt, name, &mut file, counts, &mut text, &mut input, &mut want,
+    );
 }

@@ -114,6 +114,7 @@ fn stored_of(line: &[u8], k: Keyword, want: &mut [u8]) -> Stored {
 
 // The calls on the first n bytes of the input, of whose output the first m bytes of want are stored.
 fn replay(
+    rt: &impl Print,
     name: &[u8],
     counts: &mut [u64; COUNTS],
     k: Keyword,
@@ -131,7 +132,7 @@ fn replay(
         crate::count::note_line(counts, crate::count::BROKEN);
         return;
     }
-    calls::replay(name, counts, k, &input[..n], answer, &want[..m]);
+    calls::replay(rt, name, counts, k, &input[..n], answer, &want[..m]);
 }
 
 // Whether what is held is what the entry is handed.
@@ -152,6 +153,7 @@ fn held_bytes(held: Held) -> usize {
 }
 
 fn answer_line(
+    rt: &impl Print,
     name: &[u8],
     line: &[u8],
     counts: &mut [u64; COUNTS],
@@ -170,10 +172,17 @@ fn answer_line(
         crate::count::note_line(counts, crate::count::BROKEN);
         return;
     };
-    replay(name, counts, k, input, n, answer, want, m);
+    replay(rt, name, counts, k, input, n, answer, want, m);
 }
 
-fn run_line(name: &[u8], line: &[u8], counts: &mut [u64; COUNTS], held: Held, input: &[u8]) {
+fn run_line(
+    rt: &impl Print,
+    name: &[u8],
+    line: &[u8],
+    counts: &mut [u64; COUNTS],
+    held: Held,
+    input: &[u8],
+) {
     let Held::List(n) = held else {
         crate::count::note_line(counts, crate::count::BROKEN);
         return;
@@ -182,10 +191,17 @@ fn run_line(name: &[u8], line: &[u8], counts: &mut [u64; COUNTS], held: Held, in
         crate::count::note_line(counts, crate::count::BROKEN);
         return;
     }
-    runs::replay(name, counts, line, &input[..n]);
+    runs::replay(rt, name, counts, line, &input[..n]);
 }
 
-fn value_line(name: &[u8], line: &[u8], counts: &mut [u64; COUNTS], held: Held, input: &[u8]) {
+fn value_line(
+    rt: &impl Print,
+    name: &[u8],
+    line: &[u8],
+    counts: &mut [u64; COUNTS],
+    held: Held,
+    input: &[u8],
+) {
     let Held::Sum(n) = held else {
         crate::count::note_line(counts, crate::count::BROKEN);
         return;
@@ -194,11 +210,12 @@ fn value_line(name: &[u8], line: &[u8], counts: &mut [u64; COUNTS], held: Held, 
         crate::count::note_line(counts, crate::count::BROKEN);
         return;
     }
-    at_x::replay(name, counts, line, &input[..n]);
+    at_x::replay(rt, name, counts, line, &input[..n]);
 }
 
 // One line: what is held after it.
 fn run(
+    rt: &impl Print,
     name: &[u8],
     line: &[u8],
     counts: &mut [u64; COUNTS],
@@ -212,11 +229,11 @@ fn run(
         Keyword::List => list_line(line, counts, input),
         Keyword::Sum => sum_line(line, counts, input),
         Keyword::Run => {
-            run_line(name, line, counts, held, input);
+            run_line(rt, name, line, counts, held, input);
             held
         }
         Keyword::Value => {
-            value_line(name, line, counts, held, input);
+            value_line(rt, name, line, counts, held, input);
             held
         }
         Keyword::Other => {
@@ -224,7 +241,7 @@ fn run(
             held
         }
         _ => {
-            answer_line(name, line, counts, k, held, input, want);
+            answer_line(rt, name, line, counts, k, held, input, want);
             held
         }
     }
@@ -247,6 +264,7 @@ fn end(text: &[u8], at: usize, n: usize) -> usize
 
 // Every whole line of the first n bytes.
 pub fn run_all(
+    rt: &impl Print,
     name: &[u8],
     text: &[u8],
     n: usize,
@@ -265,7 +283,7 @@ pub fn run_all(
         if e == n {
             return Reached { at: at, held: held };
         }
-        held = run(name, &text[at..e], counts, held, input, want);
+        held = run(rt, name, &text[at..e], counts, held, input, want);
         at = e + 1;
     }
     Reached { at: at, held: held }

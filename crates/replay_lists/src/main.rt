@@ -9,17 +9,18 @@ mod entries;
 mod files;
 mod lines;
 mod runs;
+mod streams;
 pub mod text;
 
 use crate::count::COUNTS;
 
-fn main() {
+fn main(rt: HostRuntime) {
     let mut counts = [0u64; COUNTS];
-    files::run(b"lists.txt", &mut counts);
-    files::run(b"sums.txt", &mut counts);
-    files::run(b"limits.txt", &mut counts);
-    files::run(b"faithful.txt", &mut counts);
-    files::run(b"runs.txt", &mut counts);
-    files::run(b"values.txt", &mut counts);
-    crate::count::summary(&counts);
+    files::run(&rt, b"lists.txt", &mut counts);
+    files::run(&rt, b"sums.txt", &mut counts);
+    files::run(&rt, b"limits.txt", &mut counts);
+    files::run(&rt, b"faithful.txt", &mut counts);
+    files::run(&rt, b"runs.txt", &mut counts);
+    files::run(&rt, b"values.txt", &mut counts);
+    crate::count::summary(&rt, &counts);
 }

@@ -84,7 +84,7 @@ fn is_given(list: &[u8], want: Run) -> bool {
 }
 
 // The list less its last byte is refused, and nothing is told of it.
-fn with_short_input(name: &[u8], counts: &mut [u64; COUNTS], list: &[u8], x: u64) {
+fn with_short_input(rt: &impl Print, name: &[u8], counts: &mut [u64; COUNTS], list: &[u8], x: u64) {
     let n = list.len();
     if n == 0 {
         return;
@@ -100,6 +100,7 @@ fn with_short_input(name: &[u8], counts: &mut [u64; COUNTS], list: &[u8], x: u64
     };
     let goes = is_given(&list[..m], refused);
     crate::count::tally(
+        rt,
         name,
         counts,
         crate::count::RUN,
@@ -110,7 +111,7 @@ fn with_short_input(name: &[u8], counts: &mut [u64; COUNTS], list: &[u8], x: u64
 }
 
 // Every run of the list that a line asks for.
-pub fn replay(name: &[u8], counts: &mut [u64; COUNTS], line: &[u8], list: &[u8]) {
+pub fn replay(rt: &impl Print, name: &[u8], counts: &mut [u64; COUNTS], line: &[u8], list: &[u8]) {
     let stored = stored_of(line);
     let Stored::Answer(run) = stored else {
         crate::count::note_line(counts, crate::count::BROKEN);
@@ -118,6 +119,7 @@ pub fn replay(name: &[u8], counts: &mut [u64; COUNTS], line: &[u8], list: &[u8])
     };
     let goes = is_given(list, run);
     crate::count::tally(
+        rt,
         name,
         counts,
         crate::count::RUN,
@@ -125,5 +127,5 @@ pub fn replay(name: &[u8], counts: &mut [u64; COUNTS], line: &[u8], list: &[u8])
         goes,
         b"run",
     );
-    with_short_input(name, counts, list, run.x);
+    with_short_input(rt, name, counts, list, run.x);
 }
