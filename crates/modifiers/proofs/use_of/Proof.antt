@@ -32,10 +32,10 @@ use_of_spec =
     (λ c.
     let b = c in
     use-one _ _ _ b.count_nodes-n.result b.count_nodes-n.ensures _
-    (way-is b.Way-of.ensures b.modifier_of.ensures c.in-One.is) c.counted.ensures)
+    (way-is b.way_of.ensures b.modifier_of.ensures c.in-One.is) c.counted.ensures)
     (λ c.
     let b = c in
     use-two _ _ _ b.count_nodes-n.result b.count_nodes-n.ensures _
-    (way-is b.Way-of.ensures b.modifier_of.ensures c.in-Two.is) c.counted-in-Two.ensures)
-    (λ c. let b = c in is-fork _ (way-is b.Way-of.ensures b.modifier_of.ensures c.in-Any.is))
-    (λ c h st. let b = c in not_listed _ (way-is b.Way-of.ensures b.modifier_of.ensures c.in-Unlisted.is) _ _ h st))
+    (way-is b.way_of.ensures b.modifier_of.ensures c.in-Two.is) c.counted-in-Two.ensures)
+    (λ c. let b = c in is-fork _ (way-is b.way_of.ensures b.modifier_of.ensures c.in-Any.is))
+    (λ c h st. let b = c in not_listed _ (way-is b.way_of.ensures b.modifier_of.ensures c.in-Unlisted.is) _ _ h st))

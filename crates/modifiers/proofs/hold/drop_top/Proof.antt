@@ -6,7 +6,7 @@ use Rattle.modifiers.proofs.hold.drop_top.Statement.{statement}
 use Rattle.modifiers.proofs.hold.drop_top.Tie as tie
 
 abbrev entry : tie.Start → Arena
-entry s = arena s.args.kinds s.args.insides s.args.numbers s.args.sizes
+entry s = arena s.args.kinds.now s.args.insides.now s.args.numbers.now s.args.sizes.now
 
 pub drop_top_spec : {M : Type 1} → statement M
 drop_top_spec =
@@ -16,7 +16,7 @@ drop_top_spec =
     (λ c. search rules)
     (λ c. search rules)
     (λ c κs. search rules)
-    (λ c. let s = c.before.before.before.before.before.before.before in dropped-short s.args.at c.too_few.result c.too_few.ensures
+    (λ c. let s = c.before.before.before.before.before.before in dropped-short s.args.at c.too_few.result c.too_few.ensures
     (found-is (entry s) 128 s.args.env.used 1 c.in_default.is c.measure-d.ensures))
-    (λ c. let s = c.before.before.before.before.before.before.before in dropped s.args.at c.in-From.w
+    (λ c. let s = c.before.before.before.before.before in dropped s.args.at c.in-From.w
     (found-is (entry s) 128 s.args.env.used 1 c.in-From.is c.measure-d.ensures)))

@@ -28,8 +28,7 @@ returns-3 c =
     let after-hold = after-h in
     let s = after-hold in
     let l = place in
-    let x = c.l-in-Stopped-1.given.0 in
-    held-and-lent s.args.at s.args.k s.args.c l.lend_deepest-l.result (Stopped x.0 x.1.0 x.1.1.0) c.in-Stopped.is s.requires
+    held-and-lent s.args.at s.args.k s.args.c l.lend_deepest-l.result (Stopped c.in-Stopped.q c.in-Stopped.p c.in-Stopped.b) c.in-Stopped.is s.requires
     (begins-is after-h.in-Held.is after-hold.hold-h.ensures) l.lend_deepest-l.ensures
 
 pub hold_and_lend_spec : {M : Type 1} → statement M
