@@ -158,6 +158,11 @@ module _ {b b' : List ℕ} {d q : Draft} where
 
 -- ---- around a term
 
+-- with a list written, nothing more closes it
+module _ {b : List ℕ} {d : Draft} where
+  pub close-full : (w : Bool) → (d.from ≡ d.end → ⊥) → Drawn b b d d 0 2 (λ ns. close w ns)
+  close-full w o = drawn-where (drawn-more drawn-none 0 2 (omega arith) (omega arith)) (λ ns. close w ns) (some-list (λ ns. ns) (λ ns. close w ns) d (λ r xs ys. refl) o)
+
 module _ {b : List ℕ} {d : Draft} {w : Bool} where
   pub before-first : w ≡ true → Drawn b b d d 2 1 (λ ns. before w ns)
   before-first e = drawn-as (drawn-more drawn-none 2 1 (omega arith) (omega arith)) (λ ns. before w ns) (λ ns. ap (λ (v : Bool). before v ns) (sym e))
@@ -184,9 +189,6 @@ module _ {b : List ℕ} {d : Draft} {w : Bool} where
 
     pub times-as : {b' : List ℕ} {s : Said} {f r : ℕ} {v : Bool} → v ≡ w → Spoken b b' d s f r (λ ns. times_coef v flag c ns) → Spoken b b' d s f r (λ ns. times_coef w flag c ns)
     times-as e k = spoken-as k (λ ns. times_coef w flag c ns) (λ ns. ap (λ (v : Bool). times_coef v flag c ns) e)
-
-  pub close-full : (d.from ≡ d.end → ⊥) → Drawn b b d d 0 2 (λ ns. close w ns)
-  close-full o = drawn-where (drawn-more drawn-none 0 2 (omega arith) (omega arith)) (λ ns. close w ns) (some-list (λ ns. ns) (λ ns. close w ns) d (λ r xs ys. refl) o)
 
   pub close-x : {b' : List ℕ} {q : Draft} → d.from ≡ d.end → w ≡ true → Drawn b b' d q 0 1 (λ ns. append ns (one (does prim.Identity))) → Drawn b b' d q 0 2 (λ ns. close w ns)
   unfolding append

@@ -29,10 +29,10 @@ sub-j c = search rules
 mul-result : tie.Need-offset_bounds-i
 mul-result c = search rules
 
-index-1-result : tie.Need-bounds-1-result
+index-1-result : tie.Need-bounds-i
 index-1-result c = search rules
 
-index-2-result : tie.Need-bounds-2-result
+index-2-result : tie.Need-bounds-j
 index-2-result c = search rules
 
 returns : tie.Need-returns

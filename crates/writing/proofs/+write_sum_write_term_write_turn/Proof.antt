@@ -169,7 +169,7 @@ module _ (t : ℕ) where
   -- an entry is refused
   sum-stop : write-sum-lts.Need-returns-in-Refused (write-sum-claims t) (write-sum-at t) write-sum.Post Inv μ
   sum-stop c s l =
-      let turned = c.before.before.before.before.before in
+      let turned = c.before.before.before in
       let read = sum-load turned in
       let at = sum-loop read in
       left-stop (sum-start at).args.m (at.loop-q.invariant s l) read.load-x.result read.load-x.ensures read.loop-q-test.true
@@ -201,7 +201,7 @@ module _ (t : ℕ) where
   -- the argument is refused
   term-refused : write-term-lts.Need-returns-in-Refused (write-term-claims t) (write-term-at t) write-term.Post
   term-refused c s l =
-      let argument = c.before.before.before.before.before in
+      let argument = c.before.before.before in
       let st = term-start argument in
       term-stop st.args.x st.args.complex (on_list st.args.complex s) (9 * st.args.x.inside) (term-else argument).if-x-eq-X.false (argument.write_sum.ensures s l)
       c.in-Refused.q c.in-Refused.is
@@ -210,7 +210,7 @@ module _ (t : ℕ) where
   term-done : write-term-lts.Need-returns-in-Done (write-term-claims t) (write-term-at t) write-term.Post
   term-done c s l =
       let went = c in
-      let argument = went.before.before.before.before.before.before.before.before.before.before.before in
+      let argument = went.before.before.before.before.before.before.before.before.before in
       let st = term-start argument in
       term-function st.args.x st.args.complex (on_list st.args.complex s) (9 * st.args.x.inside) (term-else argument).if-x-eq-X.false (argument.write_sum.ensures s l) went.in-Done.is
       c.is_one.ensures c.write_function.ensures
@@ -235,16 +235,16 @@ module _ (t : ℕ) where
   turn-else c = c.before.before.before
 
   abbrev turn-start : Turn-kept → Turn-start
-  turn-start c = (turn-else c).before.before.before.before.before
+  turn-start c = (turn-else c).before.before.before.before.before.before
 
   -- the term is refused
   turn-refused : write-turn-lts.Need-returns-in-Refused (write-turn-claims t) (write-turn-at t) write-turn.Post
   turn-refused c s l =
-      let term = c.before.before.before.before.before in
+      let term = c.before.before.before in
       let kept = turn-kept term in
       let test = turn-else kept in
       let st = turn-start kept in
-      turn-stop st.args.x st.args.complex (on_list st.args.complex s) (9 * st.args.x.inside) st.args.identity (sym test.is_zero.ensures ∙ test.if-is_zero.left) refl
+      turn-stop st.args.x st.args.complex (on_list st.args.complex s) (9 * st.args.x.inside) st.args.identity (sym test.is_zero.ensures ∙ test.if-is_zero.false) refl
       kept.before-e.ensures
       (term.write_term.ensures s l) c.in-Refused.q c.in-Refused.is
 
@@ -252,11 +252,11 @@ module _ (t : ℕ) where
   turn-done : write-turn-lts.Need-returns-in-Done (write-turn-claims t) (write-turn-at t) write-turn.Post
   turn-done c s l =
       let went = c in
-      let term = went.before.before.before.before.before.before.before.before.before in
+      let term = went.before.before.before.before.before.before.before in
       let kept = turn-kept term in
       let test = turn-else kept in
       let st = turn-start kept in
-      turn_more st.args.x st.args.complex (on_list st.args.complex s) (9 * st.args.x.inside) st.args.identity (sym test.is_zero.ensures ∙ test.if-is_zero.left) refl
+      turn_more st.args.x st.args.complex (on_list st.args.complex s) (9 * st.args.x.inside) st.args.identity (sym test.is_zero.ensures ∙ test.if-is_zero.false) refl
       kept.before-e.ensures
       (term.write_term.ensures s l) went.in-Done.is c.finish.ensures
 
@@ -276,17 +276,17 @@ pub +write_sum_write_term_write_turn_spec : {M : Type 1} → statement M
     (omega (arith, n.first.deep, (sum-start t (sum-loop t read)).requires.0), ((n.inner, n.lies-inner), ready t read, fine t read)))
     (λ c. search rules)
     -- it is refused
-    (λ c. let turned = c.before.before.before.before.before in let h = (sum-start t (sum-loop t (sum-load t turned))).requires.1.0 in (sum-stop t c h.0 h.1).long)
+    (λ c. let turned = c.before.before.before in let h = (sum-start t (sum-loop t (sum-load t turned))).requires.1.0 in (sum-stop t c h.0 h.1).long)
     (sum-stop t)
     -- or written
     (λ c. search rules)
-    (λ c κs. fine t c.before.before.before.before.before.before.before)
-    (λ c. omega (arith, bound t c.before.before.before.before.before.before.before.before))
-    (λ c. omega (arith, bound t c.before.before.before.before.before.before.before.before.before))
-    (λ c. omega (arith, bound t c.before.before.before.before.before.before.before.before.before))
-    (λ c. let read = c.before.before.before.before.before.before.before.before.before in omega (arith, (held t read).within, read.loop-q-test.true))
+    (λ c κs. fine t c.before.before.before.before.before)
+    (λ c. omega (arith, bound t c.before.before.before.before.before.before))
+    (λ c. omega (arith, bound t c.before.before.before.before.before.before.before))
+    (λ c. omega (arith, bound t c.before.before.before.before.before.before.before))
+    (λ c. let read = c.before.before.before.before.before.before.before in omega (arith, (held t read).within, read.loop-q-test.true))
     (λ c s l.
-    let turned = c.before.before.before.before.before.before.before in
+    let turned = c.before.before.before.before.before in
     let read = sum-load t turned in
     let at = sum-loop t read in
     left-more (sum-start t at).args.m (at.loop-q.invariant s l) read.load-x.result read.load-x.ensures read.loop-q-test.true
@@ -312,13 +312,13 @@ pub +write_sum_write_term_write_turn_spec : {M : Type 1} → statement M
     (λ c. search rules)
     (λ c κs. search rules)
     (λ c κs.
-    let argument = c.before.before.before.before.before.before.before.before in
+    let argument = c.before.before.before.before.before.before in
     let st = term-start t argument in
     let h = st.requires.1.0 in
     (ready-spoken st.requires.1.1 (argument.write_sum.ensures h.0 h.1) c.in-Done.is 0 3 (omega arith) (omega arith), st.requires.1.2))
-    (λ c. let h = (term-start t c.before.before.before.before.before).requires.1.0 in (term-refused t c h.0 h.1).long)
+    (λ c. let h = (term-start t c.before.before.before).requires.1.0 in (term-refused t c h.0 h.1).long)
     (term-refused t)
-    (λ c. let h = (term-start t c.before.before.before.before.before.before.before.before.before.before.before).requires.1.0 in (term-done t c h.0 h.1).long)
+    (λ c. let h = (term-start t c.before.before.before.before.before.before.before.before.before).requires.1.0 in (term-done t c h.0 h.1).long)
     (term-done t))
     (λ t. write-turn-lts.spec (write-turn-claims t) (write-turn-at t) write-turn.Post
     (λ c κs. search rules)
@@ -336,17 +336,17 @@ pub +write_sum_write_term_write_turn_spec : {M : Type 1} → statement M
     (λ c. search rules)
     (λ c. search rules)
     (λ c κs.
-    let term = c.before.before.before.before.before.before in
+    let term = c.before.before.before.before in
     let kept = turn-kept t term in
     let st = turn-start t kept in
     let h = st.requires.1.0 in
     let n = st.args.x.inside in
     ready-spoken (ready-drawn st.requires.1.1 kept.before-e.ensures (2 * n) (9 * n + 8) (omega arith) (omega arith)) (term.write_term.ensures h.0 h.1)
     c.in-Done.is 0 3 (omega arith) (omega arith))
-    (λ c. let h = (turn-start t (turn-kept t c.before.before.before.before.before)).requires.1.0 in (turn-refused t c h.0 h.1).long)
+    (λ c. let h = (turn-start t (turn-kept t c.before.before.before)).requires.1.0 in (turn-refused t c h.0 h.1).long)
     (turn-refused t)
     (λ c.
     let went = c in
-    let h = (turn-start t (turn-kept t went.before.before.before.before.before.before.before.before.before)).requires.1.0 in
+    let h = (turn-start t (turn-kept t went.before.before.before.before.before.before.before)).requires.1.0 in
     (turn-done t c h.0 h.1).long)
     (turn-done t))

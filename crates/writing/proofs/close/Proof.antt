@@ -10,7 +10,7 @@ pub close_spec : {M : Type 1} → statement M
 close_spec =
     tie.close
     (tie.spec
-    (λ c. close-full c.if-d.true)
+    (λ c. close-full _ c.if-d.true)
     (λ c κs. ready-less c.requires (omega arith) (omega arith))
     (λ c. search rules)
     (λ c.

@@ -88,10 +88,10 @@ kept : (c : tie.After-put_term Inv μ) → (let st = from-loop (in-loop (read c)
 kept c = kept_trans (in-loop (read c)).loop-q.invariant.0 c.put_term.ensures.0
 
 abbrev put_refused : tie.In-Refused Inv μ → tie.After-put_term Inv μ
-put_refused c = c.before.before.before.before.before.before.before.before
+put_refused c = c.before.before.before.before.before.before
 
 abbrev put-done : tie.After-struct_known-1 Inv μ → tie.After-put_term Inv μ
-put-done c = c.before.before.before.before.before.before.before.before.before
+put-done c = c.before.before.before.before.before.before.before
 
 again : tie.Need-loop-q-preserved Inv μ
 again c =
@@ -146,7 +146,7 @@ add_each_spec =
           (l.loop-q.invariant.3 s t ls lt) y.load-y.ensures (in-loop y).loop-q-test.true (call put) _ (N' put) c.in-Refused.is,
     ))
     -- or added
-    (λ c. omega (arith, bound (read c.before.before.before.before.before.before.before.before)))
+    (λ c. omega (arith, bound (read c.before.before.before.before.before.before)))
     (λ c. omega (arith, bound (read (put-done c))))
     (λ c. omega (arith, bound (read (put-done c))))
     (λ c. let y = read (put-done c) in omega (arith, (first y).within, (in-loop y).loop-q-test.true))

@@ -117,7 +117,7 @@ module _ (t : ℕ) where
   d-beside c = c.before.before.before.before.before.before.before
 
   abbrev d-block : D-Put → D-Made
-  d-block c = c.before.before.before.before.before.before.before.before.before.before.before.before.before
+  d-block c = c.before.before.before.before.before.before.before.before.before.before.before
 
   -- the book at the start, the copies, the product of the insides, and the book with the term put in
   abbrev D-W : D-Start → Book
@@ -187,10 +187,10 @@ module _ (t : ℕ) where
   e-load c = c.before.before.before.before
 
   abbrev e-done : expr-mul-lts.In-Done (expr-mul-claims t) (expr-mul-at t) expr-mul.Post expr-mul-Inv-loop expr-mul-μ-loop → E-Row
-  e-done c = c.before.before.before.before.before.before.before.before
+  e-done c = c.before.before.before.before.before.before
 
   abbrev e-refused : expr-mul-lts.In-Refused (expr-mul-claims t) (expr-mul-at t) expr-mul.Post expr-mul-Inv-loop expr-mul-μ-loop → E-Row
-  e-refused c = c.before.before.before.before.before.before.before.before
+  e-refused c = c.before.before.before.before.before.before
 
   -- the book at the start, in a turn, and after a row
   abbrev E-W₀ : E-Start → Book
@@ -300,10 +300,10 @@ module _ (t : ℕ) where
   r-load c = c.before.before.before.before
 
   abbrev r-done : mul-row-lts.In-Done (mul-row-claims t) (mul-row-at t) mul-row.Post mul-row-Inv-loop mul-row-μ-loop → R-Term
-  r-done c = c.before.before.before.before.before.before.before.before
+  r-done c = c.before.before.before.before.before.before
 
   abbrev r-refused : mul-row-lts.In-Refused (mul-row-claims t) (mul-row-at t) mul-row.Post mul-row-Inv-loop mul-row-μ-loop → R-Term
-  r-refused c = c.before.before.before.before.before.before.before.before
+  r-refused c = c.before.before.before.before.before.before
 
   -- the book at the start, in a turn, and after a term
   abbrev R-W₀ : R-Start → Book
@@ -426,7 +426,7 @@ pub +div_mul_expr_mul_mul_row_term_mul_spec : {M : Type 1} → statement M
     (λ c. search rules)
     (λ c. search rules)
     (λ c κs.
-    let m = c.before.before.before.before.before.before.before.before.before.before.before.before in
+    let m = c.before.before.before.before.before.before.before.before.before.before in
     let d = d-beside t m in
     let pre = (d-start t d).requires.1 in
     let a = d-made t m _ c.in-Done.is in
@@ -449,7 +449,7 @@ pub +div_mul_expr_mul_mul_row_term_mul_spec : {M : Type 1} → statement M
     (λ c. search rules)
     (λ c. search rules)
     (λ c.
-    let m = c.before.before.before.before.before.before in
+    let m = c.before.before.before.before in
     let st = d-start t (d-beside t m) in (
       kept_refl (D-W t st) _ _,
       λ u v s lu lv ls.

@@ -49,10 +49,10 @@ abbrev read : tie.After-power_row Inv μ → tie.After-load-x Inv μ
 read c = c.before.before.before.before
 
 abbrev row-refused : tie.In-Refused Inv μ → tie.After-power_row Inv μ
-row-refused c = c.before.before.before.before.before.before.before.before
+row-refused c = c.before.before.before.before.before.before
 
 abbrev row_done : tie.In-Done Inv μ → tie.After-power_row Inv μ
-row_done c = c.before.before.before.before.before.before.before.before
+row_done c = c.before.before.before.before.before.before
 
 -- the book at the start, in a turn, and after a row
 abbrev B : tie.Start Inv μ → Book

@@ -47,10 +47,10 @@ abbrev read : tie.After-put_below Inv μ → tie.After-load-y Inv μ
 read c = c.before.before.before.before.before.before.before.before.before
 
 abbrev put_refused : tie.In-Refused Inv μ → tie.After-put_below Inv μ
-put_refused c = c.before.before.before.before.before.before.before.before
+put_refused c = c.before.before.before.before.before.before
 
 abbrev put-done : tie.In-Done Inv μ → tie.After-put_below Inv μ
-put-done c = c.before.before.before.before.before.before.before.before
+put-done c = c.before.before.before.before.before.before
 
 -- the book at the start, in a turn, and after a power was put
 abbrev B : tie.Start Inv μ → Book

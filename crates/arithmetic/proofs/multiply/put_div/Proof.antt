@@ -30,16 +30,16 @@ abbrev B : tie.Start → Book
 B c = book c.args.kinds.now c.args.insides.now c.args.numbers.now
 
 abbrev T : tie.Start → Book
-T c = book c.args.other-kinds.now c.args.other-insides.now c.args.other-numbers.now
+T c = book c.args.other_kinds.now c.args.other_insides.now c.args.other_numbers.now
 
 abbrev T' : tie.After-copy_in → Book
-T' c = let last = c.copy_in.new.1.1.1.1.1 in book last.kinds last.insides last.numbers
+T' c = let last = c.copy_in.new in book last.kinds last.insides last.numbers
 
 abbrev T'' : tie.After-put_block → Book
 T'' c = let last = c.put_block.new in book last.kinds last.insides last.numbers
 
 abbrev B' : tie.After-copy_in-in-Done → Book
-B' c = let last = c.copy_in-in-Done.new.1.1.1.1.1 in book last.kinds last.insides last.numbers
+B' c = let last = c.copy_in-in-Done.new in book last.kinds last.insides last.numbers
 
 -- the sum lies in the other book
 copied : (c : tie.After-copy_in) (s : Sum) → (let a = (start c).args in Lies (B (start c)) a.p (a.p + a.n) 4 s → Lies (T' c) 192 (192 + a.n) 4 s)
@@ -55,7 +55,7 @@ told : (c : tie.After-put_block) (w s : Sum) → (let st = start (copy_of c) in 
 told c w s lw ls = let d = copy_of c in c.put_block.ensures.1 s w (copied d s ls) (inside d w lw)
 
 abbrev put_of : tie.In-Done → tie.After-put_block
-put_of c = c.before.before.before.before.before.before.before.before
+put_of c = c.before.before.before.before.before.before
 
 -- a sum was made, of the sums that the contract asks for
 made : (c : tie.In-Done) → (let put = put_of c in let st = start (copy_of put) in
@@ -114,6 +114,6 @@ put_div_spec =
     (λ c. search rules)
     (λ c. search rules)
     (λ c.
-    let put = c.before.before.before.before.before.before.before.before in
+    let put = c.before.before.before.before.before.before in
     let st = start (copy_of put) in
     (kept_refl (B st) _ _, λ w s lw ls. agree-refused (B st) st.args.p _ _ (agreed-refused (T'' put) 192 _ put.put_block.result _ (told put w s lw ls) c.in-Refused.is))))

@@ -7,7 +7,7 @@ use mathlib.Core.Path.{◌≡◌, ap, ◌∙◌}
 use lib.ListN.{length}
 use lib.Seq.{sets, length-sets}
 use Rattle.limits.specs.Limits.{sum_levels}
-use Rattle.cells.specs.Contract.Book.{Book, book, lent}
+use Rattle.cells.specs.Contract.Book.{Book, book}
 use Rattle.sums.proofs.entry.Codes.{Bits}
 use Rattle.sums.proofs.bytes.Laws.{fives, cell_bytes, put-none, put-more, put_all, bits_none, bits-more}
 use Rattle.sums.proofs.bytes.put_sum.Statement.{statement}
@@ -22,7 +22,7 @@ abbrev decreases-loop : tie.decreases-loop-j
 decreases-loop kinds insides numbers i n out₀ j₀ out j = n - j
 
 abbrev B : tie.Start invariant-loop decreases-loop → Book
-B s = lent s.args.kinds s.args.insides s.args.numbers
+B s = book s.args.kinds.now s.args.insides.now s.args.numbers.now
 
 loop-holds : tie.Need-loop-j-init invariant-loop decreases-loop
 loop-holds c =

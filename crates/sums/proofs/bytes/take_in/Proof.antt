@@ -43,29 +43,29 @@ module _ (c : tie.After-read_cells) where
   n = length list / entry_bytes
 
   abbrev b : Book
-  b = book c.read-cells.new.0 c.read-cells.new.1.0 c.read-cells.new.1.1.0
+  b = book c.read_cells.new.kinds c.read_cells.new.insides c.read_cells.new.numbers
 
   some : 1 ≤ n
-  some = some_left.if2.left
+  some = some_left.if-n-lt1.false
 
   few : n ≤ sum_entries
-  few = few-left.if3.left
+  few = few-left.if-n-gt-SUM_ENTRIES.false
 
   long : length list ≡ entry_bytes * n
-  long = omega (arith, whole-left.if1.left)
+  long = omega (arith, whole-left.if-list-ne0.false)
 
   room : Room b n
-  room = omega (arith, c.read-cells.auto, s.pre, few)
+  room = omega (arith, c.read_cells.auto, s.requires, few)
 
   bytes : Bytes list
-  bytes i = (known.shared-slice-known.given i).fits
+  bytes i = (known.shared_slice_known-1.given i).fits
 
-  module _ (done : c.read-cells.result ≡ true) (t : Taken) (a : Answered b n t) where
+  module _ (done : c.read_cells.result ≡ true) (t : Taken) (a : Answered b n t) where
     weighed : Weighed list t
-    weighed = weigh list n b bytes long some few room (c.read-cells.ensures.tests.0 done) (c.read-cells.ensures.cells done) t a
+    weighed = weigh list n b bytes long some few room (c.read_cells.ensures.tests.0 done) (c.read_cells.ensures.cells done) t a
 
     lies : (m : ℕ) → t ≡ taken.Sum m → Laid list b m
-    lies = laid list n b bytes long some few room (c.read-cells.ensures.tests.0 done) (c.read-cells.ensures.cells done) t a
+    lies = laid list n b bytes long some few room (c.read_cells.ensures.tests.0 done) (c.read_cells.ensures.cells done) t a
 
 read-cells-requires : tie.Need-read_cells-requires
 read-cells-requires c κs =

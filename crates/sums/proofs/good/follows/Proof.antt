@@ -2,7 +2,7 @@
 use native.Mathlib.Omega.{arith}
 use borrow.Author.Rules.{rules}
 use mathlib.Core.Path.{refl}
-use Rattle.cells.specs.Contract.Book.{Book, lent}
+use Rattle.cells.specs.Contract.Book.{Book, book}
 use Rattle.sums.specs.Contract.Fine.{Term}
 use Rattle.sums.proofs.good.Rising.{term-held, term-room, compared}
 use Rattle.sums.proofs.good.follows.Statement.{statement}
@@ -12,7 +12,7 @@ abbrev start : tie.Else-k-last → tie.Start
 start c = c.before.before.before
 
 abbrev B : tie.Start → Book
-B s = lent s.args.kinds s.args.insides s.args.numbers
+B s = book s.args.kinds.now s.args.insides.now s.args.numbers.now
 
 -- there is a term before it
 earlier : (c : tie.Else-k-last) → Term (B (start c)) (start c).args.last (start c).args.left

@@ -1,7 +1,7 @@
 -- `sums::good::good_cell` meets its contract. Assumes nothing.
 use native.Mathlib.Omega.{arith}
 use borrow.Author.Rules.{rules}
-use Rattle.cells.specs.Contract.Book.{lent}
+use Rattle.cells.specs.Contract.Book.{book}
 use Rattle.sums.proofs.good.Cells.{fine-tests}
 use Rattle.sums.proofs.good.good_cell.Statement.{statement}
 use Rattle.sums.proofs.good.good_cell.Tie as tie
@@ -19,7 +19,7 @@ returns c =
     let first = second in
     let start = first in
     let a = start.args in
-    fine-tests (lent a.kinds a.insides a.numbers) a.k a.end start.requires.0 c.good_head.ensures.1 _ _ _ _
+    fine-tests (book a.kinds.now a.insides.now a.numbers.now) a.k a.end start.requires.0 c.good_head.ensures.1 _ _ _ _
     first.finite_bits.ensures
     second.finite_bits-2.ensures
     third.finite_bits-3.ensures

@@ -2,7 +2,6 @@
 use Prim.Native.Nat.{◌+◌}
 use native.Mathlib.Omega.{arith}
 use borrow.Author.Rules.{rules}
-use borrow.Author.Tests.{not-true, not-false}
 use mathlib.Core.Path.{◌≡◌, refl, sym, ◌∙◌}
 use mathlib.Core.Bool.{true}
 use lib.Ieee.Scale.{finite}
@@ -37,7 +36,7 @@ start c = c.before.before.before.before
 
 -- past its test, the number is finite
 number : (c : tie.Else-not-is_finite) → finite (start c).args.num ≡ true
-number c = sym c.is_finite.ensures ∙ not-false c.is_finite.result c.if-not-is_finite.false
+number c = sym c.is_finite.ensures ∙ c.if-not-is_finite.false
 
 -- what is known once the place is found
 putting : (c : tie.After-find_power) (f : Found) → c.find_power.result ≡ f →
@@ -52,7 +51,7 @@ not_finite : (c : tie.Then-not-is_finite) (s : Sum) → (let st = c.before.befor
 not_finite c s =
     let test = c in
     let st = test.before.before.before.before in
-    let not-number = sym test.is_finite.ensures ∙ not-true test.is_finite.result c.if-not-is_finite.true in
+    let not-number = sym test.is_finite.ensures ∙ c.if-not-is_finite.true in
     answer-refused st.args.how (power st) (B st) st.args.p s none PowerNotFinite (formed-number st.args.how (power st) none s not-number)
 
 returns : tie.Need-returns-then-not-is_finite
@@ -66,14 +65,14 @@ find-power-requires c κs =
 put-same-requires : tie.Need-put_same-requires
 put-same-requires c κs =
     let place = c in
-    let found = place.before.before.before.before.before.before in
+    let found = place.before.before.before.before in
     let held = (start (tested found)).requires.0.2 in
     (held.0, none, putting found _ place.in-Same.is held.0 held.1)
 
 put-new-requires : tie.Need-put_new-requires
 put-new-requires c κs =
     let place = c in
-    let found = place.before.before.before.before.before.before in
+    let found = place.before.before.before.before in
     let held = (start (tested found)).requires.0.2 in
     ((held.0, none, putting found _ place.in-Before.is held.0 held.1), under (omega arith))
 
@@ -81,7 +80,7 @@ returns-2 : tie.Need-returns-in-Same
 returns-2 c =
     let put = c in
     let place = put in
-    let found = place.before.before.before.before.before.before.before.before.before.before.before.before in
+    let found = place.before.before.before.before.before.before.before.before.before.before in
     let held = (start (tested found)).requires.0.2 in
     let answer = put.put_same.ensures in
     let P = putting found _ place.in-Same.is in
@@ -91,7 +90,7 @@ returns-3 : tie.Need-returns-in-Before
 returns-3 c =
     let put = c in
     let place = put in
-    let found = place.before.before.before.before.before.before.before.before.before.before.before.before in
+    let found = place.before.before.before.before.before.before.before.before.before.before in
     let held = (start (tested found)).requires.0.2 in
     let answer = put.put_new.ensures in
     let P = putting found _ place.in-Before.is in

@@ -1,7 +1,6 @@
 -- `sums::map::put_block` meets its contract: the number is tested, the term's place is found, and there the term is put. Assumes nothing.
 use Prim.Native.Nat.{◌+◌}
 use borrow.Author.Rules.{rules}
-use borrow.Author.Tests.{not-true, not-false}
 use mathlib.Core.Path.{◌≡◌, sym, ap, ◌∙◌}
 use Rattle.cells.specs.Contract.Book.{Book, book}
 use Rattle.limits.specs.Limits.{sum_levels}
@@ -40,7 +39,7 @@ putting c f e s t ls lt =
     let test = tested c in
     record {
       head = pre.0.0;
-      number = sym test.is_finite.ensures ∙ not-false test.is_finite.result test.if-not-is_finite.left;
+      number = sym test.is_finite.ensures ∙ test.if-not-is_finite.false;
       inside = lt;
       few = pre.1.0;
       room = pre.1.1;
@@ -59,7 +58,7 @@ not_finite : (c : tie.After-not_finite-why) (s t : Sum)
 not_finite c s t =
     let st = refusing c in
     let test = c in
-    let not-number = sym test.is_finite.ensures ∙ not-true test.is_finite.result test.if-not-is_finite.true in
+    let not-number = sym test.is_finite.ensures ∙ test.if-not-is_finite.true in
     answer-refused st.args.how st.args.x (B st) st.args.p s t c.not_finite-why.result
     (formed-number st.args.how st.args.x t s not-number ∙ ap refused (sym c.not_finite-why.ensures))
 
@@ -71,14 +70,14 @@ returns c =
 put-same-requires : tie.Need-put_same-requires
 put-same-requires c κs =
     let place = c in
-    let found = place.before.before.before.before.before.before in
+    let found = place.before.before.before.before in
     let pre = (start found).requires in
     (pre.1.2.0, pre.0.1.0, held found _ place.in-Same.is)
 
 put-new-requires : tie.Need-put_new-requires
 put-new-requires c κs =
     let place = c in
-    let found = place.before.before.before.before.before.before in
+    let found = place.before.before.before.before in
     let pre = (start found).requires in
     ((pre.1.2.0, pre.0.1.0, held found _ place.in-Before.is), pre.0.2)
 
@@ -86,7 +85,7 @@ returns-2 : tie.Need-returns-in-Same
 returns-2 c =
     let put = c in
     let place = put in
-    let found = place.before.before.before.before.before.before.before.before.before.before.before.before in
+    let found = place.before.before.before.before.before.before.before.before.before.before in
     let answer = put.put_same.ensures in
     ((answer _ _ (held found _ place.in-Same.is)).0, λ s t ls lt. (answer s t (putting found _ place.in-Same.is s t ls lt)).1)
 
@@ -94,7 +93,7 @@ returns-3 : tie.Need-returns-in-Before
 returns-3 c =
     let put = c in
     let place = put in
-    let found = place.before.before.before.before.before.before.before.before.before.before.before.before in
+    let found = place.before.before.before.before.before.before.before.before.before.before in
     let answer = put.put_new.ensures in
     ((answer _ _ (held found _ place.in-Before.is)).0, λ s t ls lt. (answer s t (putting found _ place.in-Before.is s t ls lt)).1)
 

@@ -1,6 +1,5 @@
 -- `sums::map::put_new` meets its contract: the coefficient starts from +0, is tested, and the term goes in where there is room. Assumes nothing.
 use borrow.Author.Rules.{rules}
-use borrow.Author.Tests.{not-true, not-false}
 use native.Mathlib.Omega.{arith}
 use mathlib.Core.Path.{◌≡◌, sym, ◌∙◌}
 use mathlib.Core.Bool.{true}
@@ -26,14 +25,14 @@ fitting c = record { num = search rules; re = search rules; im = search rules }
 
 -- past its test, the coefficient is finite
 finite : (c : tie.Else-not-is_finite) → all_finite (merged c).merge-c.result ≡ true
-finite c = sym c.is_finite.ensures ∙ not-false c.is_finite.result c.if-not-is_finite.false
+finite c = sym c.is_finite.ensures ∙ c.if-not-is_finite.false
 
 -- the coefficient is not finite
 returns : tie.Need-returns-then-not-is_finite
 returns c s t P =
     let test = c in
     let how = (start test.before.before).args.how in
-    answer-not how P (new-coef how P test.merge-c.ensures) (sym test.is_finite.ensures ∙ not-true test.is_finite.result c.if-not-is_finite.true)
+    answer-not how P (new-coef how P test.merge-c.ensures) (sym test.is_finite.ensures ∙ c.if-not-is_finite.true)
 
 nests-within-requires : tie.Need-nests_within-requires
 nests-within-requires c κs = let pre = (start (merged c.before)).requires.0 in (pre.1, lies-nests pre.2.inside)
@@ -44,7 +43,7 @@ returns-2 c s t P =
     let nested = c.before in
     let is_finite = tested nested in
     let how = (start (merged is_finite)).args.how in
-    let deep = told-levels P nested.nests_within.ensures (not-true nested.nests_within.result c.if-not-nests_within.true) in
+    let deep = told-levels P nested.nests_within.ensures c.if-not-nests_within.true in
     answer-deep how P (new-coef how P (merged is_finite).merge-c.ensures) (finite is_finite) deep
 
 -- there would be more than sum_entries entries
@@ -54,7 +53,7 @@ returns-3 c s t P =
     let nested = shallow.before.before.before in
     let is_finite = tested nested in
     let how = (start (merged is_finite)).args.how in
-    let few-levels = told-levels P nested.nests_within.ensures (not-false nested.nests_within.result shallow.if-not-nests_within.false) in
+    let few-levels = told-levels P nested.nests_within.ensures shallow.if-not-nests_within.false in
     new-full how P (merged is_finite).merge-c.ensures (finite is_finite) few-levels (omega (arith, c.if-m-gt-SUM_ENTRIES.true))
 
 insert-requires : tie.Need-insert-requires
@@ -75,7 +74,7 @@ returns-4 c s t P =
     let nested = shallow.before.before.before.before.before.before.before.before.before.before.before.before in
     let is_finite = tested nested in
     let st = start (merged is_finite) in
-    let few-levels = told-levels P nested.nests_within.ensures (not-false nested.nests_within.result shallow.if-not-nests_within.false) in
+    let few-levels = told-levels P nested.nests_within.ensures shallow.if-not-nests_within.false in
     new-done st.args.how P (fitting st) (merged is_finite).merge-c.ensures (finite is_finite) few-levels roomy.if-m-gt-SUM_ENTRIES.false inserted.insert.ensures
 
 pub put_new_spec : {M : Type 1} → statement M

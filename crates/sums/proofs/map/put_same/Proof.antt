@@ -1,6 +1,5 @@
 -- `sums::map::put_same` meets its contract: at the key's place the coefficient is merged, tested, and written. Assumes nothing.
 use borrow.Author.Rules.{rules}
-use borrow.Author.Tests.{not-true, not-false}
 use mathlib.Core.Path.{◌≡◌, sym, ◌∙◌}
 use mathlib.Core.Bool.{true}
 use Rattle.numbers.specs.Complex.Arith.{all_finite}
@@ -25,7 +24,7 @@ fitting c = record { num = search rules; re = search rules; im = search rules }
 
 -- past its test, the coefficient that the key then has is finite
 finite : (c : tie.Else-not-is_finite) → all_finite c.merge-v.result ≡ true
-finite c = sym c.is_finite.ensures ∙ not-false c.is_finite.result c.if-not-is_finite.false
+finite c = sym c.is_finite.ensures ∙ c.if-not-is_finite.false
 
 load-requires : tie.Need-load-y-requires
 load-requires c κs = let st = c in same_read st.args.how st.requires.2
@@ -37,7 +36,7 @@ returns c s t P =
     let merged = test in
     let how = (start merged.before.before.before.before.before).args.how in
     let coef = same-coef how P merged.load-y.ensures merged.merge-v.ensures in
-    answer-not how P coef (sym test.is_finite.ensures ∙ not-true test.is_finite.result c.if-not-is_finite.true)
+    answer-not how P coef (sym test.is_finite.ensures ∙ c.if-not-is_finite.true)
 
 nests-within-requires : tie.Need-nests_within-requires
 nests-within-requires c κs = let pre = (start (loaded c.before)).requires in (pre.1, lies-nests pre.2.inside)
@@ -49,7 +48,7 @@ returns-2 c s t P =
     let is_finite = tested nested in
     let how = (start (loaded is_finite)).args.how in
     let coef = same-coef how P (loaded is_finite).load-y.ensures is_finite.merge-v.ensures in
-    let deep = told-levels P nested.nests_within.ensures (not-true nested.nests_within.result c.if-not-nests_within.true) in
+    let deep = told-levels P nested.nests_within.ensures c.if-not-nests_within.true in
     answer-deep how P coef (finite is_finite) deep
 
 store-requires : tie.Need-store-requires
@@ -66,7 +65,7 @@ returns-3 c s t P =
     let nested = shallow.before.before.before.before.before.before.before.before.before.before in
     let is_finite = tested nested in
     let st = start (loaded is_finite) in
-    let few-levels = told-levels P nested.nests_within.ensures (not-false nested.nests_within.result shallow.if-not-nests_within.false) in
+    let few-levels = told-levels P nested.nests_within.ensures shallow.if-not-nests_within.false in
     same-done st.args.how P (fitting st) (loaded is_finite).load-y.ensures is_finite.merge-v.ensures
     (finite is_finite) few-levels stored.store.ensures
 

@@ -102,7 +102,7 @@ module _ (t : ℕ) where
   from-lengths c = from-known c.before.before.before
 
   abbrev from-loop : InLoop → Start
-  from-loop c = from-lengths c.before.before.before.before
+  from-loop c = from-lengths c.before.before.before
 
   abbrev B : Start → Book
   B s = book s.args.kinds.now s.args.insides.now s.args.numbers.now
@@ -183,12 +183,12 @@ pub +cmp_sum_cmp_term_spec : {M : Type 1} → statement M
     (λ c κs. (from-known t c.before).requires.1.1.1.room.insides)
     (λ c κs. tt)
     (λ c. search rules)
-    (λ c s u l k. rw (lengths t c.before.before _ c.in-Less.is s u l k))
+    (λ c s u l k. rw (lengths t c.before _ c.in-Less.is s u l k))
     (λ c. search rules)
-    (λ c s u l k. rw (lengths t c.before.before _ c.in-Greater.is s u l k))
+    (λ c s u l k. rw (lengths t c.before _ c.in-Greater.is s u l k))
     (λ c. search rules)
-    (λ c. let st = from-lengths t c.before.before in omega (arith, st.requires.1.0.1.room.insides, st.well_formed.1.0.0))
-    (λ c s u l k. outset l k (lengths t c.before.before _ c.in-Equal.is s u l k))
+    (λ c. let st = from-lengths t c.before in omega (arith, st.requires.1.0.1.room.insides, st.well_formed.1.0.0))
+    (λ c s u l k. outset l k (lengths t c.before _ c.in-Equal.is s u l k))
     -- the next two entries
     (λ c κs.
     let w = left-now t c in
@@ -209,19 +209,19 @@ pub +cmp_sum_cmp_term_spec : {M : Type 1} → statement M
     (λ c κs. tt)
     -- they differ
     (λ c. search rules)
-    (λ c s u a b. sym (compared t c.before.before _ c.in-Less-and_then.is s u a b).order)
+    (λ c s u a b. sym (compared t c.before _ c.in-Less-and_then.is s u a b).order)
     (λ c. search rules)
-    (λ c s u a b. sym (compared t c.before.before _ c.in-Greater-and_then.is s u a b).order)
+    (λ c s u a b. sym (compared t c.before _ c.in-Greater-and_then.is s u a b).order)
     -- or they don't: on to the rests
     (λ c. search rules)
+    (λ c. omega (arith, bound-p t c.before.before.before.before.before.before))
     (λ c. omega (arith, bound-p t c.before.before.before.before.before.before.before))
-    (λ c. omega (arith, bound-p t c.before.before.before.before.before.before.before.before))
-    (λ c. omega (arith, bound-p t c.before.before.before.before.before.before.before.before))
+    (λ c. omega (arith, bound-p t c.before.before.before.before.before.before.before))
+    (λ c. omega (arith, bound-q t c.before.before.before.before.before.before.before))
     (λ c. omega (arith, bound-q t c.before.before.before.before.before.before.before.before))
-    (λ c. omega (arith, bound-q t c.before.before.before.before.before.before.before.before.before))
-    (λ c. omega (arith, bound-q t c.before.before.before.before.before.before.before.before.before))
-    (λ c. let l = c.before.before.before.before.before.before.before.before.before in omega (arith, (first t l).within, l.loop-p-test.true))
-    (λ c s u a b. compared t c.before.before.before.before _ c.in-Equal-and_then.is s u a b)
+    (λ c. omega (arith, bound-q t c.before.before.before.before.before.before.before.before))
+    (λ c. let l = c.before.before.before.before.before.before.before.before in omega (arith, (first t l).within, l.loop-p-test.true))
+    (λ c s u a b. compared t c.before.before.before _ c.in-Equal-and_then.is s u a b)
     (λ c s u a b. sym (walked (c.loop-p.invariant s u a b) c.loop-p-test.false)))
     (λ t.
     cmp-term-lts.spec (cmp-term-claims t) (cmp-term-at t) cmp-term.Post

@@ -3,7 +3,7 @@
 use Prim.Native.Nat.{ℕ, ◌+◌, ◌-◌, ◌*◌, ◌^◌, ◌<◌}
 use native.Mathlib.Omega.{arith}
 use borrow.Author.Rules.{rules}
-use borrow.Author.Tests.{ltb-true, not-true, not-false}
+use borrow.Author.Tests.{ltb-true}
 use borrow.Fn.Kinds.{In}
 use borrow.Fn.PlainCycle.{Measures, is, falls, and}
 use mathlib.Core.Path.{refl, sym, ap, ◌∙◌}
@@ -138,7 +138,7 @@ pub +eq_sum_eq_term_spec : {M : Type 1} → statement M
     let w = turn t c.before.before s u l k in
     let term = c.eq_term in
     sym (w.same ∙ ap (λ (o : Bool). o && same_sum w.first.rest w.other.rest)
-    (sym (term .ensures w.first.inner w.other.inner w.first.lies-inner w.other.lies-inner) ∙ not-true (term .result) c.if-not-eq_term.true)))
+    (sym (term.ensures w.first.inner w.other.inner w.first.lies-inner w.other.lies-inner) ∙ c.if-not-eq_term.true)))
     (λ c. omega (arith, fits-p t c.before.before))
     (λ c. search rules)
     (λ c. omega (arith, fits-p t c.before.before.before))
@@ -155,14 +155,14 @@ pub +eq_sum_eq_term_spec : {M : Type 1} → statement M
       lies-s = w.first.lies-rest;
       lies-t = w.other.lies-rest;
       same = w.same ∙ ap (λ (o : Bool). o && same_sum w.first.rest w.other.rest)
-          (sym (term .ensures w.first.inner w.other.inner w.first.lies-inner w.other.lies-inner) ∙ not-false (term .result) c.if-not-eq_term.false);
+          (sym (term.ensures w.first.inner w.other.inner w.first.lies-inner w.other.lies-inner) ∙ c.if-not-eq_term.false);
     })
     (λ c s u l k. pair_end _ _ _ _ _ _ _ s u (c.loop-p.invariant s u l k) c.loop-p-test.false))
     λ t. eq-term-lts.spec (eq-term-claims t) (eq-term-at t) eq-term.Post
     (λ c. search rules)
     (λ c. search rules)
     (λ c κs. tt)
-    (λ c s u l k. ap (λ (o : Bool). o && same_sum s u) (sym (not-true c.same_head.result c.if-not-same_head.true) ∙ c.same_head.ensures))
+    (λ c s u l k. ap (λ (o : Bool). o && same_sum s u) (sym c.if-not-same_head.true ∙ c.same_head.ensures))
     (λ c κs. let st = c in (omega (arith, st.requires.0), st.requires.1))
     (λ c s u l k.
-    c.eq_sum.ensures s u l k ∙ ap (λ (o : Bool). o && same_sum s u) (sym (not-false c.same_head.result c.if-not-same_head.false) ∙ c.same_head.ensures))
+    c.eq_sum.ensures s u l k ∙ ap (λ (o : Bool). o && same_sum s u) (sym c.if-not-same_head.false ∙ c.same_head.ensures))

@@ -59,7 +59,7 @@ returns c s x l power is =
 returns-2 : tie.Need-returns-in-Equal invariant-loop decreases-loop
 returns-2 c s x l power is =
     let compared = c in
-    let turn = compared.before.before.before.before in
+    let turn = compared.before.before.before in
     let now = turn.loop-k.invariant.2 s l in
     down-same now l.laid l.good x power is turn.loop-k-test.true (start turn).requires.0.0 (plain turn).num compared.cmp.ensures c.in-Equal.is
 

@@ -1,6 +1,5 @@
 -- Assumes nothing.
 use borrow.Author.Rules.{rules}
-use borrow.Author.Tests.{not-true, not-false}
 use mathlib.Core.Path.{◌∙◌, sym, subst}
 use lib.Dec.{T}
 use Rattle.writing.proofs.draft.Growing.{number-done, number-refused}
@@ -18,5 +17,4 @@ say_number_spec =
     (λ c. search rules)
     (λ c.
     let s = c in
-    number-done s.args.complex s.args.c (sym c.can_write.ensures ∙ not-false _
-    c.if-not-can_write.false) c.number_record.ensures c.say-q.ensures))
+    number-done s.args.complex s.args.c (sym c.can_write.ensures ∙ c.if-not-can_write.false) c.number_record.ensures c.say-q.ensures))

@@ -221,7 +221,7 @@ module _ (t : ℕ) where
   -- an entry is refused
   sum-stop : write-sum-lts.Need-returns-in-Refused (write-sum-claims t) (write-sum-at t) write-sum.Post Inv μ
   sum-stop c s l =
-      let turned = c.before.before.before.before.before in
+      let turned = c.before.before.before in
       let read = sum-load turned in
       let at = sum-loop read in
       left-stop (sum-start at).args.m (at.loop-q.invariant s l) read.load-x.result read.load-x.ensures read.loop-q-test.true
@@ -251,19 +251,19 @@ module _ (t : ℕ) where
   apart-room c = omega (arith, c.requires.1.1.after)
 
   abbrev Apart-done : Type 0
-  Apart-done = write-apart-lts.In-Done-2 (write-apart-claims t) (write-apart-at t) write-apart.Post
+  Apart-done = write-apart-lts.In-Done (write-apart-claims t) (write-apart-at t) write-apart.Post
 
   -- what was written lies where the draft says
   apart-lies : (c : Apart-done) → (ns : Nodes) × Lying c.write_sum.new.b c.in-Done.f ns
   apart-lies c =
-      let written = c.before.before.before.before in
+      let written = c.before.before.before in
       let st = apart-start written in
       let h = st.requires.1.0 in
       front-lies st.args.n st.args.complex h.0 (omega (arith, h.1.ends)) (apart-room st) (written.write_sum.ensures h.0 h.1) c.in-Done.f c.in-Done.is
 
   apart-ends : (c : Apart-done) → c.in-Done.f.end < 1024
   apart-ends c =
-      let written = c.before.before.before.before in
+      let written = c.before.before.before in
       let st = apart-start written in
       let h = st.requires.1.0 in
       let few = st.requires.1.1.few in
@@ -272,14 +272,14 @@ module _ (t : ℕ) where
 
   apart-refused : write-apart-lts.Need-returns-in-Refused (write-apart-claims t) (write-apart-at t) write-apart.Post
   apart-refused c s l =
-      let written = c.before.before.before.before.before in
+      let written = c.before.before.before in
       let st = apart-start written in
       front-stop st.args.n st.args.complex s (omega (arith, l.ends)) (apart-room st) (written.write_sum.ensures s l) c.in-Refused.q c.in-Refused.is
 
   apart-moved : write-apart-lts.Need-returns-in-Done (write-apart-claims t) (write-apart-at t) write-apart.Post
   apart-moved c s l =
-      let done = c.before.before.before.before.before.before.before in
-      let written = done.before.before.before.before in
+      let done = c.before.before.before.before.before.before in
+      let written = done.before.before.before in
       let st = apart-start written in
       let f = done.in-Done.f in
       let here = (apart-lies done).1.ends in
@@ -306,14 +306,14 @@ module _ (t : ℕ) where
 
   argument-refused : write-argument-lts.Need-returns-in-Refused (write-argument-claims t) (write-argument-at t) write-argument.Post
   argument-refused c s l =
-      let made = c.before.before.before.before.before in
+      let made = c.before.before.before in
       let st = argument-start made in
       argument-stop (write_faithful st.args.complex s false end) (made.write_apart.ensures s l) (argument-long made s l) c.in-Refused.q c.in-Refused.is
 
   argument-joined : write-argument-lts.Need-returns-in-Done (write-argument-claims t) (write-argument-at t) write-argument.Post
   argument-joined c s l =
       let went = c in
-      let made = went.before.before.before.before.before.before.before in
+      let made = went.before.before.before.before.before in
       let st = argument-start made in
       argument-done (write_faithful st.args.complex s false end) (made.write_apart.ensures s l) (argument-long made s l) went.in-Done.f
       (post_of (24 * st.args.d.end) (length st.args.b.now - 24 * st.args.d.end) st.args.b.now) went.in-Done.is refl
@@ -337,7 +337,7 @@ module _ (t : ℕ) where
   -- the argument is refused
   term-refused : write-term-lts.Need-returns-in-Refused (write-term-claims t) (write-term-at t) write-term.Post
   term-refused c s l =
-      let argument = c.before.before.before.before.before in
+      let argument = c.before.before.before in
       let st = term-start argument in
       let n = st.args.x.inside in
       term-stop st.args.x st.args.complex (apart st.args.complex s) (10 * st.args.x.inside) (term-else argument).if-x-eq-X.false
@@ -347,7 +347,7 @@ module _ (t : ℕ) where
   term-done : write-term-lts.Need-returns-in-Done (write-term-claims t) (write-term-at t) write-term.Post
   term-done c s l =
       let went = c in
-      let argument = went.before.before.before.before.before.before.before.before.before.before.before in
+      let argument = went.before.before.before.before.before.before.before.before.before in
       let st = term-start argument in
       let n = st.args.x.inside in
       term-function st.args.x st.args.complex (apart st.args.complex s) (10 * st.args.x.inside) (term-else argument).if-x-eq-X.false
@@ -374,16 +374,16 @@ module _ (t : ℕ) where
   turn-else c = c.before.before.before
 
   abbrev turn-start : Turn-kept → Turn-start
-  turn-start c = (turn-else c).before.before.before.before.before
+  turn-start c = (turn-else c).before.before.before.before.before.before
 
   -- the term is refused
   turn-refused : write-turn-lts.Need-returns-in-Refused (write-turn-claims t) (write-turn-at t) write-turn.Post
   turn-refused c s l =
-      let term = c.before.before.before.before.before in
+      let term = c.before.before.before in
       let kept = turn-kept term in
       let test = turn-else kept in
       let st = turn-start kept in
-      turn-stop st.args.x st.args.complex (apart st.args.complex s) (10 * st.args.x.inside) st.args.identity (sym test.is_zero.ensures ∙ test.if-is_zero.left) refl
+      turn-stop st.args.x st.args.complex (apart st.args.complex s) (10 * st.args.x.inside) st.args.identity (sym test.is_zero.ensures ∙ test.if-is_zero.false) refl
       kept.before-e.ensures
       (term.write_term.ensures s l) c.in-Refused.q c.in-Refused.is
 
@@ -391,11 +391,11 @@ module _ (t : ℕ) where
   turn-done : write-turn-lts.Need-returns-in-Done (write-turn-claims t) (write-turn-at t) write-turn.Post
   turn-done c s l =
       let went = c in
-      let term = went.before.before.before.before.before.before.before.before.before in
+      let term = went.before.before.before.before.before.before.before in
       let kept = turn-kept term in
       let test = turn-else kept in
       let st = turn-start kept in
-      turn_more st.args.x st.args.complex (apart st.args.complex s) (10 * st.args.x.inside) st.args.identity (sym test.is_zero.ensures ∙ test.if-is_zero.left) refl
+      turn_more st.args.x st.args.complex (apart st.args.complex s) (10 * st.args.x.inside) st.args.identity (sym test.is_zero.ensures ∙ test.if-is_zero.false) refl
       kept.before-e.ensures
       (term.write_term.ensures s l) went.in-Done.is c.finish.ensures
 
@@ -410,13 +410,13 @@ pub +write_apart_write_argument_write_sum_write_term_write_turn_spec : {M : Type
     (omega (arith, st.requires.0), (st.requires.1.0, ready-fresh 128 (omega arith) r.after r.most, few)))
     (λ c. search rules)
     (λ c. search rules)
-    (λ c. omega (arith, (apart-lies t c.before.before).1.ends))
-    (λ c. let done = c.before.before.before.before in omega (arith, (apart-lies t done).1.ends, apart-ends t done))
-    (λ c. let done = c.before.before.before.before in omega (arith, apart-ends t done))
-    (λ c κs. let l = (apart-lies t c.before.before.before.before).1 in omega (arith, l.ends, l.room))
-    (λ c. let h = (apart-start t c.before.before.before.before.before).requires.1.0 in (apart-refused t c h.0 h.1).long)
+    (λ c. omega (arith, (apart-lies t c.before).1.ends))
+    (λ c. let done = c.before.before.before in omega (arith, (apart-lies t done).1.ends, apart-ends t done))
+    (λ c. let done = c.before.before.before in omega (arith, apart-ends t done))
+    (λ c κs. let l = (apart-lies t c.before.before.before).1 in omega (arith, l.ends, l.room))
+    (λ c. let h = (apart-start t c.before.before.before).requires.1.0 in (apart-refused t c h.0 h.1).long)
     (apart-refused t)
-    (λ c. let h = (apart-start t c.before.before.before.before.before.before.before.before.before.before.before).requires.1.0 in (apart-moved t c h.0 h.1).long)
+    (λ c. let h = (apart-start t c.before.before.before.before.before.before.before.before.before).requires.1.0 in (apart-moved t c h.0 h.1).long)
     (apart-moved t))
     (λ t. write-argument-lts.spec (write-argument-claims t) (write-argument-at t) write-argument.Post
     (λ c. let r = c.requires.1.1 in omega (arith, r.few))
@@ -427,12 +427,12 @@ pub +write_apart_write_argument_write_sum_write_term_write_turn_spec : {M : Type
     (λ c. search rules)
     (λ c. search rules)
     (λ c.
-    let st = argument-start t c.before.before.before.before.before.before.before in
+    let st = argument-start t c.before.before.before.before.before in
     let h = st.requires.1.0 in
     omega (arith, (argument-joined t c h.0 h.1).grown.ends, st.requires.1.1.few))
-    (λ c. let h = (argument-start t c.before.before.before.before.before).requires.1.0 in (argument-refused t c h.0 h.1).long)
+    (λ c. let h = (argument-start t c.before.before.before).requires.1.0 in (argument-refused t c h.0 h.1).long)
     (argument-refused t)
-    (λ c. let h = (argument-start t c.before.before.before.before.before.before.before).requires.1.0 in (argument-joined t c h.0 h.1).long)
+    (λ c. let h = (argument-start t c.before.before.before.before.before).requires.1.0 in (argument-joined t c h.0 h.1).long)
     (argument-joined t))
     (λ t. write-sum-lts.spec (write-sum-claims t) (write-sum-at t) write-sum.Post Inv μ
     (λ c s l. outset l)
@@ -450,17 +450,17 @@ pub +write_apart_write_argument_write_sum_write_term_write_turn_spec : {M : Type
     (omega (arith, n.first.deep, (sum-start t (sum-loop t read)).requires.0), ((n.inner, n.lies-inner), ready t read, fine t read, omega arith)))
     (λ c. search rules)
     -- it is refused
-    (λ c. let turned = c.before.before.before.before.before in let h = (sum-start t (sum-loop t (sum-load t turned))).requires.1.0 in (sum-stop t c h.0 h.1).long)
+    (λ c. let turned = c.before.before.before in let h = (sum-start t (sum-loop t (sum-load t turned))).requires.1.0 in (sum-stop t c h.0 h.1).long)
     (sum-stop t)
     -- or written
     (λ c. search rules)
-    (λ c κs. fine t c.before.before.before.before.before.before.before)
-    (λ c. omega (arith, bound t c.before.before.before.before.before.before.before.before))
-    (λ c. omega (arith, bound t c.before.before.before.before.before.before.before.before.before))
-    (λ c. omega (arith, bound t c.before.before.before.before.before.before.before.before.before))
-    (λ c. let read = c.before.before.before.before.before.before.before.before.before in omega (arith, (held t read).within, read.loop-q-test.true))
+    (λ c κs. fine t c.before.before.before.before.before)
+    (λ c. omega (arith, bound t c.before.before.before.before.before.before))
+    (λ c. omega (arith, bound t c.before.before.before.before.before.before.before))
+    (λ c. omega (arith, bound t c.before.before.before.before.before.before.before))
+    (λ c. let read = c.before.before.before.before.before.before.before in omega (arith, (held t read).within, read.loop-q-test.true))
     (λ c s l.
-    let turned = c.before.before.before.before.before.before.before in
+    let turned = c.before.before.before.before.before in
     let read = sum-load t turned in
     let at = sum-loop t read in
     left-more (sum-start t at).args.m (at.loop-q.invariant s l) read.load-x.result read.load-x.ensures read.loop-q-test.true
@@ -486,13 +486,13 @@ pub +write_apart_write_argument_write_sum_write_term_write_turn_spec : {M : Type
     (λ c. search rules)
     (λ c κs. search rules)
     (λ c κs.
-    let argument = c.before.before.before.before.before.before.before.before in
+    let argument = c.before.before.before.before.before.before in
     let st = term-start t argument in
     let h = st.requires.1.0 in
     (ready-spoken st.requires.1.1 (argument.write_argument.ensures h.0 h.1) c.in-Done.is 0 3 (omega arith) (omega arith), st.requires.1.2))
-    (λ c. let h = (term-start t c.before.before.before.before.before).requires.1.0 in (term-refused t c h.0 h.1).long)
+    (λ c. let h = (term-start t c.before.before.before).requires.1.0 in (term-refused t c h.0 h.1).long)
     (term-refused t)
-    (λ c. let h = (term-start t c.before.before.before.before.before.before.before.before.before.before.before).requires.1.0 in (term-done t c h.0 h.1).long)
+    (λ c. let h = (term-start t c.before.before.before.before.before.before.before.before.before).requires.1.0 in (term-done t c h.0 h.1).long)
     (term-done t))
     (λ t. write-turn-lts.spec (write-turn-claims t) (write-turn-at t) write-turn.Post
     (λ c κs. search rules)
@@ -517,17 +517,17 @@ pub +write_apart_write_argument_write_sum_write_term_write_turn_spec : {M : Type
     (λ c. search rules)
     (λ c. search rules)
     (λ c κs.
-    let term = c.before.before.before.before.before.before in
+    let term = c.before.before.before.before in
     let kept = turn-kept t term in
     let st = turn-start t kept in
     let h = st.requires.1.0 in
     let n = st.args.x.inside in
     ready-spoken (ready-drawn st.requires.1.1 kept.before-e.ensures (2 * n) (10 * n + 8) (omega arith) (omega arith)) (term.write_term.ensures h.0 h.1)
     c.in-Done.is 0 3 (omega arith) (omega arith))
-    (λ c. let h = (turn-start t (turn-kept t c.before.before.before.before.before)).requires.1.0 in (turn-refused t c h.0 h.1).long)
+    (λ c. let h = (turn-start t (turn-kept t c.before.before.before)).requires.1.0 in (turn-refused t c h.0 h.1).long)
     (turn-refused t)
     (λ c.
     let went = c in
-    let h = (turn-start t (turn-kept t went.before.before.before.before.before.before.before.before.before)).requires.1.0 in
+    let h = (turn-start t (turn-kept t went.before.before.before.before.before.before.before)).requires.1.0 in
     (turn-done t c h.0 h.1).long)
     (turn-done t))
