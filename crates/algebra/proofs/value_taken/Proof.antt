@@ -20,7 +20,7 @@ returns-2 c =
     let after-taken2 = c in
     let took = after-taken2.take_in-taken.ensures in
     let given = after-taken2.in-Sum.is in
-    value_taken took.0 given (took.1 _ given) c.value_of_lem.ensures
+    value_taken took.0 given (took.1 _ given) c.value_of.ensures
 
 pub value_taken_spec : {M : Type 1} → statement M
 value_taken_spec =

@@ -16,7 +16,7 @@ by_several_spec =
     (tie.spec
     (λ c κs. c.requires.left.held)
     (λ c. search rules)
-    (λ c κs. (start c.before.before.before.before.before.before).requires)
+    (λ c κs. (start c.before.before.before.before).requires)
     (λ c. search rules)
     (λ c. search rules)
     (λ c. search rules)
@@ -25,7 +25,7 @@ by_several_spec =
     let put = c in
     let told = put in
     let asked = told in
-    (put.constant_by_lem.ensures.0, λ s t ls lt. rw (constant-is (as_constant s) (sym (asked.as_constant.ensures s ls) ∙ told.in-Is.is)) (put.constant_by_lem.ensures.1 s t ls lt)))
+    (put.constant_by.ensures.0, λ s t ls lt. rw (constant-is (as_constant s) (sym (asked.as_constant.ensures s ls) ∙ told.in-Is.is)) (put.constant_by.ensures.1 s t ls lt)))
     (λ c. search rules)
     (λ c. search rules)
     (λ c. search rules)

@@ -2,7 +2,6 @@
 use Prim.Native.Nat.{◌+◌, ◌-◌, ◌^◌, ◌<◌}
 use native.Mathlib.Omega.{arith}
 use borrow.Author.Rules.{rules}
-use borrow.Author.Tests.{not-true, not-false}
 use mathlib.Core.Path.{refl, sym, ◌∙◌}
 use Rattle.cells.specs.Contract.Book.{Book, book}
 use Rattle.sums.specs.Tree.Sums.{Sum}
@@ -63,7 +62,7 @@ can_div_spec =
     let term = c.can_div_term in
     let x = c in
     able-off (x.loop-q.invariant s v l d) _ x.load-x.ensures x.loop-q-test.true
-    (λ t lt. sym (not-true term.result c.if-not-can_div_term.true) ∙ term.ensures t v lt (lies-deeper d.lies)))
+    (λ t lt. sym c.if-not-can_div_term.true ∙ term.ensures t v lt (lies-deeper d.lies)))
     -- it can
     (λ c. omega (arith, bound c.before.before))
     (λ c. search rules)
@@ -73,5 +72,5 @@ can_div_spec =
     let term = c.can_div_term in
     let x = c in
     able-on (x.loop-q.invariant s v l d) _ x.load-x.ensures x.loop-q-test.true
-    (λ t lt. sym (not-false term.result c.if-not-can_div_term.false) ∙ term.ensures t v lt (lies-deeper d.lies)))
+    (λ t lt. sym c.if-not-can_div_term.false ∙ term.ensures t v lt (lies-deeper d.lies)))
     (λ c s v l d. able-end (c.loop-q.invariant s v l d) c.loop-q-test.false))

@@ -2,7 +2,6 @@
 use Prim.Native.Nat.{ℕ, ◌+◌}
 use native.Mathlib.Omega.{arith}
 use borrow.Author.Rules.{rules}
-use borrow.Author.Tests.{not-true, not-false}
 use mathlib.Core.Path.{subst}
 use Rattle.numbers.specs.Signs.{zero64}
 use Rattle.numbers.specs.Complex.Arith as complex
@@ -55,7 +54,7 @@ constant_by_spec =
     -- neither 0 nor 1
     (λ c.
     let asked = c in
-    (kept_refl _ _ _, λ s t ls lt. rw (← asked.is_zero-zero.ensures, c.if-zero.false, ← asked.is_one-one.ensures, not-true asked.is_one-one.result c.if-not-one.true)))
+    (kept_refl _ _ _, λ s t ls lt. rw (← asked.is_zero-zero.ensures, c.if-zero.false, ← asked.is_one-one.ensures, c.if-not-one.true)))
     -- 1
     (λ c. omega (arith, (start c.before.before).requires.right.few))
     (λ c κs.
@@ -72,6 +71,6 @@ constant_by_spec =
     let st = start asked in (
       kept_result put.alone.ensures.0,
       λ s t ls lt.
-          rw (← asked.is_zero-zero.ensures, test.if-zero.false, ← asked.is_one-one.ensures, not-false asked.is_one-one.result test.if-not-one.false)
+          rw (← asked.is_zero-zero.ensures, test.if-zero.false, ← asked.is_one-one.ensures, test.if-not-one.false)
           (subst (λ (n : ℕ). Agrees put.alone.result (B' put) st.args.w (formed Store (entry Div n zero64 complex.one) t none)) (omega (arith, lt.ends)) (put.alone.ensures.1 t lt)),
     )))

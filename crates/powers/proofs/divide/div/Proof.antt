@@ -2,7 +2,6 @@
 use Prim.Native.Nat.{◌+◌}
 use native.Mathlib.Omega.{arith}
 use borrow.Author.Rules.{rules}
-use borrow.Author.Tests.{not-true, not-false}
 use mathlib.Core.Path.{sym, subst}
 use Rattle.cells.specs.Contract.Book.{Book, book}
 use Rattle.cells.proofs.Laws.{kept_refl}
@@ -79,7 +78,7 @@ div_spec =
       kept_refl _ _ _,
       λ s t ls lt.
           let o = one (single can) t lt in
-          agree-refused _ _ TooComplex _ (one-not o s can.can_div.result (can.can_div.ensures s o.v ls o.divisor) (not-true can.can_div.result c.if-not-can_div.true)),
+          agree-refused _ _ TooComplex _ (one-not o s can.can_div.result (can.can_div.ensures s o.v ls o.divisor) c.if-not-can_div.true),
     ))
     -- by which every term has
     (λ c. let st = start (read (single c.before.before.before.before)) in omega (arith, st.requires.some, st.requires.right.held.1.room.insides, st.well_formed))
@@ -98,6 +97,6 @@ div_spec =
       put.div_each.ensures.0,
       λ s t ls lt.
           let o = one (single can) t lt in
-          let is = one_each o s can.can_div.result (can.can_div.ensures s o.v ls o.divisor) (not-false can.can_div.result test.if-not-can_div.false) in
+          let is = one_each o s can.can_div.result (can.can_div.ensures s o.v ls o.divisor) test.if-not-can_div.false in
           subst (Agrees put.div_each.result (B-each put) w) (sym is) (put.div_each.ensures.1 s o.v ls o.divisor),
     )))

@@ -78,10 +78,10 @@ kept : (c : tie.After-div_term Inv μ) → (let st = from-loop (in-loop (read c)
 kept c = kept_trans (in-loop (read c)).loop-q.invariant.0 c.div_term.ensures.0
 
 abbrev put_refused : tie.In-Refused Inv μ → tie.After-div_term Inv μ
-put_refused c = c.before.before.before.before.before.before.before.before
+put_refused c = c.before.before.before.before.before.before
 
 abbrev put-done : tie.After-struct_known-1 Inv μ → tie.After-div_term Inv μ
-put-done c = c.before.before.before.before.before.before.before.before.before
+put-done c = c.before.before.before.before.before.before.before
 
 again : tie.Need-loop-q-preserved Inv μ
 again c =
@@ -141,7 +141,7 @@ div_each_spec =
           (l.loop-q.invariant.3 s v ls d) x.load-x.ensures (in-loop x).loop-q-test.true (call put v d) c.in-Refused.is,
     ))
     -- or added
-    (λ c. omega (arith, bound (read c.before.before.before.before.before.before.before.before)))
+    (λ c. omega (arith, bound (read c.before.before.before.before.before.before)))
     (λ c. omega (arith, bound (read (put-done c))))
     (λ c. omega (arith, bound (read (put-done c))))
     (λ c. let x = read (put-done c) in omega (arith, (first x).within, (in-loop x).loop-q-test.true))

@@ -67,7 +67,7 @@ over_div_spec =
     (λ c κs. let st = start c.before.before.before.before in (working-operand st.requires.0, room-working st.args.w st.requires.1.room))
     (λ c. search rules)
     (λ c κs.
-    let mul = c.before.before.before.before.before.before.before.before.before.before.before in
+    let mul = c.before.before.before.before.before.before.before.before.before in
     let st = from-product mul in
     let source = st.requires.0.held in
     let work = st.requires.1 in
@@ -82,23 +82,23 @@ over_div_spec =
     (λ c.
     let add = c in
     let told = add in
-    let mul = told.before.before.before.before.before.before.before.before.before.before.before.before.before.before.before.before.before in
+    let mul = told.before.before.before.before.before.before.before.before.before.before.before.before.before.before.before in
     let test = tested mul in (
       kept_trans (kept-working mul.times_x.ensures.0) (kept_result add.add_each-in-Done.ensures.0),
       λ s v ls lv.
           let a = product-of mul told.in-Done.is v lv in
-          rw (← test.is_one.ensures, test.if-is_one.left, a.is) (add.add_each-in-Done.ensures.1 s a.s (stays mul s ls) a.lies),
+          rw (← test.is_one.ensures, test.if-is_one.false, a.is) (add.add_each-in-Done.ensures.1 s a.s (stays mul s ls) a.lies),
     ))
     -- which is refused
     (λ c. search rules)
     (λ c. search rules)
     (λ c. search rules)
     (λ c.
-    let mul = c.before.before.before.before.before.before.before.before in
+    let mul = c.before.before.before.before.before.before in
     let test = tested mul in
     let a = (from-product mul).args in (
       kept-working mul.times_x.ensures.0,
       λ s v ls lv.
           let none = agreed-refused (B' mul) (a.w + 64) _ mul.times_x.result (product (x_to a.x.num) v) (mul.times_x.ensures.1 v lv) c.in-Refused.is in
-          rw (← test.is_one.ensures, test.if-is_one.left, none),
+          rw (← test.is_one.ensures, test.if-is_one.false, none),
     )))

@@ -2,7 +2,6 @@
 use Prim.Native.Nat.{◌+◌, ◌-◌, ◌^◌, ◌<◌, ◌≤◌}
 use native.Mathlib.Omega.{arith}
 use borrow.Author.Rules.{rules}
-use borrow.Author.Tests.{not-true, not-false}
 use mathlib.Core.Path.{◌≡◌, sym, subst, ◌∙◌}
 use Rattle.numbers.specs.Ops.{◌⊕◌}
 use Rattle.numbers.specs.declared.complex.Complex.{Complex}
@@ -70,7 +69,7 @@ abbrev multiplied : tie.After-put_power Inv μ → tie.After-mul-c Inv μ
 multiplied c = c.before.before.before.before.before
 
 abbrev read : tie.After-put_power Inv μ → tie.After-load-y Inv μ
-read c = (multiplied c).before
+read c = (multiplied c).before.before
 
 -- what is left lies clear of where the product grows
 apart : (c : tie.At-loop-q Inv μ) → (let st = from-loop c in Clear c.loop-q.q (st.args.j + st.args.m) st.args.p (st.args.p + 64))
@@ -90,10 +89,10 @@ kept : (c : tie.After-put_power Inv μ) → (let st = from-loop (in-loop (read c
 kept c = kept_trans (in-loop (read c)).loop-q.invariant.0 c.put_power.ensures.0
 
 abbrev put_refused : tie.In-Refused Inv μ → tie.After-put_power Inv μ
-put_refused c = c.before.before.before.before.before.before.before.before
+put_refused c = c.before.before.before.before.before.before
 
 abbrev put-done : tie.After-struct_known-in-loop-q-1 Inv μ → tie.After-put_power Inv μ
-put-done c = c.before.before.before.before.before.before.before.before.before
+put-done c = c.before.before.before.before.before.before.before
 
 -- what is formed is the product
 is-product : (c : tie.At-loop-q Inv μ) (t : Sum) → (let st = from-loop c in
@@ -101,7 +100,7 @@ is-product : (c : tie.At-loop-q Inv μ) (t : Sum) → (let st = from-loop c in
 is-product c t lt =
     let all = c.all_x in
     let st = from-loop c in
-    x-product st.args.power t (sym (all.ensures st.args.numbers.now st.args.power t lt) ∙ not-false all.result c.if-not-all_x.false)
+    x-product st.args.power t (sym (all.ensures st.args.numbers.now st.args.power t lt) ∙ c.if-not-all_x.false)
 
 again : tie.Need-loop-q-preserved Inv μ
 again c =
@@ -131,7 +130,7 @@ times_x_spec =
     let st = all in
     let power = st.args.power in (
       kept_refl _ _ _,
-      λ t lt. rw (product-not (x_to power) t (sym (all.all_x.ensures st.args.numbers.now power t lt) ∙ not-true all.all_x.result c.if-not-all_x.true)),
+      λ t lt. rw (product-not (x_to power) t (sym (all.all_x.ensures st.args.numbers.now power t lt) ∙ c.if-not-all_x.true)),
     ))
     (λ c. let st = from-else c in omega (arith, st.requires.0.held.1.room.insides, st.well_formed))
     (λ c.
@@ -163,7 +162,7 @@ times_x_spec =
           (l.loop-q.invariant.3 t lt) y.load-y.ensures (in-loop y).loop-q-test.true (call put) c.in-Refused.is),
     ))
     -- or added
-    (λ c. omega (arith, bound (read c.before.before.before.before.before.before.before.before)))
+    (λ c. omega (arith, bound (read c.before.before.before.before.before.before)))
     (λ c. omega (arith, bound (read (put-done c))))
     (λ c. omega (arith, bound (read (put-done c))))
     (λ c. let y = read (put-done c) in omega (arith, (first y).within, (in-loop y).loop-q-test.true))

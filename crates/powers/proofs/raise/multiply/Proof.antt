@@ -95,7 +95,7 @@ kept : (c : tie.After-mul invariant-loop decreases-loop) → (let l = looped (pl
 kept c = let q = placed (counted c) in kept_trans (looped q).loop-left.invariant.kept (turn-kept (two q) c.mul.ensures.0)
 
 abbrev made : tie.In-Done invariant-loop decreases-loop → tie.After-mul invariant-loop decreases-loop
-made c = c.before.before.before.before.before.before.before.before
+made c = c.before.before.before.before.before.before
 
 -- the product so far, with its pairs, after a turn
 next : (c : tie.In-Done invariant-loop decreases-loop) (s : Sum) → (let o = counted (made c) in
@@ -161,11 +161,11 @@ multiply_spec =
     (λ c. search rules)
     -- a product is refused
     (λ c κs. search rules)
-    (λ c. (kept c.before.before.before.before.before.before.before.before.before).long.kinds)
-    (λ c. (kept c.before.before.before.before.before.before.before.before.before).long.insides)
-    (λ c. (kept c.before.before.before.before.before.before.before.before.before).long.numbers)
+    (λ c. (kept c.before.before.before.before.before.before.before).long.kinds)
+    (λ c. (kept c.before.before.before.before.before.before.before).long.insides)
+    (λ c. (kept c.before.before.before.before.before.before.before).long.numbers)
     (λ c.
-    let done = c.before.before.before.before.before.before.before.before.before in
+    let done = c.before.before.before.before.before.before.before in
     let q = placed (counted done) in
     let l = looped q in
     let told = c.counted.ensures in (

@@ -46,7 +46,7 @@ told : (c : tie.After-power_by-raised) → (let a = (start (stored c)).args in A
 told c = c.power_by-raised.ensures.1.0 _ (number (stored c))
 
 abbrev raised : tie.In-Done → tie.After-power_by-raised
-raised c = c.before.before.before.before.before.before
+raised c = c.before.before.before.before
 
 made : (c : tie.In-Done) → (let a = (start (stored (raised c))).args in Agreed (T'' (raised c)) 64 c.in-Done.m (power (constant (real a.base)) a.e))
 made c = agreed-done (T'' (raised c)) 64 _ (raised c).power_by-raised.result.formed _ (told (raised c)) c.in-Done.is
@@ -85,12 +85,12 @@ number_power_spec =
     let a = made t in
     let few = a.few in
     let st = start (stored (raised t)) in
-    let last = back.copy_in.new.1.1.1.1.1 in (
+    let last = back.copy_in.new in (
       kept-wider (omega arith) (omega arith) (copied-kept back.copy_in.ensures),
       agree-done (book last.kinds last.insides last.numbers) st.args.p _ _ a.s a.is a.few
           (lies-copied back.copy_in.ensures (room-less {n = st.args.p + 64} (omega arith) st.requires.2) a.lies),
     ))
     (λ c.
-    let up = c.before.before.before.before.before.before in
+    let up = c.before.before.before.before in
     let st = start (stored up) in
     (kept_refl (B st) _ _, agree-refused (B st) st.args.p _ _ (agreed-refused (T'' up) 64 _ up.power_by-raised.result.formed _ (told up) c.in-Refused.is))))

@@ -24,7 +24,7 @@ abbrev euler : tie.After-is_x → tie.After-is_euler
 euler c = c.before
 
 abbrev start : tie.After-is_x → tie.Start
-start c = (euler c).before.before.before.before.before.before.before
+start c = (euler c).before.before.before.before
 
 abbrev B : tie.Start → Book
 B c = book c.args.kinds.now c.args.insides.now c.args.numbers.now
@@ -44,8 +44,8 @@ abbrev tested : tie.After-real_of → tie.Else-is_euler-is_x
 tested c = c.before.before
 
 -- what real number the power is
-real-number : (c : tie.After-real_of) (r : Real) → c.Real-of.result ≡ r → (t : Sum) → Power (start (tested c).before) t → real_of (constant_of (as_constant t)) ≡ r
-real-number c r h t lt = ap real_of (sym (c.as_constant-2.ensures t lt)) ∙ sym c.Real-of.ensures ∙ h
+real-number : (c : tie.After-real_of) (r : Real) → c.real_of.result ≡ r → (t : Sum) → Power (start (tested c).before) t → real_of (constant_of (as_constant t)) ≡ r
+real-number c r h t lt = ap real_of (sym (c.as_constant-2.ensures t lt)) ∙ sym c.real_of.ensures ∙ h
 
 pub pow_spec : {M : Type 1} → statement M
 pow_spec =
@@ -84,7 +84,7 @@ pow_spec =
     -- a real power
     (λ c κs.
     let given = c in
-    let real = given.before.before.before.before.before.before in
+    let real = given.before.before.before.before in
     let st = start (tested real).before in
     let lt = st.requires.1.held in
     (real-finite lt.0 _ lt.1.good (real-number real _ given.in-Is.is lt.0 lt.1), st.requires.0, st.requires.2))
@@ -96,12 +96,12 @@ pow_spec =
     (λ c.
     let made = c in
     let given = made in
-    let real = given.before.before.before.before.before.before.before.before.before.before.before.before in
+    let real = given.before.before.before.before.before.before.before.before.before.before in
     let test = tested real in (
       made.power_by.ensures.0,
       (
-        λ s t ls lt. rw (pow-real s t (asked test.before _ test.if-is_euler-is_x.left s t ls lt) _ (real-number real _ given.in-Is.is t lt)) (made.power_by.ensures.1.0 s ls),
-        λ s t ls lt. rw (pow-pairs-real s t (asked test.before _ test.if-is_euler-is_x.left s t ls lt) _ (real-number real _ given.in-Is.is t lt)) (made.power_by.ensures.1.1 s ls),
+        λ s t ls lt. rw (pow-real s t (asked test.before _ test.if-is_euler-is_x.false s t ls lt) _ (real-number real _ given.in-Is.is t lt)) (made.power_by.ensures.1.0 s ls),
+        λ s t ls lt. rw (pow-pairs-real s t (asked test.before _ test.if-is_euler-is_x.false s t ls lt) _ (real-number real _ given.in-Is.is t lt)) (made.power_by.ensures.1.1 s ls),
       ),
     ))
     -- any other
@@ -110,12 +110,12 @@ pow_spec =
     (λ c. search rules)
     (λ c.
     let none = c in
-    let real = none.before.before.before in
+    let real = none.before.before in
     let test = tested real in
     let told = c.counted-in-Other.ensures in (
       kept_refl (B (start test.before)) _ _,
       (
-        λ s t ls lt. counted-agrees _ _ _ _ told (rw (pow-not s t (asked test.before _ test.if-is_euler-is_x.left s t ls lt) (real-number real _ none.in-Other.is t lt)) refl),
+        λ s t ls lt. counted-agrees _ _ _ _ told (rw (pow-not s t (asked test.before _ test.if-is_euler-is_x.false s t ls lt) (real-number real _ none.in-Other.is t lt)) refl),
         λ s t ls lt. counted-refused told,
       ),
     )))

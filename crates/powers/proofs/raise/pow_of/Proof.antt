@@ -44,8 +44,8 @@ abbrev tested : tie.After-real_of → tie.Else-is_euler-is_x
 tested c = c.before.before
 
 -- what real number the power is
-real-number : (c : tie.After-real_of) (r : Real) → c.Real-of.result ≡ r → (t : Sum) → Power (start (tested c).before) t → real_of (constant_of (as_constant t)) ≡ r
-real-number c r h t lt = ap real_of (sym (c.as_constant.ensures t lt)) ∙ sym c.Real-of.ensures ∙ h
+real-number : (c : tie.After-real_of) (r : Real) → c.real_of.result ≡ r → (t : Sum) → Power (start (tested c).before) t → real_of (constant_of (as_constant t)) ≡ r
+real-number c r h t lt = ap real_of (sym (c.as_constant.ensures t lt)) ∙ sym c.real_of.ensures ∙ h
 
 pub pow_of_spec : {M : Type 1} → statement M
 pow_of_spec =
@@ -76,7 +76,7 @@ pow_of_spec =
     -- a real power
     (λ c κs.
     let given = c in
-    let real = given.before.before.before.before.before.before in
+    let real = given.before.before.before.before in
     let st = start (tested real).before in
     let lt = st.requires.1.held in
     (st.requires.0, real-finite lt.0 _ lt.1.good (real-number real _ given.in-Is.is lt.0 lt.1), st.requires.2))
@@ -87,20 +87,20 @@ pow_of_spec =
     (λ c.
     let made = c in
     let given = made in
-    let real = given.before.before.before.before.before.before.before.before.before.before.before.before in
+    let real = given.before.before.before.before.before.before.before.before.before.before in
     let test = tested real in
     let st = start test.before in (
       made.number_power.ensures.0,
-      λ t lt. rw (pow-real (Base st) t (asked test.before _ test.if-is_euler-is_x.left t lt) _ (real-number real _ given.in-Is.is t lt)) made.number_power.ensures.1,
+      λ t lt. rw (pow-real (Base st) t (asked test.before _ test.if-is_euler-is_x.false t lt) _ (real-number real _ given.in-Is.is t lt)) made.number_power.ensures.1,
     ))
     -- any other
     (λ c. search rules)
     (λ c. search rules)
     (λ c. search rules)
     (λ c.
-    let real = c.before.before in
+    let real = c.before in
     let test = tested real in
     let st = start test.before in (
       kept_refl (B st) _ _,
-      λ t lt. rw (pow-not (Base st) t (asked test.before _ test.if-is_euler-is_x.left t lt) (real-number real _ c.in-Other.is t lt)) refl,
+      λ t lt. rw (pow-not (Base st) t (asked test.before _ test.if-is_euler-is_x.false t lt) (real-number real _ c.in-Other.is t lt)) refl,
     )))

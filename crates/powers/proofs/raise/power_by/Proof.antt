@@ -83,7 +83,7 @@ power_by_spec =
       kept_refl (B (start w)) _ _,
       (
         λ s l. counted-agrees _ _ _ _ told
-            (rw (power-several s (start w).args.e (asked w _ test.if-is_whole-e.left) (sym (asks.can_root.ensures s l) ∙ asks.if-not-can_root.true)) refl),
+            (rw (power-several s (start w).args.e (asked w _ test.if-is_whole-e.false) (sym (asks.can_root.ensures s l) ∙ asks.if-not-can_root.true)) refl),
         λ s l. counted-refused told,
       ),
     ))
@@ -102,7 +102,7 @@ power_by_spec =
       kept_refl (B (start w)) _ _,
       (
         λ s l. counted-agrees _ _ _ _ told
-            (rw (power-math s (start w).args.e (asked w _ test.if-is_whole-e.left) (single rooted s l) (sym (asks.unit_coefs.ensures s l) ∙ asks.if-not-unit_coefs.true)) refl),
+            (rw (power-math s (start w).args.e (asked w _ test.if-is_whole-e.false) (single rooted s l) (sym (asks.unit_coefs.ensures s l) ∙ asks.if-not-unit_coefs.true)) refl),
         λ s l. counted-refused told,
       ),
     ))
@@ -121,7 +121,7 @@ power_by_spec =
     let units = done.before.before.before.before.before.before.before.before.before.before in
     let test = of-root (of-units units.before).before in
     let w = test.before in
-    let other = asked w _ test.if-is_whole-e.left in
+    let other = asked w _ test.if-is_whole-e.false in
     let told = c.counted-2.ensures in (
       kept_result done.root.ensures.0,
       (

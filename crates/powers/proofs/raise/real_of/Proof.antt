@@ -1,6 +1,5 @@
 -- `powers::raise::real_of` meets its contract. Assumes nothing.
 use borrow.Author.Rules.{rules}
-use borrow.Author.Tests.{not-true, not-false}
 use mathlib.Core.Path.{sym, ◌∙◌}
 use Rattle.powers.proofs.raise.Reals.{real-yes, real-no}
 use Rattle.powers.proofs.raise.real_of.Statement.{statement}
@@ -12,7 +11,7 @@ real_of_spec =
     (tie.spec
     (λ c. search rules)
     (λ c κs. search rules)
-    (λ c. real-no _ _ c.in-Is.is (sym c.is_real.ensures ∙ not-true c.is_real.result c.if-not-is_real.true))
+    (λ c. real-no _ _ c.in-Is.is (sym c.is_real.ensures ∙ c.if-not-is_real.true))
     (λ c. search rules)
-    (λ c. real-yes _ _ c.in-Is.is (sym c.is_real.ensures ∙ not-false c.is_real.result c.if-not-is_real.false))
+    (λ c. real-yes _ _ c.in-Is.is (sym c.is_real.ensures ∙ c.if-not-is_real.false))
     (λ c. search rules))

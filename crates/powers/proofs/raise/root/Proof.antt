@@ -26,7 +26,7 @@ copied c s r = let st = start c in rooting-copied c.copy_within.ensures (room-le
 
 -- nothing but the room of a sum is written
 wider : {b b' : Book} (c : tie.After-copy_within) → (let a = (start c).args in Kept b b' a.p (a.p + a.n) → Kept b b' a.p (a.p + 64))
-wider c k = let st = start c in kept-wider (omega arith) (omega (arith, st.pre.1.1.few)) k
+wider c k = let st = start c in kept-wider (omega arith) (omega (arith, st.requires.1.1.few)) k
 
 pub root_spec : {M : Type 1} → statement M
 root_spec =

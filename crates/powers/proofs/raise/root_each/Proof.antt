@@ -2,7 +2,6 @@
 use Prim.Native.Nat.{◌+◌, ◌-◌, ◌<◌, ◌≤◌, ◌^◌}
 use native.Mathlib.Omega.{arith}
 use borrow.Author.Rules.{rules}
-use borrow.Author.Tests.{not-true, not-false}
 use mathlib.Core.Path.{◌≡◌, sym, ◌∙◌}
 use mathlib.Core.Bool.{true}
 use lib.Ieee.Scale.{finite}
@@ -25,7 +24,7 @@ in-loop c = c.before
 
 -- the power was found to be finite
 is_finite : (c : tie.Else-not-is_finite invariant-loop decreases-loop) → finite c.root_entry-x.result.num ≡ true
-is_finite c = sym c.is_finite.ensures ∙ not-false c.is_finite.result c.if-not-is_finite.false
+is_finite c = sym c.is_finite.ensures ∙ c.if-not-is_finite.false
 
 abbrev stored : tie.After-numbers-1 invariant-loop decreases-loop → tie.After-store invariant-loop decreases-loop
 stored c = c.before.before.before.before.before
@@ -79,7 +78,7 @@ root_each_spec =
       halfway-kept st.args.n h.loop-k.invariant.1 h.loop-k.invariant.0,
       λ s r.
           root-stops st.requires.0 r h.loop-k.invariant.1 h.loop-k-test.true y.load.ensures c.root_entry-x.ensures
-          (sym c.is_finite.ensures ∙ not-true c.is_finite.result c.if-not-is_finite.true),
+          (sym c.is_finite.ensures ∙ c.if-not-is_finite.true),
     ))
     -- it is, and the root is written
     (λ c κs.

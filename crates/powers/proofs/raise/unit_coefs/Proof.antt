@@ -2,7 +2,6 @@
 use Prim.Native.Nat.{◌+◌, ◌-◌, ◌<◌, ◌≤◌, ◌^◌}
 use native.Mathlib.Omega.{arith}
 use borrow.Author.Rules.{rules}
-use borrow.Author.Tests.{not-true, not-false}
 use mathlib.Core.Path.{◌≡◌, sym, ◌∙◌}
 use Rattle.cells.specs.Contract.Book.{Book, book}
 use Rattle.sums.specs.Tree.Sums.{Sum}
@@ -49,7 +48,7 @@ unit_coefs_spec =
     (λ c s l.
     let read = c in
     let k = read in
-    sym (units-stop read.load-x.ensures (k.loop-k.invariant.1 s l) read.loop-k-test.true (sym c.is_one.ensures ∙ not-true c.is_one.result c.if-not-is_one.true)))
+    sym (units-stop read.load-x.ensures (k.loop-k.invariant.1 s l) read.loop-k-test.true (sym c.is_one.ensures ∙ c.if-not-is_one.true)))
     (λ c. omega (arith, fits c.before.before.before))
     (λ c. omega (arith, fits c.before.before.before.before))
     (λ c. omega (arith, fits c.before.before.before.before))
@@ -61,6 +60,6 @@ unit_coefs_spec =
           let tested = c in
           let read = tested in
           let k = read in
-          units-more read.load-x.ensures (k.loop-k.invariant.1 s l) read.loop-k-test.true (sym tested.is_one.ensures ∙ not-false tested.is_one.result c.if-not-is_one.false),
+          units-more read.load-x.ensures (k.loop-k.invariant.1 s l) read.loop-k-test.true (sym tested.is_one.ensures ∙ c.if-not-is_one.false),
     ))
     (λ c s l. sym (units-none (c.loop-k.invariant.1 s l) c.loop-k-test.false)))

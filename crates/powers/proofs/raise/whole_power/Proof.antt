@@ -34,7 +34,7 @@ whole_power_spec =
     (λ c κs. search rules)
     (λ c. search rules)
     -- 0
-    (λ c κs. let st = start c.before.before.before.before.before.before.before in room-result st.args.w st.requires.1)
+    (λ c κs. let st = start c.before.before.before.before.before in room-result st.args.w st.requires.1)
     (λ c κs. search rules)
     (λ c. search rules)
     (λ c. search rules)
@@ -43,7 +43,7 @@ whole_power_spec =
     let done = c in
     let test = done in
     let k = test in
-    let is = which k.before.before.before.before.before.before.before.before.before.before.before.before.before.before _ k.in-Is.is in
+    let is = which k.before.before.before.before.before.before.before.before.before.before.before.before _ k.in-Is.is in
     let told = c.counted.ensures in (
       kept_result done.constant_sum.ensures.0,
       (
@@ -55,12 +55,12 @@ whole_power_spec =
     (λ c κs.
     let test = c in
     let k = test in
-    let st = start k.before.before.before.before.before.before.before in
-    let most = ((small-whole st.args.e _).0 (which k.before.before.before.before.before.before.before _ k.in-Is.is)).0 in
+    let st = start k.before.before.before.before.before in
+    let most = ((small-whole st.args.e _).0 (which k.before.before.before.before.before _ k.in-Is.is)).0 in
     (omega (arith, most, test.if-k-eq0.false), st.requires.0, st.requires.1))
     (λ c. search rules)
     -- above 64
-    (λ c κs. let held = (start c.before.before).requires.0.held in ((held.0, shape_of held.1), (held.0, shape_of held.1)))
+    (λ c κs. let held = (start c.before).requires.0.held in ((held.0, shape_of held.1), (held.0, shape_of held.1)))
     (λ c κs. search rules)
     (λ c. search rules)
     (λ c. search rules)
@@ -68,7 +68,7 @@ whole_power_spec =
     let test = c in
     let asked = test in
     let n = asked in
-    let small = n.before.before.before.before.before in
+    let small = n.before.before.before.before in
     let told = c.counted-then-not-can_mul.ensures in (
       kept_refl (B (start small)) _ _,
       (
@@ -86,7 +86,7 @@ whole_power_spec =
     let done = c in
     let test = done in
     let k = test in
-    let is = which k.before.before.before.before.before.before.before.before.before.before.before.before.before _ k.in-Is.is in (
+    let is = which k.before.before.before.before.before.before.before.before.before.before.before _ k.in-Is.is in (
       done.raise.ensures.0,
       (
         λ s ls. rw (is, whole-some s _ test.if-k-eq0.false) (done.raise.ensures.1.0 s ls),
@@ -100,7 +100,7 @@ whole_power_spec =
     let test = c in
     let asked = test in
     let n = asked in
-    let small = n.before.before.before.before.before in
+    let small = n.before.before.before.before in
     let told = c.counted-in-Other.ensures in (
       kept_refl (B (start small)) _ _,
       (
