@@ -27,5 +27,4 @@ settled_spec =
     ))
     (λ c.
     let a = c.args in
-    
     (λ xs. rw c.in-Went.is (sym (settle-went xs a.held a.at (view_state xs a.st) c.in-Went.m ∙ rw (lt-leb _ _ c.if-m-held-le-RUN_VALUES.false))), tt)))
