@@ -22,6 +22,5 @@ run_spec =
       ← c.check.ensures.0,
       c.in-Good.is,
       ← c.is_finite.ensures,
-      not-false
-          c.is_finite.result c.if-not-is_finite.false,
+      c.if-not-is_finite.false,
     ) c.run_nodes.ensures))
