@@ -23,19 +23,19 @@ take_term_spec =
     (λ c. search rules)
     (λ c.
     let told = c in
-    let real = told.before.before.before.before in
+    let real = told.before.before.before in
     let test = real in
     let st = start real in
     takes-other st.args.x st.args.f st.args.e real.is_real.result (sym test.is_zero.ensures ∙ test.if-is_zero.false)
     (sym told.small_whole.ensures ∙ c.in_default.is) real.is_real.ensures st.requires)
     (λ c κs.
     let told = c in
-    let last = (start told.before.before.before.before.before.before.before).requires in
+    let last = (start told.before.before.before.before.before).requires in
     record { low = last.low; formed = last.formed })
     (λ c.
     let power = c in
     let told = power in
-    let real = told.before.before.before.before.before.before.before.before in
+    let real = told.before.before.before.before.before.before in
     let test = real in
     let st = start real in
     takes-power st.args.x st.args.f st.args.e real.is_real.result _ c.add_power.result (sym test.is_zero.ensures ∙ test.if-is_zero.false)
