@@ -54,7 +54,7 @@ told : (c : tie.After-mul) (a : Sum) → (let st = start (put_of c) in Lies (B s
 told c a la = let put = put_of c in c.mul.ensures.1 a (constant imaginary) (lies-clear (kept put) (clear (start put).requires.1.apart) la) (laid put)
 
 abbrev made_of : tie.In-Done → tie.After-mul
-made_of c = c.before.before.before.before.before.before.before.before
+made_of c = c.before.before.before.before.before.before
 
 made : (c : tie.In-Done) (a : Sum) → (let st = start (put_of (made_of c)) in Lies (B st) st.args.j (st.args.j + st.args.m) 4 a
     → Agreed (B'' (made_of c)) (st.args.w + 64) c.in-Done.k (product a (constant imaginary)))
@@ -102,7 +102,7 @@ add_times_i_spec =
     (λ c. search rules)
     (λ c. search rules)
     (λ c.
-    let mul = c.before.before.before.before.before.before.before.before in
+    let mul = c.before.before.before.before.before.before in
     let st = start (put_of mul) in (
       kept-both mul,
       λ b a lb la.

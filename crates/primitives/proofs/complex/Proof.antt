@@ -13,7 +13,7 @@ abbrev first_of : tie.After-as_constant-second → tie.After-as_constant-first
 first_of c = c.before
 
 abbrev start : tie.After-as_constant-second → tie.Start
-start c = (first_of c).before.before.before.before.before.before
+start c = (first_of c).before.before.before
 
 pub complex_spec : {M : Type 1} → statement M
 complex_spec =
@@ -23,7 +23,7 @@ complex_spec =
     (λ c κs. c.requires.1.held)
     (λ c. search rules)
     (λ c. search rules)
-    (λ c κs. (start c.before.before.before.before.before).requires)
+    (λ c κs. (start c.before.before.before.before).requires)
     (λ c. search rules)
     (λ c. search rules)
     (λ c. search rules)
@@ -36,7 +36,7 @@ complex_spec =
     ))
     (λ c. search rules)
     (λ c. search rules)
-    (λ c κs. (start c.before.before.before.before.before.before.before.before).requires)
+    (λ c κs. (start c.before.before.before.before.before).requires)
     (λ c. search rules)
     (λ c. search rules)
     (λ c. search rules)
@@ -44,7 +44,7 @@ complex_spec =
     let add = c in
     let told = add in
     let known = told in
-    let second = known.before.before.before.before.before.before.before.before.before.before.before.before.before.before in (
+    let second = known.before.before.before.before.before.before.before.before.before.before.before in (
       add.add_times_i-in_default-first.ensures.0,
       λ b a lb la.
           let e = constant-is (as_constant a) (sym (second.as_constant-second.ensures a la) ∙ known.in-Is.is) in
@@ -53,7 +53,7 @@ complex_spec =
     ))
     (λ c κs. search rules)
     (λ c κs. search rules)
-    (λ c κs. let st = start c.before.before.before.before.before.before.before.before.before.before.before in room-result st.args.w st.requires.2)
+    (λ c κs. let st = start c.before.before.before.before.before.before.before in room-result st.args.w st.requires.2)
     (λ c. search rules)
     (λ c. search rules)
     (λ c. search rules)
@@ -62,7 +62,7 @@ complex_spec =
     let sum = last in
     let first = sum in
     let known = first in
-    let second = known.before.before.before.before.before.before.before.before.before.before.before.before.before.before.before.before.before in (
+    let second = known.before.before.before.before.before.before.before.before.before.before.before.before.before in (
       kept_result last.constant_sum.ensures.0,
       λ b a lb la.
           let e = constant-is (as_constant a) (sym (second.as_constant-second.ensures a la) ∙ known.in-Is.is) in

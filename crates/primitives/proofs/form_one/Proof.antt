@@ -19,32 +19,32 @@ form_one_spec =
     (tie.spec
     (λ c κs. search rules)
     (λ c. search rules)
-    (λ c κs. let euler = c.before.before.before.before.before in let st = start euler in (result-operand st.requires.1, room-result st.args.w st.requires.2))
+    (λ c κs. let euler = c.before.before.before.before in let st = start euler in (result-operand st.requires.1, room-result st.args.w st.requires.2))
     (λ c. search rules)
-    (λ c κs. let euler = c.before.before.before.before.before in let st = start euler in (result-operand st.requires.1, room-result st.args.w st.requires.2))
+    (λ c κs. let euler = c.before.before.before.before in let st = start euler in (result-operand st.requires.1, room-result st.args.w st.requires.2))
     (λ c. search rules)
-    (λ c κs. let euler = c.before.before.before.before.before in let st = start euler in (st.requires.0, st.requires.1, st.requires.2))
+    (λ c κs. let euler = c.before.before.before.before in let st = start euler in (st.requires.0, st.requires.1, st.requires.2))
     (λ c. search rules)
-    (λ c κs. let euler = c.before.before.before.before.before in let st = start euler in (half-finite, st.requires.1, st.requires.2))
+    (λ c κs. let euler = c.before.before.before.before in let st = start euler in (half-finite, st.requires.1, st.requires.2))
     (λ c. search rules)
-    (λ c κs. let euler = c.before.before.before.before.before in let st = start euler in
+    (λ c κs. let euler = c.before.before.before.before in let st = start euler in
     (over-head _ _ _ (omega arith) (omega arith) st.requires.0, result-operand st.requires.1, room-result st.args.w st.requires.2))
     (λ c. search rules)
-    (λ c κs. let euler = c.before.before.before.before.before in let st = start euler in
+    (λ c κs. let euler = c.before.before.before.before in let st = start euler in
     (over-head _ _ _ (omega arith) (omega arith) st.requires.0, result-operand st.requires.1, room-result st.args.w st.requires.2))
     (λ c. search rules)
-    (λ c κs. let euler = c.before.before.before.before.before in let st = start euler in
+    (λ c κs. let euler = c.before.before.before.before in let st = start euler in
     (rw euler.e-e.ensures euler-finite, result-operand st.requires.1, room-result st.args.w st.requires.2))
     (λ c. search rules)
-    (λ c κs. let euler = c.before.before.before.before.before in let st = start euler in (two-finite, result-operand st.requires.1, room-result st.args.w st.requires.2))
+    (λ c κs. let euler = c.before.before.before.before in let st = start euler in (two-finite, result-operand st.requires.1, room-result st.args.w st.requires.2))
     (λ c. search rules)
-    (λ c κs. let euler = c.before.before.before.before.before in let st = start euler in (ten-finite, result-operand st.requires.1, room-result st.args.w st.requires.2))
+    (λ c κs. let euler = c.before.before.before.before in let st = start euler in (ten-finite, result-operand st.requires.1, room-result st.args.w st.requires.2))
     (λ c. search rules)
-    (λ c κs. let euler = c.before.before.before.before.before in let st = start euler in (st.requires.0, result-operand st.requires.1, room-result st.args.w st.requires.2))
+    (λ c κs. let euler = c.before.before.before.before in let st = start euler in (st.requires.0, result-operand st.requires.1, room-result st.args.w st.requires.2))
     (λ c. search rules)
-    (λ c κs. let euler = c.before.before.before.before.before in let st = start euler in (st.requires.0, result-operand st.requires.1, room-result st.args.w st.requires.2))
+    (λ c κs. let euler = c.before.before.before.before in let st = start euler in (st.requires.0, result-operand st.requires.1, room-result st.args.w st.requires.2))
     (λ c. search rules)
-    (λ c κs. let euler = c.before.before.before.before.before in let st = start euler in (st.requires.0, result-operand st.requires.1, room-result st.args.w st.requires.2))
+    (λ c κs. let euler = c.before.before.before.before in let st = start euler in (st.requires.0, result-operand st.requires.1, room-result st.args.w st.requires.2))
     (λ c κs. let st = start c.before.before.before.before in (result-operand st.requires.1, room-result st.args.w st.requires.2))
     (λ c. search rules)
     (λ c. search rules)
@@ -136,4 +136,4 @@ form_one_spec =
     (λ c.
     let made = c in
     let any = made in
-    (kept_result made.copied.ensures.0, λ s ls. rw (kept _ s any.in_default.keys13) (made.copied.ensures.1 s ls))))
+    (kept_result made.copied.ensures.0, λ s ls. rw (kept _ s any.in_default.in_default-own.keys13) (made.copied.ensures.1 s ls))))

@@ -17,7 +17,7 @@ form_two_spec =
     (λ c κs.
     let any = c in
     let pre = any.requires in
-    (uncounted _ any.in_default.keys3, pre.0, pre.1, pre.2, pre.3, pre.4))
+    (uncounted _ any.in_default.in_default-own.keys3, pre.0, pre.1, pre.2, pre.3, pre.4))
     (λ c. search rules)
     (λ c. search rules)
     (λ c. search rules)
@@ -48,4 +48,4 @@ form_two_spec =
     (λ c.
     let made = c in
     let any = made in
-    (made.form_uncounted.ensures.0, (made.form_uncounted.ensures.1, λ b a lb la n e. sym (pairs-none _ b a (uncounted _ any.in_default.keys3))))))
+    (made.form_uncounted.ensures.0, (made.form_uncounted.ensures.1, λ b a lb la n e. sym (pairs-none _ b a (uncounted _ any.in_default.in_default-own.keys3))))))

@@ -63,4 +63,4 @@ form_uncounted_spec =
     let made = c in
     let any = made in
     let st = any in
-    (kept_result made.copied.ensures.0, λ b a lb la. rw (kept-two _ b a st.requires.0 any.in_default.keys6) (made.copied.ensures.1 b lb))))
+    (kept_result made.copied.ensures.0, λ b a lb la. rw (kept-two _ b a st.requires.0 any.in_default.in_default-own.keys6) (made.copied.ensures.1 b lb))))

@@ -67,9 +67,9 @@ derive_div_spec =
     (working-operand y.argument, working-operand y.argument, room-working st.args.w y.room))
     -- it was formed
     (λ c. search rules)
-    (λ c. let few = (square c.before.before.before.before.before.before.before.before c.in-Done.is).few in omega arith)
+    (λ c. let few = (square c.before.before.before.before.before.before c.in-Done.is).few in omega arith)
     (λ c κs.
-    let mul = c.before.before.before.before.before.before.before.before.before.before.before in
+    let mul = c.before.before.before.before.before.before.before.before.before in
     let st = start mul in
     let y = st.requires.0 in
     let a = square mul c.in-Done.is in
@@ -84,7 +84,7 @@ derive_div_spec =
     (λ c. search rules)
     (λ c.
     let put = c.before.before.before.before.before in
-    let mul = put.before.before.before.before.before.before.before.before.before.before.before.before in
+    let mul = put.before.before.before.before.before.before.before.before.before.before in
     let st = start mul in
     record {
       kept = kept_trans (kept-working mul.mul.ensures.0) (kept_result put.put_block.ensures.0);
@@ -99,7 +99,7 @@ derive_div_spec =
     (λ c. search rules)
     (λ c. search rules)
     (λ c.
-    let mul = c.before.before.before.before.before.before.before.before in
+    let mul = c.before.before.before.before.before.before in
     let st = start mul in
     let a = st.args in
     record {

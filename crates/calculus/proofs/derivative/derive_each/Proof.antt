@@ -42,10 +42,10 @@ abbrev read : tie.After-derive_entry Inv μ → tie.After-load-x Inv μ
 read c = c.before.before.before.before
 
 abbrev refused : tie.In-Refused Inv μ → tie.After-derive_entry Inv μ
-refused c = c.before.before.before.before.before.before.before.before
+refused c = c.before.before.before.before.before.before
 
 abbrev went_on : tie.After-struct_known-1 Inv μ → tie.After-derive_entry Inv μ
-went_on c = c.before.before.before.before.before.before.before.before.before
+went_on c = c.before.before.before.before.before.before.before
 
 returns : tie.Need-returns-in-Refused Inv μ
 returns c = let step = refused c in turn-stop derive_into (64 + 64) (turn (read step)) step.derive_entry.ensures c.in-Refused.is
@@ -70,7 +70,7 @@ derive_each_spec =
     (λ c. (returns c).0.long.numbers)
     returns
     -- or put in
-    (λ c. omega (arith, bound (read c.before.before.before.before.before.before.before.before)))
+    (λ c. omega (arith, bound (read c.before.before.before.before.before.before)))
     (λ c. omega (arith, bound (read (went_on c))))
     (λ c. omega (arith, bound (read (went_on c))))
     (λ c. let x = read (went_on c) in omega (arith, turn-within derive_into (64 + 64) (turn x), x.loop-q-test.true))

@@ -43,7 +43,7 @@ derive_log_spec =
     (λ c. search rules)
     (λ c. search rules)
     (λ c. search rules)
-    (λ c. let asked = c.before.before in into-refused (λ t lt s. prime-not t (with-prime (start asked) t s) (asked.prime_of.ensures t lt) c.in_default.is))
+    (λ c. let asked = c.before in into-refused (λ t lt s. prime-not t (with-prime (start asked) t s) (asked.prime_of.ensures t lt) c.in_default.is))
     (λ c κs. search rules)
     (λ c. search rules)
     (λ c. search rules)
@@ -53,7 +53,7 @@ derive_log_spec =
     (λ c. search rules)
     (λ c.
     let found = c in
-    let asked = found.before.before.before.before.before.before in
+    let asked = found.before.before.before in
     let st = start asked in
     into-refused
     (λ t lt s.
@@ -63,7 +63,7 @@ derive_log_spec =
     (λ c κs. search rules)
     (λ c κs. search rules)
     (λ c κs.
-    let st = start c.before.before.before.before.before.before.before.before.before.before.before.before.before in
+    let st = start c.before.before.before.before.before.before.before.before.before in
     let y = st.requires.0 in (
       (over-head kinds.Div st.args.x.inside c.div_real.result st.requires.1 (omega arith) (omega arith), y.argument.held, apart-result y.argument.apart),
       (y.few, room-result st.args.w y.room, y.held),
@@ -76,7 +76,7 @@ derive_log_spec =
     let over = put in
     let known = over in
     let found = known in
-    let asked = found.before.before.before.before.before.before.before.before.before.before.before.before.before.before in
+    let asked = found.before.before.before.before.before.before.before.before.before.before in
     let st = start asked in
     record {
       kept = put.put_block.ensures.0;

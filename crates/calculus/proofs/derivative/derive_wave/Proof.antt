@@ -38,14 +38,14 @@ derive_wave_spec =
     (λ c. search rules)
     (λ c. search rules)
     (λ c. search rules)
-    (λ c. let asked = c.before.before in into-refused (λ t lt s. prime-not t (with-prime (start asked) t s) (asked.prime_of.ensures t lt) c.in_default.is))
+    (λ c. let asked = c.before in into-refused (λ t lt s. prime-not t (with-prime (start asked) t s) (asked.prime_of.ensures t lt) c.in_default.is))
     -- a constant
     (λ c κs. search rules)
     (λ c κs. search rules)
     (λ c κs. search rules)
     (λ c κs.
     let mul = c in
-    let st = start mul.before.before.before.before.before.before.before.before.before.before in
+    let st = start mul.before.before.before.before.before.before.before.before in
     let y = st.requires.0 in
     let x = st.args.x in (
       (wave-head x.kind x.inside mul.mul.result st.requires.1 mul.turned_kind-kind.ensures, y.argument.held, apart-result y.argument.apart),
@@ -57,7 +57,7 @@ derive_wave_spec =
     (λ c.
     let put = c.before.before.before.before.before in
     let mul = put in
-    let asked = mul.before.before.before.before.before.before.before.before.before.before.before in
+    let asked = mul.before.before.before.before.before.before.before.before.before in
     let st = start asked in
     record {
       kept = put.put_block.ensures.0;

@@ -27,7 +27,7 @@ expr_deriv_spec =
     (λ c. search rules)
     -- nothing
     (λ c κs.
-    let each = c.before.before.before.before.before.before.before.before.before.before.before.before in
+    let each = c.before.before.before.before.before.before.before.before.before.before in
     let st = start each in
     room-same each.derive_each.ensures.0.long (room-result st.args.w st.requires.1))
     (λ c. search rules)
@@ -36,7 +36,7 @@ expr_deriv_spec =
     (λ c.
     let zero = c.before.before.before.before.before in
     let test = zero in
-    let each = test.before.before.before.before.before.before.before.before.before.before.before.before.before in
+    let each = test.before.before.before.before.before.before.before.before.before.before.before in
     let w = (start each).args.w in (
       kept_trans each.derive_each.ensures.0 (kept_result zero.constant_sum.ensures.0),
       λ t lt.
@@ -50,7 +50,7 @@ expr_deriv_spec =
     (λ c. search rules)
     (λ c. search rules)
     (λ c.
-    let each = c.before.before.before.before.before.before.before.before.before in
+    let each = c.before.before.before.before.before.before.before in
     let w = (start each).args.w in
     (each.derive_each.ensures.0, λ t lt. derive-done (B' each) w each.derive_each.result t (each.derive_each.ensures.1 t lt) c.in-Done.is c.if-n-eq0.false))
     -- a refusal
@@ -58,6 +58,6 @@ expr_deriv_spec =
     (λ c. search rules)
     (λ c. search rules)
     (λ c.
-    let each = c.before.before.before.before.before.before.before.before in
+    let each = c.before.before.before.before.before.before in
     let w = (start each).args.w in
     (each.derive_each.ensures.0, λ t lt. derive-refused (B' each) w each.derive_each.result t (each.derive_each.ensures.1 t lt) c.in-Refused.is)))

@@ -39,14 +39,14 @@ prime_of_spec =
     (λ c. search rules)
     -- one whose derivative is no constant
     (λ c s ls.
-    let step = c.before.before in
+    let step = c.before in
     let x = read step in
     prime-none ((loop-of x).loop-q.invariant.2 s ls) x.load-x.result x.load-x.ensures x.loop-q-test.true step.if-x-ne-X.false step.prime_step.ensures c.in_default.is)
     -- one whose derivative is a constant
     (λ c. omega arith)
     (λ c. omega arith)
     (λ c.
-    let step = c.before.before.before in
+    let step = c.before in
     let x = read step in (
       omega arith,
       omega arith,

@@ -43,10 +43,10 @@ abbrev read : tie.After-integrate_entry Inv μ → tie.After-load-x Inv μ
 read c = c.before.before.before.before
 
 abbrev refused : tie.In-Refused Inv μ → tie.After-integrate_entry Inv μ
-refused c = c.before.before.before.before.before.before.before.before
+refused c = c.before.before.before.before.before.before
 
 abbrev went_on : tie.After-struct_known-1 Inv μ → tie.After-integrate_entry Inv μ
-went_on c = c.before.before.before.before.before.before.before.before.before
+went_on c = c.before.before.before.before.before.before.before
 
 returns : tie.Need-returns-in-Refused Inv μ
 unfolding integrate
@@ -73,7 +73,7 @@ integrate_each_spec =
     (λ c. (returns c).0.long.numbers)
     returns
     -- or put in
-    (λ c. omega (arith, bound (read c.before.before.before.before.before.before.before.before)))
+    (λ c. omega (arith, bound (read c.before.before.before.before.before.before)))
     (λ c. omega (arith, bound (read (went_on c))))
     (λ c. omega (arith, bound (read (went_on c))))
     (λ c. let x = read (went_on c) in omega (arith, turn-within integrate_into 64 (turn x), x.loop-q-test.true))

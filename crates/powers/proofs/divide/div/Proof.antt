@@ -78,14 +78,14 @@ div_spec =
       kept_refl _ _ _,
       λ s t ls lt.
           let o = one (single can) t lt in
-          agree-refused _ _ TooComplex _ (one-not o s can.can_div.result (can.can_div.ensures s o.v ls o.divisor) c.if-not-can_div.true),
+          agree-refused (B (start (read (single can)))) (start (read (single can))).args.w TooComplex _ (one-not o s can.can_div.result (can.can_div.ensures s o.v ls o.divisor) c.if-not-can_div.true),
     ))
     -- by which every term has
     (λ c. let st = start (read (single c.before.before.before.before)) in omega (arith, st.requires.some, st.requires.right.held.1.room.insides, st.well_formed))
     (λ c κs.
     let e = single c.before.before.before.before in
     let pre = (start (read e)).requires in
-    (pre.left, one-by-itself e.if-y-m.left pre.right (one e pre.right.held.0 pre.right.held.1), pre.room))
+    (pre.left, one-by-itself e.if-y-m.false pre.right (one e pre.right.held.0 pre.right.held.1), pre.room))
     (λ c. search rules)
     (λ c. search rules)
     (λ c. search rules)
