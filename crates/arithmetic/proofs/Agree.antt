@@ -5,9 +5,9 @@ use mathlib.Core.Path.{◌≡◌, refl, sym, ap, ap₂, ◌∙◌}
 use mathlib.Core.Bool.{Bool, true, false, ◌&&◌, ◌||◌, not, cond}
 use mathlib.Core.List.{List, [], ◌∷◌, ◌++◌}
 use lib.Dec.{eqb}
-use lib.Ieee.{Float, eq, neg}
+use lib.Ieee.{Float, eq}
 use borrow.Author.Tests.{eqb-true, ne_eqb}
-use Rattle.numbers.specs.Ops.{◌⊕◌, ◌⊖◌, ◌⊗◌}
+use Rattle.numbers.specs.Ops.{◌⊕◌, ◌⊗◌}
 use Rattle.numbers.specs.Signs.{zero64, one64}
 use Rattle.numbers.specs.declared.Ordering.{Ordering}
 use Rattle.numbers.specs.declared.Ordering.TheVariants.{Less, Equal, Greater}
@@ -24,10 +24,10 @@ use Rattle.sums.specs.Tree.Sums.{Sum, none, and, size, flat, entry}
 use Rattle.sums.specs.Tree.Order.{cmp_term}
 use Rattle.sums.specs.Tree.Same.{same_term}
 use Rattle.sums.specs.Tree.Good.{is_empty, GoodEntry, Good}
-use Rattle.sums.specs.Tree.Map.{by_order, put_in, Outcome, sum, refused, at, absent, and_then_sum, unless, formed, each_into}
+use Rattle.sums.specs.Tree.Map.{by_order, put_in, Outcome, sum, refused, and_then_sum, unless, formed, each_into}
 use Rattle.sums.proofs.tree.Keeps.{formed-sum, formed-refusal}
-use Rattle.arithmetic.specs.Outcomes.{product_code, no_product, add_powers, mul_insides, quotient_code, no_quotient, x_by_x, x_by_div, x_by_other, alike}
-use Rattle.arithmetic.specs.Singles.{is_one, single, alone, as_constant, is_x, is_complex, Expressible}
+use Rattle.arithmetic.specs.Outcomes.{product_code, no_product, add_powers, mul_insides, quotient_code, x_by_x, x_by_div, x_by_other, alike}
+use Rattle.arithmetic.specs.Singles.{is_one, single, alone, as_constant, is_complex, Expressible}
 use Rattle.arithmetic.specs.Product.{pairable, rowable, mulable, mul_term, mul_into, product}
 use Rattle.arithmetic.specs.Quotient.{x_to, divable, all_divable, add_times, div_term, div_by_several, quotient}
 use Rattle.arithmetic.specs.Power.{raised, rootable, unit_coefs, root_of_one, rooted}

@@ -14,7 +14,6 @@ use Rattle.numbers.specs.declared.SmallWhole.TheVariants.{Is, Other}
 use Rattle.numbers.specs.Complex.Arith as complex
 use Rattle.numbers.proofs.Wholes.{small-whole}
 use Rattle.cells.specs.declared.Entry.{Entry}
-use Rattle.limits.specs.declared.Refusal.{Refusal}
 use Rattle.sums.specs.Tree.Sums.{Sum, none, and, size, len, entry}
 use Rattle.sums.specs.Tree.Map.{Outcome, sum, refused, Found, at, absent, and_then_sum, each_into}
 use Rattle.arithmetic.specs.Singles.{GoodSum, as_constant, is_x}

@@ -18,7 +18,7 @@ use Rattle.sums.specs.Tree.Kinds as kinds
 use Rattle.sums.specs.Tree.Sums.{Sum, none, and}
 use Rattle.sums.specs.Contract.Lies.{Lies}
 use Rattle.sums.proofs.order.Walk.{Next, next, lies-none}
-use Rattle.formats.specs.Tree.{Nodes, end}
+use Rattle.formats.specs.Tree.{Nodes}
 use Rattle.writing.specs.declared.draft.Draft.{Draft}
 use Rattle.writing.specs.declared.draft.Said.{Said}
 use Rattle.writing.specs.declared.draft.Said.TheVariants as said

@@ -4,7 +4,7 @@ use mathlib.Core.Path.{◌≡◌}
 use native.Mathlib.Omega.{arith}
 use mathlib.Core.Bool.{Bool, false}
 use mathlib.Core.List.{List}
-use lib.ListN.{length, replicate, length-replicate}
+use lib.ListN.{replicate, length-replicate}
 use Rattle.sums.specs.Tree.Sums.{Sum}
 use Rattle.formats.specs.Tree.{end}
 use Rattle.writing.specs.declared.draft.Said.{Said}

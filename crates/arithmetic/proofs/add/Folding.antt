@@ -10,7 +10,7 @@ use Rattle.cells.specs.Contract.Book.{Book, at}
 use Rattle.cells.specs.Contract.Moves.{Kept}
 use Rattle.limits.specs.declared.Refusal.{Refusal}
 use Rattle.sums.specs.Tree.Sums.{Sum, and, size, entry}
-use Rattle.sums.specs.Tree.Map.{Outcome, sum, each_into}
+use Rattle.sums.specs.Tree.Map.{Outcome, each_into}
 use Rattle.sums.proofs.tree.Keeps.{each_none, each-sum, each-refused}
 use Rattle.sums.specs.declared.order.Formed.{Formed}
 use Rattle.sums.specs.declared.order.Formed.TheVariants.{Done, Refused}

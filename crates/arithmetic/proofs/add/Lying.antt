@@ -11,7 +11,7 @@ use Rattle.numbers.specs.declared.complex.Complex.{Complex}
 use Rattle.cells.specs.declared.Entry.{Entry}
 use Rattle.cells.specs.Contract.Book.{Book, at, Room, Plain}
 use Rattle.cells.specs.Contract.Moves.{Apart, under, over, Kept}
-use Rattle.cells.proofs.Laws.{room-less, room-same}
+use Rattle.cells.proofs.Laws.{room-less}
 use Rattle.sums.specs.declared.tree.Merge.{Merge}
 use Rattle.sums.specs.Tree.Kinds.{X}
 use Rattle.sums.proofs.tree.Keeps.{good_more}

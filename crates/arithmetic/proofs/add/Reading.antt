@@ -11,7 +11,7 @@ use Rattle.numbers.specs.declared.complex.Complex.{Complex}
 use Rattle.cells.specs.declared.Entry.{Entry}
 use Rattle.cells.specs.Contract.Book.{Book, at}
 use Rattle.sums.specs.Tree.Kinds.{X}
-use Rattle.sums.specs.Tree.Sums.{Sum, none, and, size, flat, entry}
+use Rattle.sums.specs.Tree.Sums.{Sum, none, and, size, flat}
 use Rattle.sums.specs.Tree.Good.{Good, GoodEntry}
 use Rattle.sums.specs.Tree.Map as map
 use Rattle.arithmetic.specs.Singles.{is_one, as_constant, is_x, is_complex}

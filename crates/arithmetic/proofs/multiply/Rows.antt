@@ -4,7 +4,6 @@ use native.Mathlib.Omega.{arith}
 use mathlib.Core.Path.{◌≡◌, refl, sym, ap, ◌∙◌}
 use mathlib.Core.Logic.{inl, inr}
 use mathlib.Core.Bool.{Bool, true, cond}
-use lib.Dec.{eqb}
 use lib.Ieee.{Float}
 use borrow.Author.Tests.{eqb-true, eq-eqb}
 use Rattle.numbers.specs.Ops.{◌⊕◌}
@@ -20,7 +19,7 @@ use Rattle.sums.specs.declared.order.Formed.TheVariants.{Done}
 use Rattle.sums.specs.Tree.Kinds.{X, Div}
 use Rattle.sums.specs.Tree.Sums.{Sum, none, and, size, entry}
 use Rattle.sums.specs.Tree.Map.{Outcome, and_then_sum, formed, each_into}
-use Rattle.sums.specs.Contract.Lies.{Lies, Held, OfOne, Agrees}
+use Rattle.sums.specs.Contract.Lies.{Held, OfOne, Agrees}
 use Rattle.sums.specs.Contract.Place.{powers, OnlyPowers}
 use Rattle.sums.proofs.order.Walk.{Next}
 use Rattle.sums.proofs.order.Powers.{no-inside, whole-first, formed-whole, lies_whole, whole-lies}

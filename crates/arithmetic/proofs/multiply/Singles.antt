@@ -10,7 +10,7 @@ use Rattle.cells.specs.declared.Entry.{Entry}
 use Rattle.cells.specs.Contract.Book.{Book, at}
 use Rattle.sums.specs.declared.tree.Merge.TheVariants.{Add}
 use Rattle.sums.specs.Tree.Kinds.{X}
-use Rattle.sums.specs.Tree.Sums.{Sum, none, and, size, entry}
+use Rattle.sums.specs.Tree.Sums.{Sum, none, and, entry}
 use Rattle.sums.specs.Tree.Map.{Outcome, sum, refused, and_then_sum, formed, each_into}
 use Rattle.sums.specs.Contract.Lies.{Lies}
 use Rattle.sums.proofs.order.Walk.{next, empty}

@@ -1,5 +1,5 @@
 -- The powers of x stand first in a good sum, one cell each, and rise: so a power's place is found from the last one down. Assumes nothing.
-use Prim.Native.Nat.{ℕ, zero, suc, ◌+◌, ◌-◌, ◌≤◌, ◌<◌}
+use Prim.Native.Nat.{ℕ, suc, ◌+◌, ◌-◌, ◌≤◌, ◌<◌}
 use native.Mathlib.Omega.{arith}
 use native.Mathlib.Nat.{eq-or-lt_of_le}
 use mathlib.Core.Path.{◌≡◌, refl, sym, ap, subst, ◌∙◌}
@@ -30,7 +30,6 @@ use Rattle.sums.specs.Tree.Map.{by_order, put_in, formed, sum}
 use Rattle.sums.specs.declared.tree.Merge.{Merge}
 use Rattle.sums.proofs.tree.Order.{less-nat}
 use Rattle.sums.proofs.tree.Keeps.{put_by, formed-sum}
-use Rattle.sums.specs.declared.order.Found.{Found}
 use Rattle.sums.specs.declared.order.Found.TheVariants.{Same, Before}
 use Rattle.sums.specs.Contract.Lies.{At, Lies}
 use Rattle.sums.specs.Contract.Place.{place, one_more, powers, OnlyPowers}

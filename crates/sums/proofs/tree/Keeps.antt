@@ -1,8 +1,8 @@
 -- Putting a term in keeps a good sum good; how many entries there then are; levels; and a step for each entry of a sum. Assumes nothing.
-use Prim.Native.Nat.{ℕ, zero, suc, ◌+◌, ◌≤◌, max}
+use Prim.Native.Nat.{ℕ, zero, suc, ◌+◌, ◌≤◌}
 use native.Mathlib.Omega.{arith}
-use mathlib.Core.Path.{◌≡◌, refl, sym, ap, subst, ◌∙◌}
-use mathlib.Core.Bool.{Bool, true, false, ◌&&◌}
+use mathlib.Core.Path.{◌≡◌, refl, sym, ap, subst}
+use mathlib.Core.Bool.{Bool, true, false}
 use lib.Dec.{T, leb, eqb}
 use lib.IntN.{pos}
 use lib.Ieee.{Float, fin, binary64, fits}
@@ -22,8 +22,8 @@ use Rattle.limits.specs.declared.Refusal.TheVariants.{NoRoom, TooDeep, NotFinite
 use Rattle.sums.specs.Tree.Kinds.{X, has_number}
 use Rattle.sums.specs.Tree.Sums.{Sum, none, and, size, levels, entry}
 use Rattle.sums.specs.Tree.Order.{cmp_term}
-use Rattle.sums.specs.Tree.Good.{is_number, is_empty, GoodEntry, Before, Good}
-use Rattle.sums.specs.Tree.Map.{by_order, merged, coef_in, put_in, Outcome, sum, refused, and_then_sum, unless, not_finite, formed, each_into, Found, at, absent, lookup, Has, here, there}
+use Rattle.sums.specs.Tree.Good.{is_empty, GoodEntry, Before, Good}
+use Rattle.sums.specs.Tree.Map.{by_order, merged, coef_in, put_in, Outcome, sum, refused, and_then_sum, unless, not_finite, formed, each_into, at, absent, lookup, Has, here, there}
 use Rattle.sums.proofs.tree.Order.{greater-less}
 
 -- ---- levels

@@ -1,10 +1,8 @@
 -- Looking up: after a term is put in, in a good sum, and in two good sums where each key finds the same. Assumes nothing.
-use Prim.Native.Nat.{ℕ, zero, suc}
+use Prim.Native.Nat.{ℕ, suc}
 use native.Mathlib.Omega.{arith}
-use mathlib.Core.Path.{◌≡◌, refl, sym, ap, subst, ◌∙◌}
-use lib.Dec.{T}
+use mathlib.Core.Path.{◌≡◌, refl, sym, ap, ◌∙◌}
 use lib.Ieee.{Float}
-use lib.Ieee.Scale.{finite}
 use Rattle.numbers.specs.declared.Ordering.{Ordering}
 use Rattle.numbers.specs.declared.Ordering.TheVariants.{Less, Equal, Greater}
 use Rattle.numbers.specs.Order.{flipped}

@@ -1,20 +1,18 @@
 -- The Rust's `==` beside the order: Equal terms are `==`, and terms with no inside are Equal where they are `==`; with coefficients inside they need not be. Assumes nothing.
 use Prim.Native.Nat.{ℕ}
 use native.Mathlib.Omega.{arith}
-use mathlib.Core.Path.{◌≡◌, refl, sym, ap, ap₂, ◌∙◌}
+use mathlib.Core.Path.{◌≡◌, refl, sym, ap, ap₂}
 use mathlib.Core.Logic.{◌↔◌}
 use mathlib.Core.Bool.{Bool, true, false, ◌&&◌, true≢false, false≢true}
 use lib.Dec.{T, eqb, lit≤}
 use lib.Ieee.{Float, lt, eq, fits, binary64, of_bits}
 use lib.Ieee.Scale.{finite}
 use borrow.Author.Tests.{eqb-true, eq-eqb}
-use Rattle.numbers.specs.declared.Ordering.{Ordering}
-use Rattle.numbers.specs.declared.Ordering.TheVariants.{Less, Equal, Greater}
-use Rattle.numbers.specs.Order.{cmp_num, and_then}
+use Rattle.numbers.specs.declared.Ordering.TheVariants.{Less, Equal}
+use Rattle.numbers.specs.Order.{cmp_num}
 use Rattle.numbers.proofs.Bools.{eqb-by}
 use Rattle.numbers.proofs.Zeros.{eq_self}
 use Rattle.numbers.proofs.Order.{cmp-equal-eq, eq-symmetric, eq-transitive, then-equal-both}
-use Rattle.numbers.specs.declared.complex.Complex.{Complex}
 use Rattle.numbers.specs.Complex.Arith as complex
 use Rattle.cells.specs.declared.Entry.{Entry}
 use Rattle.sums.specs.Tree.Kinds.{X, Sin, Cos}

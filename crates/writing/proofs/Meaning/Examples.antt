@@ -15,7 +15,7 @@ use Rattle.sums.specs.Tree.Sums.{Sum, none, and}
 use Rattle.formats.specs.declared.record.Primitive.TheVariants as prim
 use Rattle.formats.specs.Names.{kind_of, primitive_of}
 use Rattle.formats.specs.Tree.{Nodes, end, rec, size, count}
-use Rattle.writing.specs.Draft.Writing.{push, push_pair, does, on, body, append, one, two, wrote, refused}
+use Rattle.writing.specs.Draft.Writing.{push, push_pair, does, on, body, append, two, wrote, refused}
 use Rattle.writing.specs.ToNodes.{form, write, to_nodes}
 use Rattle.writing.specs.Faithful.{write_faithful, faithful}
 use Rattle.writing.specs.Meaning.{Term, x, unary, binary, some, runs, numeral, add_to, terms, meaning}

@@ -18,7 +18,7 @@ use Rattle.formats.specs.Names.{primitive_no, kind_of}
 use Rattle.formats.specs.Tree.{Nodes, end, rec, size, height, encode}
 use Rattle.formats.specs.Rules.{fields_ok, is_a, Fields, ok_nodes, AllFields, verdict}
 use Rattle.formats.proofs.record.Theorem.{verdict-encode}
-use Rattle.writing.specs.Draft.Writing.{push, push_pair, does, body, append, one, two, wrapped, number_record}
+use Rattle.writing.specs.Draft.Writing.{push, push_pair, does, append, one, two, wrapped, number_record}
 use Rattle.writing.proofs.draft.Laws.{size-append}
 
 -- ---- records with nothing inside

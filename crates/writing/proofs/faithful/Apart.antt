@@ -6,7 +6,7 @@ use mathlib.Core.Path.{◌≡◌, refl, sym, ap, subst, ◌∙◌}
 use mathlib.Core.Bool.{Bool, false}
 use mathlib.Core.List.{List, ◌++◌}
 use lib.ListN.{length, get_or, take, drop, length-append, length-take, length-drop}
-use borrow.Rule.Slice.PartMut.{mid_of, put_mid, post_of, same_len_mid}
+use borrow.Rule.Slice.PartMut.{mid_of, put_mid, same_len_mid}
 use lib.Seq.{sets, sets-eq, length-sets, get_or-append-add, get_or-drop, take_at, drop-append-le, take-append-le, take-append-add, length-take-le}
 use Rattle.limits.specs.declared.Refusal.{Refusal}
 use Rattle.sums.specs.Tree.Sums as sums

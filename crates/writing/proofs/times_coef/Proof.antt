@@ -2,7 +2,6 @@
 use borrow.Author.Rules.{rules}
 use native.Mathlib.Omega.{arith}
 use mathlib.Core.Path.{sym}
-use borrow.Author.Tests.{not-true, not-false}
 use Rattle.formats.specs.declared.record.Primitive.TheVariants as prim
 use Rattle.writing.specs.Draft.Writing.{does, append, one, wrote}
 use Rattle.writing.proofs.draft.Growing.{ready-less, ready-spoken, drawn-done, spoken-then, spoken-stop}

@@ -1,7 +1,6 @@
 -- `arithmetic::add::neg_each` meets its contract. The loop's invariant: once what is left is negated, the whole is. Assumes nothing.
 use Prim.Native.Nat.{◌+◌, ◌-◌, ◌^◌, ◌<◌, ◌≤◌}
 use native.Mathlib.Omega.{arith}
-use mathlib.Core.Path.{◌≡◌}
 use borrow.Author.Rules.{rules}
 use Rattle.cells.specs.Contract.Book.{Book, book}
 use Rattle.cells.specs.Contract.Moves.{Kept}

@@ -1,5 +1,4 @@
 -- `arithmetic::add::put_term` meets its contract: of a power of x there is nothing inside. Assumes nothing.
-use mathlib.Core.Path.{◌≡◌}
 use borrow.Author.Rules.{rules}
 use Rattle.arithmetic.proofs.add.Lying.{put-power-term}
 use Rattle.arithmetic.proofs.add.put_term.Statement.{statement}

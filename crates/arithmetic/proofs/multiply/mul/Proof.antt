@@ -1,12 +1,10 @@
 -- `arithmetic::multiply::mul` meets its contract: both ways have it. Assumes nothing.
 use Prim.Native.Nat.{ℕ, ◌+◌}
-use mathlib.Core.Path.{◌≡◌, sym, subst}
-use mathlib.Core.Bool.{true}
+use mathlib.Core.Path.{◌≡◌, subst}
 use lib.Dec.{eqb}
 use borrow.Author.Rules.{rules}
 use borrow.Author.Tests.{eqb-true}
 use Rattle.cells.specs.Contract.Book.{Book, book}
-use Rattle.sums.specs.Tree.Sums.{Sum}
 use Rattle.sums.specs.Contract.Lies.{Lies}
 use Rattle.arithmetic.specs.Add.Contract.Operands.{Operand}
 use Rattle.arithmetic.proofs.Steps.{and_both}

@@ -1,7 +1,6 @@
 -- `arithmetic::multiply::mul_some` meets its contract: of nothing but powers it is formed row by row; of any others whether there is one is asked first, and then it is formed. Assumes nothing.
 use native.Mathlib.Omega.{arith}
 use borrow.Author.Rules.{rules}
-use borrow.Author.Tests.{not-true, not-false}
 use mathlib.Core.Path.{◌≡◌, sym, ◌∙◌}
 use mathlib.Core.Bool.{Bool}
 use Prim.Native.Nat.{◌+◌}

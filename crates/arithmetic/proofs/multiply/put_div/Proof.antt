@@ -1,17 +1,15 @@
 -- `arithmetic::multiply::put_div` meets its contract: the sum goes over to the other book, the term is put in there, and what comes of it goes back. Assumes nothing.
-use Prim.Native.Nat.{ℕ, ◌+◌}
+use Prim.Native.Nat.{◌+◌}
 use native.Mathlib.Omega.{arith}
-use mathlib.Core.Path.{◌≡◌}
 use borrow.Author.Rules.{rules}
 use Rattle.numbers.specs.Signs.{zero64}
 use Rattle.cells.specs.Contract.Book.{Book, book, Room}
-use Rattle.cells.specs.Contract.Moves.{Kept, under}
+use Rattle.cells.specs.Contract.Moves.{under}
 use Rattle.cells.proofs.Laws.{room-less, room-same, kept_refl, kept-wider, copied-kept}
 use Rattle.sums.specs.declared.tree.Merge.TheVariants.{Add}
 use Rattle.sums.specs.Tree.Kinds.{Div}
 use Rattle.sums.specs.Tree.Sums.{Sum, entry}
 use Rattle.sums.specs.Tree.Map.{formed}
-use Rattle.sums.specs.declared.order.Formed.TheVariants.{Done, Refused}
 use Rattle.sums.specs.Contract.Lies.{Lies, Agrees}
 use Rattle.sums.proofs.order.Walk.{lies-below, lies-copied}
 use Rattle.arithmetic.proofs.add.Lying.{Agreed, agreed-done, agreed-refused, agree-done, agree-refused}

@@ -8,7 +8,7 @@ use Rattle.sums.specs.Tree.Sums.{Sum}
 use Rattle.sums.specs.Tree.Map.{refused}
 use Rattle.sums.specs.declared.order.Formed.TheVariants.{Refused}
 use Rattle.sums.specs.declared.order.Found.{Found}
-use Rattle.sums.specs.Contract.Lies.{Lies, OfTwo}
+use Rattle.sums.specs.Contract.Lies.{OfTwo}
 use Rattle.sums.specs.Contract.Putting.{Putting}
 use Rattle.sums.proofs.map.Putting.{Answer, answer-refused, formed-number}
 use Rattle.sums.proofs.map.put_block.Statement.{statement}

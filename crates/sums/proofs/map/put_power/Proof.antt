@@ -1,5 +1,4 @@
 -- `sums::map::put_power` meets its contract: where the powers end is found, and the power is put below it. Assumes nothing.
-use Prim.Native.Nat.{◌+◌}
 use native.Mathlib.Omega.{arith}
 use borrow.Author.Rules.{rules}
 use mathlib.Core.Path.{refl}

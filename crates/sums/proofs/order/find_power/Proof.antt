@@ -1,11 +1,9 @@
 -- `sums::order::find_power` meets its contract. The loop's invariant: the powers from k on come after the one that is sought. Assumes nothing.
-use Prim.Native.Nat.{ℕ, ◌+◌, ◌-◌, ◌≤◌, ◌<◌}
+use Prim.Native.Nat.{◌+◌, ◌-◌, ◌≤◌}
 use native.Mathlib.Omega.{arith}
 use borrow.Author.Rules.{rules}
-use mathlib.Core.Path.{◌≡◌, refl, sym}
 use lib.Ieee.Bits.{nan_bits_is}
 use Rattle.limits.specs.Limits.{sum_levels}
-use Rattle.numbers.specs.declared.Ordering.{Ordering}
 use Rattle.cells.specs.Contract.Book.{Book, book, at, Plain}
 use Rattle.numbers.proofs.Bits.{no_nan}
 use Rattle.sums.specs.Tree.Sums.{Sum}

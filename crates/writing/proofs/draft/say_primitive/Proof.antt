@@ -2,7 +2,7 @@
 use borrow.Author.Rules.{rules}
 use mathlib.Core.Path.{ap}
 use Rattle.formats.specs.declared.record.Record.{Record}
-use Rattle.writing.specs.Draft.Writing.{append, one, does}
+use Rattle.writing.specs.Draft.Writing.{append, one}
 use Rattle.writing.proofs.draft.Growing.{drawn-as}
 use Rattle.writing.proofs.draft.say_primitive.Statement.{statement}
 use Rattle.writing.proofs.draft.say_primitive.Tie as tie

@@ -1,6 +1,5 @@
 -- The sum is written into a buffer with room for it, and what was said is answered. Assumes nothing.
 use borrow.Author.Rules.{rules}
-use native.Mathlib.Omega.{arith}
 use Rattle.writing.specs.Faithful.{faithful}
 use Rattle.writing.proofs.faithful.Whole.{ready-start, said-whole}
 use Rattle.writing.proofs.faithful.write_functions.Statement.{statement}
