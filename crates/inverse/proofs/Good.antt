@@ -68,6 +68,7 @@ spell-fine flag (suc n) (num c ∷ ws) m ns ms (says x w) f e =
     said-fine (can_write flag c) (λ ks. spell flag ws ks) ls ms (m + suc n) (λ h. fine_more (m + suc n) 1 (spell-fine flag n ws (m + 1) ls ms w g h) (omega arith) (omega arith)) e
 spell-fine flag (suc n) (act p ∷ ws) m ns ms (acts w) f e =
     fine_more (m + suc n) 1 (spell-fine flag n ws (m + 1) (append ns (one (does p))) ms w (fine-say ns (does p) f (omega arith) (plain-does p)) e) (omega arith) (omega arith)
+spell-fine flag zero (_ ∷ ws) m ns ms x5 f e = elim x5 [ ]
 
 -- ---- what is written is good
 

@@ -42,7 +42,7 @@ returns-4 c at complex pairs =
 returns-5 : tie.Need-returns-in_default
 returns-5 c at complex pairs =
     let x = c.args in
-    leaf-refused at (1152 - x.v) x.r x.k c.in_default.keys5 c.why_not.ensures
+    leaf-refused at (1152 - x.v) x.r x.k c.in_default.in_default-own.keys5 c.why_not.ensures
     (does-stop (λ ss k. ap (ran_of at x.handled complex pairs) (c.halt.ensures ss k)))
 
 pub leaf_of_spec : {M : Type 1} → statement M
