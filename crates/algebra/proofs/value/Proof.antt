@@ -6,8 +6,7 @@ use Rattle.algebra.proofs.value.Tie as tie
 
 returns : tie.Need-returns-in-Answer
 returns c =
-    let quick = c.quick-1.given in
-    (quick.0.0, refl, c.quick_value-quick.ensures quick.0.0 quick.1, refl)
+    (c.in-Answer.a, refl, c.quick_value-quick.ensures c.in-Answer.a c.in-Answer.is, refl)
 
 pub value_spec : {M : Type 1} → statement M
 value_spec =

@@ -1,6 +1,7 @@
 -- The verdict on the list comes first. Assumes nothing.
 use Prim.Native.Nat.{◌-◌}
 use mathlib.Core.Path.{sym, ◌∙◌}
+use Rattle.cells.specs.Contract.Book.{book}
 use Rattle.algebra.proofs.lists.Reading.{list-refused, list-good}
 use borrow.Author.Rules.{rules}
 use Rattle.algebra.proofs.lists.read_sum.Statement.{statement}
@@ -16,7 +17,7 @@ nodes-expr-requires c κs =
 returns : tie.Need-returns-in-Refused
 returns c =
     let start = c in
-    list-refused (1152 - start.args.top) start.args.list.now _ (sym c.check.ensures.0 ∙ c.in-Refused.is)
+    list-refused (1152 - start.args.top) start.args.list.now (book start.args.kinds.now start.args.insides.now start.args.numbers.now) (sym c.check.ensures.0 ∙ c.in-Refused.is)
 
 returns-2 : tie.Need-returns-in-Good
 returns-2 c =
