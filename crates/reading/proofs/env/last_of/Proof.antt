@@ -1,5 +1,6 @@
 -- None, several or one sum is left. Assumes nothing.
 use native.Mathlib.Omega.{arith}
+use Rattle.cells.specs.Contract.Book.{book}
 use Rattle.stack.proofs.slots.Laws.{stacked-le}
 use Rattle.reading.proofs.env.Ends.{handled-is, last_none, last-many, last_one, top-few, some-used}
 use borrow.Author.Rules.{rules}
@@ -7,7 +8,7 @@ use Rattle.reading.proofs.env.last_of.Statement.{statement}
 use Rattle.reading.proofs.env.last_of.Tie as tie
 
 returns : tie.Need-returns-then-env-eq-WORKING
-returns c v st s = last_none _ st st.stack s.stack (omega arith) (handled-is s c.any_complex.ensures)
+returns c v st s = last_none (book c.args.kinds.now c.args.insides.now c.args.numbers.now) st st.stack s.stack (omega arith) (handled-is s c.any_complex.ensures)
 
 top-size-requires : tie.Need-top_size-n-requires
 top-size-requires c κs =
@@ -28,7 +29,7 @@ returns-2 c v st s =
     let after-if1 = after-top-size in
     let after-any-complex = after-if1 in
     let start = after-any-complex in
-    last-many _ st st.stack s.stack (some-used start.requires.1 after-if1.if-env-eq-WORKING.false) after-top-size.top_size-n.ensures c.if-n-env.true
+    last-many (book c.args.kinds.now c.args.insides.now c.args.numbers.now) st st.stack s.stack (some-used start.requires.1 after-if1.if-env-eq-WORKING.false) after-top-size.top_size-n.ensures c.if-n-env.true
     (handled-is s after-any-complex.any_complex.ensures)
 
 returns-3 : tie.Need-returns

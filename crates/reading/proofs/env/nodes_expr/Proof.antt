@@ -1,5 +1,6 @@
 -- The stack starts with x; the whole list is walked, and one sum must be left. Assumes nothing.
 use mathlib.Core.Bool.{false}
+use Rattle.cells.specs.Contract.Book.{book}
 use Rattle.reading.proofs.walk.Laws.{does-told, keeps, never}
 use Rattle.reading.proofs.env.Ends.{all-records, read-stop, read-ready, read-went}
 use borrow.Author.Rules.{rules}
@@ -31,7 +32,7 @@ returns c =
     let after-begin-with-x = after-count-records in
     let s = after-begin-with-x in
     let x = after-begin-with-x.begin_with_x-env.ensures s.args.top s.requires.1 in
-    read-stop s.args.list.now after-count-records.count_records-n.ensures x.1 _ (does-told c.in-Stopped.is after-walk.walk-ran.ensures)
+    read-stop s.args.list.now after-count-records.count_records-n.ensures x.1 (book s.args.kinds.now s.args.insides.now s.args.numbers.now) (does-told c.in-Stopped.is after-walk.walk-ran.ensures)
 
 returns-2 : tie.Need-returns-in-Went
 returns-2 c =
