@@ -226,6 +226,7 @@ each-of-these (Replies.write_faithful c) t = absurd t
 each-of-these (Replies.write c) t = absurd t
 each-of-these (Replies.run x) t = absurd t
 each-of-these (Replies.value x) t = absurd t
+each-of-these Replies.cost t = elim t [ ]
 
 -- ---- some lists
 

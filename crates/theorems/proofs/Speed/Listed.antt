@@ -41,6 +41,8 @@ listed r (terms.term {c = c} {r = s} z w t) =
 pub small-zero : (v : Float) → Zero v → below_epsilon v ≡ true
 unfolding below_epsilon lt of_bits
 small-zero (fin s m e) z = lt-ltb (m * up e * 4503599627370496) (1 * down e) (omega (arith, down_pos e))
+small-zero lib.Ieee.nan z = elim z [ ]
+small-zero (lib.Ieee.inf _) z = elim z [ ]
 
 -- a sum without imaginary parts
 pub all-real : (s : Sum) → RealSum s → all_real s ≡ true

@@ -180,6 +180,10 @@ module _ (t : Term) (p : Float) (d : Complex) (g : Kept t p (complex.plus comple
           let z = put-greater 0 p d one64 complex.zero u ((cmp-greater p one64).1 m) in
           let above : lt one64 t.power ≡ true = sym (lt-eq-right one64 p t.power (T_of one-finite) g.here g.there g.same.power) ∙ m in
           record { coef = z.coef ∙ h.coef; came = subst (λ (v : Sum). Came true (ts ++ t ∷ []) v) (sym z.put) (extra (below_next one64 ts t b above) h.came) }
+      go false false false x18 l e m h = elim x18 [ ]
+      go false true true x19 l e m h = elim x19 [ ]
+      go true false true x19 l e m h = elim x19 [ ]
+      go true true _ x15 l e m h = elim x15 [ ]
 
 -- x itself, where 0·x is there
 put-x : (t : Term) (d : Complex) → Kept t one64 (complex.plus complex.zero d) → {ts : List Term} {u : Sum} → Came true ts u → Over one64 ts
