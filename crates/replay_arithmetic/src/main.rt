@@ -6,6 +6,7 @@ ghost use Rattle.limits.specs.Limits.{entry_bytes, sum_entries};
 
 use cases::{Case, FOUR_SUMS};
 use limits::{ENTRY_BYTES, SUM_ENTRIES};
+use std::io::Read;
 
 mod arith;
 mod cases;
@@ -93,9 +94,15 @@ fn replay(rt: &impl Print, b: &[u8], n: usize)
     summary(rt, cases, agree);
 }
 
+// Reads the text, as much of it as fits, and replays its cases.
+fn replay_from<R: Read>(rt: &impl Print, from: &mut R, text: &mut [u8]) {
+    let n = streams::read_full(from, text);
+    let m = text::decode(text, n);
+    replay(rt, text, m);
+}
+
+// 600,000 bytes of text, in rows so that no proof has to count them one by one.
 fn main(rt: HostRuntime) {
-    let mut text = [0u8; 600000];
-    let n = streams::read_full(&mut rt.stdin(), &mut text);
-    let m = text::decode(&mut text, n);
-    replay(&rt, &text, m);
+    let mut text = [[0u8; 1000]; 600];
+    replay_from(&rt, &mut rt.stdin(), text.as_flattened_mut());
 }
