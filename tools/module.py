@@ -1,17 +1,16 @@
-"""What the tools that compile a proved crate share: the LLVM module that the kit makes of the crate and hands to its compiler, kept for
-as long as the crate's proof is the one that it was made of, and that compiler with its flags."""
-import os, platform, shutil, subprocess, sys, tempfile
+"""What the tools that compile a proved crate share: for each processor the static library that the toolchain builds of the crate, and what it
+hands to its compiler last, with the arguments. Both are kept for as long as the crate's proof is the one that they were made of."""
+import os, platform, shlex, shutil, subprocess, sys
 
 MACHINE = platform.machine()
 
 # More functions are compiled into their callers than by default. At 1000 the run of a short list takes 2 KB more stack.
 INLINING = ['-mllvm', '-inline-threshold=2000']
 
-# The kit's own flags for x86-64, and the inlining.
-FLAGS = ['-O3', '-fPIC', '-ffunction-sections', '-fdata-sections', '-mllvm', '-trap-unreachable', '-mllvm', '-no-trap-after-noreturn', *INLINING]
+# For each processor what the toolchain's build is told besides: the code for x86-64 runs on every such processor.
 PROCESSORS = {
-    'x86_64': ['--target=x86_64-unknown-linux-gnu', '-march=x86-64'],
-    'aarch64': ['--target=aarch64-unknown-linux-gnu'],
+    'x86_64': ['--cpu', 'x86-64'],
+    'aarch64': [],
 }
 
 
@@ -29,12 +28,22 @@ def root():
     return folder
 
 
-def builds_on(top, crate):
+def libraries(top):
+    """Each crate of crates.txt with those that it builds on."""
+    found = {}
     for line in text_of(os.path.join(top, 'crates.txt')).splitlines():
         name, colon, others = line.split('#')[0].partition(':')
-        if colon and name.strip() == crate:
-            return others.split()
-    stop('crates.txt does not list ' + crate)
+        if colon:
+            found[name.split()[0]] = others.split()
+    return found
+
+
+def below(found, crate):
+    """All crates that a crate builds on, whether or not directly."""
+    reached = []
+    for name in found[crate]:
+        reached += [it for it in [*below(found, name), name] if it not in reached]
+    return reached
 
 
 def run(words, folder, what):
@@ -54,66 +63,78 @@ def text_of(path):
 
 
 def kit():
-    """The folder of the toolchain that is on the PATH, and the part of it for this computer."""
-    whole = os.path.dirname(os.path.dirname(run(['rt', 'doc'], None, '`rt doc`').strip()))
-    return whole, os.path.join(whole, 'on', MACHINE)
+    """The folder of the toolchain that is on the PATH."""
+    return os.path.dirname(run(['rt', 'doc'], None, '`rt doc`').strip())
 
 
-def toolchain_that_keeps_the_module(own, room):
-    """A copy of the toolchain's folder whose compiler inlines more, and leaves the module that it is handed in room/module.bc."""
+def prove(top, crate):
+    """Proves the crate with all that it builds on; what is proved already and hasn't changed is not proved again."""
+    if crate not in libraries(top):
+        stop('crates.txt does not list ' + crate)
+    run(['rt', 'check'], os.path.join(top, 'crates', crate), '`rt check` of ' + crate)
+
+
+def toolchain_that_tells(whole, room):
+    """A copy of the toolchain's folder whose compiler inlines more, and leaves its last input and arguments in room."""
     os.makedirs(room + '/bin')
-    for tool in os.listdir(own + '/toolchain/bin'):
-        os.symlink(own + '/toolchain/bin/' + tool, room + '/bin/' + tool)
-    os.symlink(own + '/toolchain/lib', room + '/lib')
+    for tool in os.listdir(whole + '/toolchain/bin'):
+        os.symlink(os.path.join(whole, 'toolchain', 'bin', tool), os.path.join(room, 'bin', tool))
+    os.symlink(whole + '/toolchain/lib', room + '/lib')
     os.remove(room + '/bin/clang')
     with open(room + '/bin/clang', 'w') as script:
-        script.write('#!/bin/sh\nfor a in "$@"; do case $a in *.bc|*.ll) cp "$a" %s/module.bc ;; esac; done\n'
-                     'exec %s/toolchain/bin/clang "$@" %s\n' % (room, own, ' '.join(INLINING)))
+        script.write('#!/bin/sh\nroom=%s\nprintf "%%s\\n" "$@" %s >"$room/arguments"\n'
+                     'for a in "$@"; do case $a in *.bc|*.ll) [ ! -f "$a" ] || cp "$a" "$room/input" ;; esac; done\n'
+                     'exec %s "$@" %s\n' % (shlex.quote(room), shlex.join(INLINING), shlex.quote(whole + '/toolchain/bin/clang'), shlex.join(INLINING)))
     os.chmod(room + '/bin/clang', 0o755)
 
 
-def build(top, crate, room):
-    """The kit's build of a proved crate: room/x86.a, and the module that it compiled to that in room/module.bc."""
-    whole, own = kit()
-    toolchain_that_keeps_the_module(own, room)
-    rlibs = os.path.join(top, 'target', 'rlib')
-    words = [own + '/bin/rattle', 'build', '--crate-name', crate, os.path.join(top, 'crates', crate, 'src', 'lib.rt'), '--extern', 'std=%s/rlib/std.rlib' % own]
-    for name in builds_on(top, crate):
-        mine = os.path.join(rlibs, name + '.rlib')
-        words += ['--extern', '%s=%s' % (name, mine if os.path.isdir(mine) else '%s/rlib/%s.rlib' % (own, name))]
-    words += ['-L', 'dependency=' + rlibs, '-L', 'dependency=%s/rlib' % own, '--antt-project', whole + '/logic/antt-project.json',
-              '--logic-built', own + '/logic-built', '--toolchain', room, '--crate-type', 'staticlib', '-o', room + '/x86.a']
-    run(words, top, 'building crate ' + crate)
+def build(top, crate, processor, folder):
+    """The toolchain's build of a proved crate as a static library: folder/library.a, and what its compiler was handed."""
+    whole, room, found = kit(), os.path.join(folder, 'toolchain'), libraries(top)
+    shutil.rmtree(room, ignore_errors=True)
+    toolchain_that_tells(whole, room)
+    words = [whole + '/bin/rattle', 'build', '--crate-name', crate, 'src/lib.rt', '--extern', 'std=%s/rlibs/std.rlib' % whole, '-L', 'dependency=%s/rlibs' % whole]
+    for name in below(found, crate):
+        if name in found:
+            rlibs = os.path.join(top, 'crates', name, 'out', 'rlib')
+            words += ['-L', 'dependency=' + rlibs] + (['--extern', '%s=%s/%s.rlib' % (name, rlibs, name)] if name in found[crate] else [])
+    words += ['--antt-project', whole + '/rattle/logic/antt-project.json', '--logic-built', whole + '/logic_built', '--incremental', os.path.join(folder, 'checked'),
+              '--toolchain', room, '--backend', 'llvm', '--crate-type', 'staticlib', '--target', processor + '-unknown-linux-gnu', *PROCESSORS[processor],
+              '-o', folder + '/library.a']
+    run(words, os.path.join(top, 'crates', crate), 'building crate %s for %s' % (crate, processor))
+    for name in ('arguments', 'input'):
+        shutil.copy(os.path.join(room, name), os.path.join(folder, name))
+    shutil.rmtree(room)
 
 
-def compiled(module, processor, out, *more):
-    """Compiles the module for a processor by the kit's compiler, with the flags above and more."""
-    run([kit()[1] + '/toolchain/bin/clang', *PROCESSORS[processor], '--no-default-config', '-w', '-x', 'ir', module, '-o', out, *FLAGS, *more],
-        None, 'compiling the module for ' + processor)
-
-
-def archive_of(room, archive):
-    """Of what the kit built in room, the archive for this computer."""
-    if MACHINE == 'x86_64':
-        shutil.copy(room + '/x86.a', archive)
-        return
-    compiled(room + '/module.bc', MACHINE, room + '/module.o', '-c')
-    if os.path.exists(archive):
-        os.remove(archive)
-    run([kit()[1] + '/toolchain/bin/llvm-ar', 'rcs', archive, 'module.o'], room, 'making the archive')
-
-
-def kept(top, crate):
-    """The archive for this computer and the module of a proved crate, as they lie in target/native, made anew where its proof is another one."""
-    made_of = text_of(os.path.join(top, 'target', 'stamp', crate)) + ' '.join(FLAGS)
-    folder = os.path.join(top, 'target', 'native')
-    archive, module, stamp = (os.path.join(folder, name) for name in ('lib%s.a' % crate, crate + '.bc', crate + '.stamp'))
-    if not (all(map(os.path.exists, (archive, module, stamp))) and text_of(stamp) == made_of):
+def kept(top, crate, processor):
+    """The folder of target/native that has the build of a proved crate for a processor, made anew where its proof is another one."""
+    made_of = run(['sh', 'tools/fresh', 'digest'], top, '`tools/fresh digest`') + run(['rt', 'version'], top, '`rt version`') + ' '.join(INLINING + PROCESSORS[processor])
+    folder = os.path.join(top, 'target', 'native', crate, processor)
+    stamp = os.path.join(folder, 'stamp')
+    if not (os.path.exists(stamp) and text_of(stamp) == made_of):
+        if os.path.exists(stamp):
+            os.remove(stamp)
         os.makedirs(folder, exist_ok=True)
-        with tempfile.TemporaryDirectory() as room:
-            build(top, crate, room)
-            shutil.copy(room + '/module.bc', module)
-            archive_of(room, archive)
+        build(top, crate, processor, folder)
         with open(stamp, 'w') as file:
             file.write(made_of)
-    return archive, module
+    return folder
+
+
+def flags(folder):
+    """The arguments that the toolchain's compiler was given last, without the names of files and folders."""
+    said, skip = [], False
+    for word in text_of(os.path.join(folder, 'arguments')).splitlines():
+        if not skip and word != '-c' and not word.startswith('--sysroot=') and not word.endswith(('.bc', '.ll')) and word != '-o':
+            said.append(word)
+        skip = word == '-o'
+    return said
+
+
+def compiled(folder, out, *more):
+    """Compiles what the toolchain's compiler was handed last, by the same compiler with the same arguments and more: `-c` or `-S` is among these."""
+    folder, out = os.path.abspath(folder), os.path.abspath(out)
+    words = flags(folder)
+    at = words.index('ir') + 1
+    run([kit() + '/toolchain/bin/clang', *words[:at], os.path.join(folder, 'input'), '-o', out, *words[at:], *more], folder, 'compiling the module')
