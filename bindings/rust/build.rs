@@ -229,7 +229,7 @@ fn prove(root: &Path, target: &Target, archive: &Path) -> Result<(), String> {
     }
     show(&made);
     Err(format!(
-        "the proved library wasn't built (what is above says why).\nRun `rt check uplink` in {} and see that it ends well, then build again.",
+        "the proved library wasn't built (what is above says why).\nRun `rt check` in {}/crates/uplink and see that it ends well, then build again.",
         root.display()
     ))
 }

@@ -44,7 +44,7 @@ fn take_archive(root: &Path, archive: &Path) -> Result<(), String> {
     match made {
         Ok(status) if status.success() => Ok(()),
         Ok(status) => Err(format!(
-            "tools/native_archive ended with {status}. Run `rt check uplink` in {} until it passes, then build again.",
+            "tools/native_archive ended with {status}. Run `rt check` in {}/crates/uplink until it passes, then build again.",
             root.display()
         )),
         Err(error) => Err(format!(
