@@ -1,6 +1,6 @@
 """What the tools that compile a proved crate share: for each processor the static library that the toolchain builds of the crate, and what it
 hands to its compiler last, with the arguments. Both are kept for as long as the crate's proof is the one that they were made of."""
-import os, platform, shlex, shutil, subprocess, sys
+import os, platform, shlex, shutil, subprocess, sys, tempfile
 
 MACHINE = platform.machine()
 
@@ -90,8 +90,14 @@ def toolchain_that_tells(whole, room):
 
 def build(top, crate, processor, folder):
     """The toolchain's build of a proved crate as a static library: folder/library.a, and what its compiler was handed."""
-    whole, room, found = kit(), os.path.join(folder, 'toolchain'), libraries(top)
-    shutil.rmtree(room, ignore_errors=True)
+    with tempfile.TemporaryDirectory() as room:
+        build_with(kit(), room, top, crate, processor, folder)
+        for name in ('arguments', 'input'):
+            shutil.copy(os.path.join(room, name), os.path.join(folder, name))
+
+
+def build_with(whole, room, top, crate, processor, folder):
+    found = libraries(top)
     toolchain_that_tells(whole, room)
     words = [whole + '/bin/rattle', 'build', '--crate-name', crate, 'src/lib.rt', '--extern', 'std=%s/rlibs/std.rlib' % whole, '-L', 'dependency=%s/rlibs' % whole]
     for name in below(found, crate):
@@ -102,9 +108,6 @@ def build(top, crate, processor, folder):
               '--toolchain', room, '--backend', 'llvm', '--crate-type', 'staticlib', '--target', processor + '-unknown-linux-gnu', *PROCESSORS[processor],
               '-o', folder + '/library.a']
     run(words, os.path.join(top, 'crates', crate), 'building crate %s for %s' % (crate, processor))
-    for name in ('arguments', 'input'):
-        shutil.copy(os.path.join(room, name), os.path.join(folder, name))
-    shutil.rmtree(room)
 
 
 def kept(top, crate, processor):
