@@ -11,5 +11,5 @@ refuse_inverse_spec =
     (tie.spec
     (λ c. refused-handled _ _ c.if-handled.true)
     (λ c κs. search rules)
-    (λ c. let start = c in refused-replaced start.args.q start.args.at c.if-handled.false (omega (arith, c.refusal_no.ensures, c.if-refusal_no-le-LAST_REPLACED.true)))
-    (λ c. let start = c in refused-kept start.args.q start.args.at c.if-handled.false (omega (arith, c.refusal_no.ensures, c.if-refusal_no-le-LAST_REPLACED.false))))
+    (λ c. let start = c in refused-replaced start.args.q start.args.at c.if-handled.false (omega (arith, c.refusal_no.ensures)))
+    (λ c. let start = c in refused-kept start.args.q start.args.at c.if-handled.false (omega (arith, c.refusal_no.ensures))))

@@ -1,4 +1,5 @@
 -- `calculus::derivative::expr_deriv` meets its contract: each entry is derived, and nothing becomes constant 0. Assumes nothing.
+use native.Mathlib.Omega.{arith}
 use borrow.Author.Rules.{rules}
 use mathlib.Core.Path.{subst}
 use Rattle.cells.specs.Contract.Book.{Book, book}
@@ -41,7 +42,7 @@ expr_deriv_spec =
       kept_trans each.derive_each.ensures.0 (kept_result zero.constant_sum.ensures.0),
       λ t lt.
           subst (Agrees zero.constant_sum.result (B'' zero) w)
-          (derive-nothing (B' each) w each.derive_each.result t (each.derive_each.ensures.1 t lt) test.in-Done.is test.if-n-eq0.true)
+          (derive-nothing (B' each) w each.derive_each.result t (each.derive_each.ensures.1 t lt) test.in-Done.is (omega arith))
           zero.constant_sum.ensures.1,
     ))
     (λ c. search rules)
@@ -52,7 +53,7 @@ expr_deriv_spec =
     (λ c.
     let each = c.before.before.before.before.before.before.before in
     let w = (start each).args.w in
-    (each.derive_each.ensures.0, λ t lt. derive-done (B' each) w each.derive_each.result t (each.derive_each.ensures.1 t lt) c.in-Done.is c.if-n-eq0.false))
+    (each.derive_each.ensures.0, λ t lt. derive-done (B' each) w each.derive_each.result t (each.derive_each.ensures.1 t lt) c.in-Done.is (λ z. omega arith)))
     -- a refusal
     (λ c. search rules)
     (λ c. search rules)
