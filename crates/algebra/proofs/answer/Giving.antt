@@ -1,7 +1,7 @@
 -- Laws of answers: what is made is refused, has no room, or is written; and what follows what was formed. Assumes nothing.
 use Prim.Native.Nat.{ℕ, ◌+◌, ◌≤◌, ◌<◌}
 use native.Mathlib.Omega.{arith}
-use mathlib.Core.Path.{◌≡◌, refl, sym, ap, subst, ◌∙◌}
+use mathlib.Core.Path.{◌≡◌, refl, sym, ap, ◌∙◌}
 use mathlib.Core.Bool.{Bool, true, false, cond}
 use mathlib.Core.List.{List}
 use lib.Dec.{leb}
@@ -27,7 +27,6 @@ use Rattle.writing.specs.Draft.Contract.Lying as drafts
 use Rattle.writing.specs.Draft.Contract.Lying.{Answered}
 use Rattle.algebra.specs.declared.answer.Answer.{Answer}
 use Rattle.algebra.specs.declared.answer.Answer.TheVariants as answer
-use Rattle.algebra.specs.Answer.Promises.{Promise}
 use Rattle.algebra.specs.Answer.Making.{Made, made, refused_at, of_outcome, of_sum, of_list, answer_of, Gives}
 
 module _ (room : List ℕ → ℕ) where

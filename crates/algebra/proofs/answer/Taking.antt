@@ -19,7 +19,7 @@ use Rattle.values.proofs.Taking.{not-both}
 use Rattle.sums.proofs.bytes.Theorem.{good-taken, settled}
 use Rattle.algebra.specs.declared.answer.Answer.{Answer}
 use Rattle.algebra.specs.declared.answer.Answer.TheVariants as answer
-use Rattle.algebra.specs.Answer.Making.{Made, refused_at, Gives, OfBytes}
+use Rattle.algebra.specs.Answer.Making.{Made, Gives, OfBytes}
 use Rattle.algebra.proofs.answer.Giving.{gives-refusal}
 use Rattle.algebra.proofs.answer.Determined.{determined}
 

@@ -3,10 +3,10 @@ use Prim.Native.Nat.{ℕ, ◌+◌, ◌≤◌, ◌<◌}
 use native.Mathlib.Omega.{arith}
 use native.Mathlib.Nat.{eq-or-lt_of_le}
 use mathlib.Core.Path.{◌≡◌, refl, sym, ap, subst, ◌∙◌}
-use mathlib.Core.Bool.{true, false, cond}
+use mathlib.Core.Bool.{true, false}
 use mathlib.Core.Logic.{◌⊎◌, ⊎_elim}
-use lib.Dec.{T, eqb}
-use lib.Ieee.{Float, binary64, fits}
+use lib.Dec.{eqb}
+use lib.Ieee.{Float, binary64}
 use lib.Ieee.Scale.{finite}
 use lib.Ieee.Bits.{of_bits-fits}
 use lib.Ieee.Fits.{mul-fits, cond-fits}
@@ -19,7 +19,7 @@ use Rattle.cells.specs.Contract.Moves.{SameRoom, Kept, Put, Copied}
 use Rattle.cells.proofs.Laws.{Fitting, put-at, at-kept, room-less, room-same, same-room-refl, same-room-trans}
 use Rattle.limits.specs.declared.Refusal.TheVariants.{PowerNotFinite}
 use Rattle.sums.specs.Tree.Kinds.{X}
-use Rattle.sums.specs.Tree.Sums.{Sum, size}
+use Rattle.sums.specs.Tree.Sums.{Sum}
 use Rattle.arithmetic.specs.Power.{rooted}
 use Rattle.sums.specs.declared.order.Formed.TheVariants.{Done, Refused}
 use Rattle.sums.specs.Contract.Lies.{Agrees}

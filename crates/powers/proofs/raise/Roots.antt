@@ -2,20 +2,19 @@
 use Prim.Native.Nat.{ℕ, zero, suc, ◌+◌, ◌≤◌, ◌<◌}
 use native.Mathlib.Omega.{arith}
 use native.Mathlib.Decide.{dec_le}
-use mathlib.Core.Path.{◌≡◌, refl, sym, ap, subst, ◌∙◌}
+use mathlib.Core.Path.{◌≡◌, refl, sym, ap, ◌∙◌}
 use mathlib.Core.Bool.{Bool, true, false, ◌&&◌, cond}
 use mathlib.Core.Logic.{◌⊎◌, inl, inr, ⊎_elim}
-use native.Mathlib.Nat.{eq-or-lt_of_le}
-use lib.Dec.{T, leb, eqb}
+use lib.Dec.{T, eqb}
 use lib.IntN.{pos}
 use lib.Ieee.{Float, fin, binary64, fits, of_bits, eq}
 use lib.Ieee.Scale.{finite}
 use lib.Ieee.Bits.{of_bits-fits, is_true}
-use lib.Ieee.Fits.{and_i, and_r, mul-fits, cond-fits}
+use lib.Ieee.Fits.{and_i, mul-fits, cond-fits}
 use borrow.Author.Tests.{eqb-true, le-leb}
 use Rattle.numbers.specs.Numbers.{is_whole}
 use Rattle.numbers.specs.Ops.{◌⊗◌}
-use Rattle.numbers.specs.Signs.{zero64, one64, Zero, ±0}
+use Rattle.numbers.specs.Signs.{zero64, one64}
 use Rattle.numbers.proofs.Bools.{T_of}
 use Rattle.numbers.proofs.Finite.{zero-is-finite}
 use Rattle.numbers.proofs.Values.{bits-0}
@@ -23,19 +22,17 @@ use Rattle.numbers.proofs.Zeros.{zero_test, mul-zero-left, zero-finite}
 use Rattle.numbers.specs.declared.complex.Complex.{Complex}
 use Rattle.numbers.specs.Complex.Arith as complex
 use Rattle.cells.specs.declared.Entry.{Entry}
-use Rattle.sums.specs.declared.tree.Merge.TheVariants.{Store}
 use Rattle.limits.specs.declared.Refusal.TheVariants.{PowerNotFinite}
 use Rattle.sums.specs.Tree.Kinds.{X, Div, has_number}
 use Rattle.sums.specs.Tree.Sums.{Sum, none, and, size, levels, entry}
 use Rattle.sums.specs.Tree.Good.{is_number, is_empty, GoodEntry, Good}
 use Rattle.sums.specs.Tree.Map.{put_in, coef_in, formed, sum, refused}
-use Rattle.sums.proofs.tree.Keeps.{Fits, good-levels}
+use Rattle.sums.proofs.tree.Keeps.{good-levels}
 use Rattle.arithmetic.specs.Singles.{alone}
 use Rattle.arithmetic.specs.Power.{rootable, unit_coefs, root_of_one, rooted}
 use Rattle.arithmetic.proofs.Steps.{differ, and_both}
-use Rattle.arithmetic.proofs.Agree.{root-test, units-test, rooted-x, rooted-sum, rooted-refused, x-size, empty-size}
+use Rattle.arithmetic.proofs.Agree.{root-test, rooted-x, rooted-sum, rooted-refused, x-size, empty-size}
 use Rattle.sums.specs.Contract.Lies.{At}
-use Rattle.sums.proofs.order.Walk.{empty}
 use Rattle.powers.specs.Raise.Contract.Roots.{root_entry}
 
 -- ---- numbers

@@ -1,8 +1,8 @@
 -- `primitives::add_times_i` meets its contract: i lies at w, the product is formed behind it, and then the sum at w. Assumes nothing.
-use Prim.Native.Nat.{ℕ, ◌+◌, ◌^◌, ◌<◌}
+use Prim.Native.Nat.{ℕ, ◌+◌}
 use native.Mathlib.Omega.{arith}
 use borrow.Author.Rules.{rules}
-use mathlib.Core.Path.{◌≡◌, ap, ◌∙◌}
+use mathlib.Core.Path.{ap}
 use Rattle.numbers.specs.Complex.Arith.{imaginary}
 use Rattle.cells.specs.Contract.Book.{Book, book}
 use Rattle.cells.specs.Contract.Moves.{Kept, under, over}

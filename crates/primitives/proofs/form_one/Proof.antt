@@ -1,5 +1,4 @@
 -- `primitives::form_one` meets its contract: in each arm the primitive is the arm's. Assumes nothing.
-use Prim.Native.Nat.{◌+◌}
 use native.Mathlib.Omega.{arith}
 use borrow.Author.Rules.{rules}
 use lib.Ieee.{binary64, of_bits}

@@ -1,5 +1,4 @@
 -- `primitives::form_two` meets its contract: in each arm the primitive is the arm's. Assumes nothing.
-use Prim.Native.Nat.{◌+◌}
 use borrow.Author.Rules.{rules}
 use mathlib.Core.Path.{sym}
 use Rattle.primitives.proofs.Cases.{uncounted, pairs-none, pairs-mul, pairs-pow}

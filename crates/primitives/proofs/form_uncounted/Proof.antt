@@ -1,5 +1,4 @@
 -- `primitives::form_uncounted` meets its contract: in each arm the primitive is the arm's. Assumes nothing.
-use Prim.Native.Nat.{◌+◌}
 use borrow.Author.Rules.{rules}
 use Rattle.primitives.proofs.Cases.{kept-two}
 use Rattle.arithmetic.proofs.add.Places.{kept_result, room-result, result-operand}

@@ -1,7 +1,6 @@
 -- `calculus::derivative::derive_exp` meets its contract: the argument is a multiple of x, or it isn't. Assumes nothing.
 use native.Mathlib.Omega.{arith}
 use borrow.Author.Rules.{rules}
-use borrow.Author.Tests.{not-true, not-false}
 use mathlib.Core.Path.{◌≡◌, refl, sym, ap, subst, ◌∙◌}
 use Rattle.numbers.specs.Complex.Arith as complex
 use Rattle.cells.specs.Contract.Book.{Book, book}

@@ -1,7 +1,6 @@
 -- `calculus::integral::integrate_wave` meets its contract: the argument is x, or it isn't. Assumes nothing.
 use native.Mathlib.Omega.{arith}
 use borrow.Author.Rules.{rules}
-use borrow.Author.Tests.{not-true, not-false}
 use mathlib.Core.Path.{subst}
 use Rattle.cells.specs.Contract.Book.{Book, book}
 use Rattle.cells.specs.Contract.Moves.{over}

@@ -1,8 +1,7 @@
 -- `powers::raise::can_root` meets its contract. The loop's invariant: what lies from k on is rootable where the sum is. Assumes nothing.
 use Prim.Native.Nat.{◌+◌, ◌-◌, ◌<◌, ◌^◌}
 use native.Mathlib.Omega.{arith}
-use borrow.Author.Rules.{rules}
-use mathlib.Core.Path.{◌≡◌, sym}
+use mathlib.Core.Path.{sym}
 use Rattle.cells.specs.Contract.Book.{Book, book}
 use Rattle.sums.specs.Tree.Sums.{Sum}
 use Rattle.arithmetic.specs.Power.{rootable}

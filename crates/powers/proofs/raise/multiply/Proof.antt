@@ -1,11 +1,11 @@
 -- `powers::raise::multiply` meets its contract. The loop's invariant: the product so far lies at its place and is flat where the base is, and the products that are left
 -- make of it what all make of the base, with the pairs that all have. Assumes nothing.
-use Prim.Native.Nat.{ℕ, ◌+◌, ◌*◌, ◌-◌, ◌≤◌, ◌<◌}
+use Prim.Native.Nat.{ℕ, ◌+◌, ◌*◌, ◌-◌, ◌≤◌}
 use native.Mathlib.Omega.{arith}
 use native.Mathlib.Nat.{mul_comm}
 use borrow.Author.Rules.{rules}
 use borrow.Author.Tests.{eqb-true}
-use mathlib.Core.Path.{◌≡◌, refl, sym, ap₂, ◌∙◌}
+use mathlib.Core.Path.{◌≡◌, refl, ap₂, ◌∙◌}
 use Rattle.cells.specs.Contract.Book.{Book, book, at}
 use Rattle.cells.specs.Contract.Moves.{Kept}
 use Rattle.cells.proofs.Laws.{room-same, kept_refl, kept_trans}

@@ -1,5 +1,5 @@
 -- `powers::raise::number_power` meets its contract: the number is written to the first cell of another book, and its power is copied out. Assumes nothing.
-use Prim.Native.Nat.{ℕ, ◌+◌}
+use Prim.Native.Nat.{◌+◌}
 use native.Mathlib.Omega.{arith}
 use borrow.Author.Rules.{rules}
 use lib.Dec.{T}

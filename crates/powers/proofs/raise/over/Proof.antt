@@ -1,5 +1,4 @@
 -- `powers::raise::over` meets its contract: the term is put into an empty sum. Assumes nothing.
-use Prim.Native.Nat.{◌+◌}
 use native.Mathlib.Omega.{arith}
 use borrow.Author.Rules.{rules}
 use mathlib.Core.Path.{◌≡◌}

@@ -1,9 +1,9 @@
 -- `powers::raise::pow_of` meets its contract: E to a single x, a number to a real power, or a refusal. Assumes nothing.
-use Prim.Native.Nat.{◌+◌, ◌<◌}
+use Prim.Native.Nat.{◌+◌}
 use native.Mathlib.Omega.{arith}
 use borrow.Author.Rules.{rules}
 use mathlib.Core.Path.{◌≡◌, refl, sym, ap, ap₂, ◌∙◌}
-use mathlib.Core.Bool.{Bool, true, ◌&&◌}
+use mathlib.Core.Bool.{Bool, ◌&&◌}
 use Rattle.numbers.specs.Complex.Arith.{real}
 use Rattle.cells.specs.Contract.Book.{Book, book}
 use Rattle.cells.proofs.Laws.{kept_refl}

@@ -1,10 +1,9 @@
 -- `powers::raise::power_by` meets its contract: a whole power, a refusal, or a root. Assumes nothing.
 use Prim.Native.Nat.{◌+◌}
 use borrow.Author.Rules.{rules}
-use borrow.Author.Tests.{not-true, not-false}
 use mathlib.Core.Path.{◌≡◌, refl, sym, ap, ◌∙◌}
 use mathlib.Core.Bool.{Bool, true, ◌&&◌}
-use lib.Ieee.{Float, le}
+use lib.Ieee.{le}
 use Rattle.numbers.specs.Numbers.{is_whole}
 use Rattle.numbers.specs.Signs.{zero64}
 use Rattle.cells.specs.Contract.Book.{Book, book}

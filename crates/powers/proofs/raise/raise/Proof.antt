@@ -2,7 +2,7 @@
 use Prim.Native.Nat.{ℕ, ◌+◌}
 use native.Mathlib.Omega.{arith}
 use borrow.Author.Rules.{rules}
-use mathlib.Core.Path.{◌≡◌, sym, ap, subst, ◌∙◌}
+use mathlib.Core.Path.{sym, ap, subst, ◌∙◌}
 use Rattle.cells.specs.Contract.Book.{Book, book}
 use Rattle.cells.proofs.Laws.{room-less, kept-wider, copied-kept}
 use Rattle.arithmetic.proofs.Agree.{raised-none}
@@ -14,7 +14,7 @@ use Rattle.sums.specs.Contract.Lies.{Lies}
 use Rattle.sums.proofs.order.Walk.{lies-copied}
 use Rattle.arithmetic.specs.Add.Contract.Operands.{Source}
 use Rattle.arithmetic.proofs.add.Lying.{apart-copy, agree-done}
-use Rattle.arithmetic.proofs.add.Places.{apart-result, room-result}
+use Rattle.arithmetic.proofs.add.Places.{apart-result}
 use Rattle.powers.proofs.raise.Pairs.{counted-agrees, counted_is}
 use Rattle.powers.proofs.raise.raise.Statement.{statement}
 use Rattle.powers.proofs.raise.raise.Tie as tie

@@ -1,9 +1,8 @@
 -- `powers::raise::raise_one` meets its contract: a sum of one cell of kind X is one power of x. Assumes nothing.
-use Prim.Native.Nat.{◌+◌}
 use native.Mathlib.Omega.{arith}
-use mathlib.Core.Path.{◌≡◌, sym, ap, subst, ◌∙◌}
+use mathlib.Core.Path.{sym, subst}
 use borrow.Author.Rules.{rules}
-use Rattle.cells.specs.Contract.Book.{Book, book}
+use Rattle.cells.specs.Contract.Book.{book}
 use Rattle.sums.specs.Tree.Sums.{Sum}
 use Rattle.sums.specs.Contract.Lies.{Agrees}
 use Rattle.sums.proofs.order.Walk.{next-at}

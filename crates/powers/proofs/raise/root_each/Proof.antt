@@ -5,7 +5,7 @@ use borrow.Author.Rules.{rules}
 use mathlib.Core.Path.{◌≡◌, sym, ◌∙◌}
 use mathlib.Core.Bool.{true}
 use lib.Ieee.Scale.{finite}
-use Rattle.cells.specs.Contract.Book.{Book, book}
+use Rattle.cells.specs.Contract.Book.{book}
 use Rattle.powers.proofs.raise.Rooting.{Halfway, halfway-start, halfway-kept, root-done, root-reads, root-stops, root-writes, root-more}
 use Rattle.powers.proofs.raise.root_each.Statement.{statement}
 use Rattle.powers.proofs.raise.root_each.Tie as tie

@@ -1,7 +1,6 @@
 -- `powers::raise::root_entry` meets its contract. Assumes nothing.
 use borrow.Author.Rules.{rules}
 use borrow.Author.Tests.{eq-eqb, ne_eqb}
-use mathlib.Core.Path.{sym, ◌∙◌}
 use Rattle.powers.proofs.raise.root_entry.Statement.{statement}
 use Rattle.powers.proofs.raise.root_entry.Tie as tie
 

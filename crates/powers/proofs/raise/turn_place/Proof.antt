@@ -1,7 +1,6 @@
 -- `powers::raise::turn_place` meets its contract. Assumes nothing.
 use borrow.Author.Rules.{rules}
 use borrow.Author.Tests.{eq-eqb, ne_eqb}
-use native.Mathlib.Omega.{arith}
 use Rattle.powers.proofs.raise.turn_place.Statement.{statement}
 use Rattle.powers.proofs.raise.turn_place.Tie as tie
 

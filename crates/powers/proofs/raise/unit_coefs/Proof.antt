@@ -2,7 +2,7 @@
 use Prim.Native.Nat.{◌+◌, ◌-◌, ◌<◌, ◌≤◌, ◌^◌}
 use native.Mathlib.Omega.{arith}
 use borrow.Author.Rules.{rules}
-use mathlib.Core.Path.{◌≡◌, sym, ◌∙◌}
+use mathlib.Core.Path.{sym, ◌∙◌}
 use Rattle.cells.specs.Contract.Book.{Book, book}
 use Rattle.sums.specs.Tree.Sums.{Sum}
 use Rattle.arithmetic.specs.Power.{unit_coefs}
