@@ -39,5 +39,5 @@ as_constant_spec =
     let n = next-at _ _ _ 4 held.0 held.1 (omega arith) in
     (n.readable, n.first.plain))
     (λ c κs. search rules)
-    (λ c s ls. ap constant_of (told c.before true c.if-is_one.true s ls))
-    (λ c s ls. ap constant_of (told c.before false c.if-is_one.false s ls)))
+    (λ c s ls. ap constant_of (told c.before true (cc) s ls))
+    (λ c s ls. ap constant_of (told c.before false (cc) s ls)))
