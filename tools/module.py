@@ -74,6 +74,11 @@ def prove(top, crate):
     run(['rt', 'check'], os.path.join(top, 'crates', crate), '`rt check` of ' + crate)
 
 
+def prove_all(top):
+    """Proves every crate of crates.txt; what is proved already and hasn't changed is not proved again."""
+    run(['rt', 'all', 'check'], top, '`rt all check`')
+
+
 def toolchain_that_tells(whole, room):
     """A copy of the toolchain's folder whose compiler inlines more, and leaves its last input and arguments in room."""
     os.makedirs(room + '/bin')
