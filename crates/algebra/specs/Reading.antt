@@ -1,8 +1,7 @@
 -- The entry `read`: from a list of bytes to the sum that it stands for.
-use Rattle.std.specs.Prelude.{ℕ, min, Bool, false, List}
+use Rattle.formats.specs.Rules.{Verdict}
+use Rattle.std.specs.Prelude.{ℕ, min, Bool, false, List, Ok, Err}
 use Rattle.limits.specs.Refusals.{refusal_no}
-use Rattle.formats.specs.declared.record.Verdict.{Verdict}
-use Rattle.formats.specs.declared.record.Verdict.TheVariants as verdict
 use Rattle.formats.specs.Rules as rules
 use Rattle.formats.specs.Tree.{parse}
 use Rattle.sums.specs.Entry.Encoding.{entries_in}
@@ -18,8 +17,8 @@ use Rattle.algebra.specs.declared.ReadAnswer.TheVariants as answer
 
 -- 11 and 13 come first, over the whole list, at place 0
 abbrev pub by_verdict : Verdict → Read → Read
-by_verdict verdict.Good r = r
-by_verdict (verdict.Refused q) r = refused_at q 0 false
+by_verdict (Ok tt) r = r
+by_verdict (Err q) r = refused_at q 0 false
 
 unfoldable pub read_list : List ℕ → Read
 read_list l = by_verdict (rules.verdict l) (read_nodes (parse l))

@@ -1,17 +1,14 @@
 -- The thirteen entries side by side: what each may answer, in document 01's numbers.
-use Rattle.std.specs.Prelude.{ℕ, ◌≡◌, Bool, false, List, Float}
+use Rattle.std.specs.Prelude.{ℕ, ◌≡◌, Bool, false, List, Float, Result}
 use Rattle.numbers.specs.Signs.{zero64}
 use Rattle.limits.specs.declared.Refusal.{Refusal}
 use Rattle.limits.specs.Refusals.{refusal_no}
 use Rattle.formats.specs.Tree.{records_in}
 use Rattle.sums.specs.Entry.Encoding.{entries_in}
-use Rattle.running.specs.declared.RunAnswer.{RunAnswer}
 use Rattle.running.specs.declared.RunNumbers.{RunNumbers}
-use Rattle.running.specs.Running.{run_list, numbers_of}
-use Rattle.values.specs.declared.ValueAnswer.{ValueAnswer}
+use Rattle.running.specs.Running.{run_list, numbers_of, RunAnswer}
 use Rattle.values.specs.declared.ValueNumbers.{ValueNumbers}
 use Rattle.values.specs.ValueOf.{ValueOfBytes, value_numbers}
-use Rattle.reading.specs.declared.cost.CostAnswer.{CostAnswer}
 use Rattle.reading.specs.declared.cost.CostNumbers.{CostNumbers}
 use Rattle.reading.specs.Cost.Cost.{cost_list, cost_numbers}
 use Rattle.algebra.specs.declared.answer.Answer.{Answer}
@@ -66,10 +63,10 @@ of_answer a = of_numbers (answer_numbers a)
 abbrev pub of_run : RunAnswer → Reply
 of_run a = of_run_numbers (numbers_of a)
 
-abbrev pub of_cost : CostAnswer → Reply
+abbrev pub of_cost : Result ℕ Refusal → Reply
 of_cost a = of_cost_numbers (cost_numbers a)
 
-abbrev pub of_value : ValueAnswer → Reply
+abbrev pub of_value : Result Float Refusal → Reply
 of_value a = of_value_numbers (value_numbers a)
 
 -- of the input l and an output that was out and is out' then; run, cost and value have no output
@@ -86,4 +83,4 @@ Promised integral_faithful l out out' r = (a : Answer) × (r ≡ of_answer a) ×
 Promised inverse l out out' r = (a : Answer) × (r ≡ of_answer a) × Gives records_in (lists.inverse l) out out' a
 Promised (run x) l out out' r = (r ≡ of_run (run_list l x)) × (out' ≡ out)
 Promised cost l out out' r = (r ≡ of_cost (cost_list l)) × (out' ≡ out)
-Promised (value x) l out out' r = (a : ValueAnswer) × (r ≡ of_value a) × ValueOfBytes l x a × (out' ≡ out)
+Promised (value x) l out out' r = (a : Result Float Refusal) × (r ≡ of_value a) × ValueOfBytes l x a × (out' ≡ out)

@@ -2,7 +2,7 @@
 // Where a derivative or an integral is taken it is formed in the SUM_ENTRIES places from w on, and as many behind them are working places.
 ghost use Rattle.std.specs.Prelude.{◌≡◌, ◌+◌, ◌≤◌};
 ghost use Rattle.limits.specs.Limits.{sum_entries, sum_levels};
-ghost use Rattle.cells.specs.Contract.Book.{book, Room};
+ghost use Rattle.cells.specs.Contract.Book.{seen, Room};
 ghost use Rattle.sums.specs.Contract.Lies.{Held, OfOne};
 ghost use Rattle.arithmetic.specs.Add.Contract.Operands.{Source};
 ghost use Rattle.formats.specs.Tree.{records_in};
@@ -11,9 +11,8 @@ ghost use Rattle.writing.specs.Draft.Contract.Lying.{Answered};
 ghost use Rattle.algebra.specs.Answer.Making.{of_sum, answer_of, Gives, answer_numbers, derive, integrate, invert};
 ghost use Rattle.algebra.specs.Contract.Writers.{list_by, write_by, derive_and_write_by, integrate_and_write_by};
 
+use cells::Book;
 use limits::Refusal;
-use sums::order::Formed;
-use writing::draft::Wrote;
 
 // What an entry answers: so many entries or records written, or a refusal with its place.
 #[derive(Clone, Copy)]
@@ -62,168 +61,132 @@ pub fn answer_numbers(r: Answer) -> Numbers
 }
 
 // What follows reading has no place.
-fn answer_of(w: Wrote) -> Answer
+fn answer_of(w: Result<usize, Refusal>) -> Answer
     ensures { result ≡ answer_of w }
 {
     match w {
-        Wrote::List(records) => Answer::Done(records),
-        Wrote::Refused(q) => Answer::Refused(q, 0),
+        Ok(records) => Answer::Done(records),
+        Err(q) => Answer::Refused(q, 0),
     }
 }
 
 // The sum itself, where there is room for it.
-pub fn put_out(
-    kinds: &[u8],
-    insides: &[u8],
-    numbers: &[[u64; 3]],
-    i: usize,
-    n: usize,
-    out: &mut [u8],
-) -> Answer
-    requires { (n ≤ sum_entries) × Held (book kinds.now insides.now numbers.now) i (i + n) sum_levels }
-    ensures { OfOne (book kinds.now insides.now numbers.now) i (i + n) sum_levels (λ s. Gives entries_in (of_sum s) out.old out.new result) }
+pub fn put_out(book: &Book, i: usize, n: usize, out: &mut [u8]) -> Answer
+    requires { (n ≤ sum_entries) × Held (seen book.now) i (i + n) sum_levels }
+    ensures { OfOne (seen book.now) i (i + n) sum_levels (λ s. Gives entries_in (of_sum s) out.old out.new result) }
 {
     let room = sums::bytes::count_entries(out);
     if room < n {
         return Answer::Refused(Refusal::OutputRoom, 0);
     }
-    sums::bytes::put_sum(kinds, insides, numbers, i, n, out);
+    sums::bytes::put_sum(book, i, n, out);
     Answer::Done(n)
 }
 
 // Its derivative.
-pub fn derive(
-    kinds: &mut [u8],
-    insides: &mut [u8],
-    numbers: &mut [[u64; 3]],
-    i: usize,
-    n: usize,
-    w: usize,
-    out: &mut [u8],
-) -> Answer
-    requires { Source (book kinds.old insides.old numbers.old) i n w × Room (book kinds.old insides.old numbers.old) (w + (sum_entries + sum_entries)) }
-    ensures { OfOne (book kinds.old insides.old numbers.old) i (i + n) sum_levels (λ s. Gives entries_in (derive s) out.old out.new result) }
+#[tactic(auto, unfolding(crate::specs::Answer::Making::derive))]
+pub fn derive(book: &mut Book, i: usize, n: usize, w: usize, out: &mut [u8]) -> Answer
+    requires { Source (seen book.old) i n w × Room (seen book.old) (w + (sum_entries + sum_entries)) }
+    ensures { OfOne (seen book.old) i (i + n) sum_levels (λ s. Gives entries_in (derive s) out.old out.new result) }
 {
-    match calculus::derivative::expr_deriv(kinds, insides, numbers, i, n, w) {
-        Formed::Refused(q) => Answer::Refused(q, 0),
-        Formed::Done(m) => put_out(kinds, insides, numbers, w, m, out),
+    match calculus::derivative::expr_deriv(book, i, n, w) {
+        Err(q) => Answer::Refused(q, 0),
+        Ok(m) => put_out(book, w, m, out),
     }
 }
 
 // Its integral.
-pub fn integrate(
-    kinds: &mut [u8],
-    insides: &mut [u8],
-    numbers: &mut [[u64; 3]],
-    i: usize,
-    n: usize,
-    w: usize,
-    out: &mut [u8],
-) -> Answer
-    requires { Source (book kinds.old insides.old numbers.old) i n w × Room (book kinds.old insides.old numbers.old) (w + (sum_entries + sum_entries)) }
-    ensures { OfOne (book kinds.old insides.old numbers.old) i (i + n) sum_levels (λ s. Gives entries_in (integrate s) out.old out.new result) }
+#[tactic(auto, unfolding(crate::specs::Answer::Making::integrate))]
+pub fn integrate(book: &mut Book, i: usize, n: usize, w: usize, out: &mut [u8]) -> Answer
+    requires { Source (seen book.old) i n w × Room (seen book.old) (w + (sum_entries + sum_entries)) }
+    ensures { OfOne (seen book.old) i (i + n) sum_levels (λ s. Gives entries_in (integrate s) out.old out.new result) }
 {
-    match calculus::integral::expr_integral(kinds, insides, numbers, i, n, w) {
-        Formed::Refused(q) => Answer::Refused(q, 0),
-        Formed::Done(m) => put_out(kinds, insides, numbers, w, m, out),
+    match calculus::integral::expr_integral(book, i, n, w) {
+        Err(q) => Answer::Refused(q, 0),
+        Ok(m) => put_out(book, w, m, out),
     }
 }
 
 // The sum as a list, by either writer.
 fn list_by(
     writer: Writer,
-    kinds: &[u8],
-    insides: &[u8],
-    numbers: &[[u64; 3]],
+    book: &Book,
     i: usize,
     n: usize,
     complex: bool,
     out: &mut [u8],
-) -> Wrote
-    requires { (n ≤ sum_entries) × Held (book kinds.now insides.now numbers.now) i (i + n) sum_levels }
-    ensures { OfOne (book kinds.now insides.now numbers.now) i (i + n) sum_levels (λ s. Answered out.old out.new result (list_by writer complex s)) }
+) -> Result<usize, Refusal>
+    requires { (n ≤ sum_entries) × Held (seen book.now) i (i + n) sum_levels }
+    ensures { OfOne (seen book.now) i (i + n) sum_levels (λ s. Answered out.old out.new result (list_by writer complex s)) }
 {
     match writer {
-        Writer::AsRust => writing::expr_to_node(kinds, insides, numbers, i, n, complex, out),
-        Writer::Faithful => {
-            writing::faithful::expr_to_node(kinds, insides, numbers, i, n, complex, out)
-        }
+        Writer::AsRust => writing::expr_to_node(book, i, n, complex, out),
+        Writer::Faithful => { writing::faithful::expr_to_node(book, i, n, complex, out) }
     }
 }
 
 // The same, answered.
 pub fn write_sum(
     writer: Writer,
-    kinds: &[u8],
-    insides: &[u8],
-    numbers: &[[u64; 3]],
+    book: &Book,
     i: usize,
     n: usize,
     complex: bool,
     out: &mut [u8],
 ) -> Answer
-    requires { (n ≤ sum_entries) × Held (book kinds.now insides.now numbers.now) i (i + n) sum_levels }
-    ensures { OfOne (book kinds.now insides.now numbers.now) i (i + n) sum_levels (λ s. Gives records_in (write_by writer complex s) out.old out.new result) }
+    requires { (n ≤ sum_entries) × Held (seen book.now) i (i + n) sum_levels }
+    ensures { OfOne (seen book.now) i (i + n) sum_levels (λ s. Gives records_in (write_by writer complex s) out.old out.new result) }
 {
-    let wrote = list_by(writer, kinds, insides, numbers, i, n, complex, out);
+    let wrote = list_by(writer, book, i, n, complex, out);
     answer_of(wrote)
 }
 
 // Its derivative as a list.
+#[tactic(auto, unfolding(crate::specs::Answer::Making::derive_and_write, crate::specs::Answer::Making::derive_and_write_faithful))]
 pub fn derive_and_write(
     writer: Writer,
-    kinds: &mut [u8],
-    insides: &mut [u8],
-    numbers: &mut [[u64; 3]],
+    book: &mut Book,
     i: usize,
     n: usize,
     w: usize,
     complex: bool,
     out: &mut [u8],
 ) -> Answer
-    requires { Source (book kinds.old insides.old numbers.old) i n w × Room (book kinds.old insides.old numbers.old) (w + (sum_entries + sum_entries)) }
-    ensures { OfOne (book kinds.old insides.old numbers.old) i (i + n) sum_levels (λ s. Gives records_in (derive_and_write_by writer complex s) out.old out.new result) }
+    requires { Source (seen book.old) i n w × Room (seen book.old) (w + (sum_entries + sum_entries)) }
+    ensures { OfOne (seen book.old) i (i + n) sum_levels (λ s. Gives records_in (derive_and_write_by writer complex s) out.old out.new result) }
 {
-    match calculus::derivative::expr_deriv(kinds, insides, numbers, i, n, w) {
-        Formed::Refused(q) => Answer::Refused(q, 0),
-        Formed::Done(m) => write_sum(writer, kinds, insides, numbers, w, m, complex, out),
+    match calculus::derivative::expr_deriv(book, i, n, w) {
+        Err(q) => Answer::Refused(q, 0),
+        Ok(m) => write_sum(writer, book, w, m, complex, out),
     }
 }
 
 // Its integral as a list.
+#[tactic(auto, unfolding(crate::specs::Answer::Making::integrate_and_write, crate::specs::Answer::Making::integrate_and_write_faithful))]
 pub fn integrate_and_write(
     writer: Writer,
-    kinds: &mut [u8],
-    insides: &mut [u8],
-    numbers: &mut [[u64; 3]],
+    book: &mut Book,
     i: usize,
     n: usize,
     w: usize,
     complex: bool,
     out: &mut [u8],
 ) -> Answer
-    requires { Source (book kinds.old insides.old numbers.old) i n w × Room (book kinds.old insides.old numbers.old) (w + (sum_entries + sum_entries)) }
-    ensures { OfOne (book kinds.old insides.old numbers.old) i (i + n) sum_levels (λ s. Gives records_in (integrate_and_write_by writer complex s) out.old out.new result) }
+    requires { Source (seen book.old) i n w × Room (seen book.old) (w + (sum_entries + sum_entries)) }
+    ensures { OfOne (seen book.old) i (i + n) sum_levels (λ s. Gives records_in (integrate_and_write_by writer complex s) out.old out.new result) }
 {
-    match calculus::integral::expr_integral(kinds, insides, numbers, i, n, w) {
-        Formed::Refused(q) => Answer::Refused(q, 0),
-        Formed::Done(m) => write_sum(writer, kinds, insides, numbers, w, m, complex, out),
+    match calculus::integral::expr_integral(book, i, n, w) {
+        Err(q) => Answer::Refused(q, 0),
+        Ok(m) => write_sum(writer, book, w, m, complex, out),
     }
 }
 
 // The list that undoes it.
-pub fn invert(
-    kinds: &[u8],
-    insides: &[u8],
-    numbers: &[[u64; 3]],
-    i: usize,
-    n: usize,
-    complex: bool,
-    out: &mut [u8],
-) -> Answer
-    requires { (n ≤ sum_entries) × Held (book kinds.now insides.now numbers.now) i (i + n) sum_levels }
-    ensures { OfOne (book kinds.now insides.now numbers.now) i (i + n) sum_levels (λ s. Gives records_in (invert complex s) out.old out.new result) }
+#[tactic(auto, unfolding(crate::specs::Answer::Making::invert))]
+pub fn invert(book: &Book, i: usize, n: usize, complex: bool, out: &mut [u8]) -> Answer
+    requires { (n ≤ sum_entries) × Held (seen book.now) i (i + n) sum_levels }
+    ensures { OfOne (seen book.now) i (i + n) sum_levels (λ s. Gives records_in (invert complex s) out.old out.new result) }
 {
-    let wrote = inverse::algebraic_inverse(kinds, insides, numbers, i, n, complex, out);
+    let wrote = inverse::algebraic_inverse(book, i, n, complex, out);
     answer_of(wrote)
 }

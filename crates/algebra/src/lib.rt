@@ -15,13 +15,10 @@ ghost use Rattle.algebra.specs.Replies as entry;
 
 use crate::answer::{Answer, Numbers, Writer};
 use crate::lists::Wanted;
+use cells::Book;
 use limits::{Refusal, SUM_ENTRIES};
-use reading::cost::CostAnswer;
-use running::RunAnswer;
+use running::{RunValue, Stopped};
 use stack::slots::WORKING;
-use sums::entry::Taken;
-use values::ValueAnswer;
-use values::powers::Quick;
 
 // What `read` answers: a sum of so many entries, with the complex flag and the pairs multiplied, or a refusal with its place.
 #[derive(Clone, Copy)]
@@ -62,6 +59,7 @@ pub fn read(list: &[u8], out: &mut [u8]) -> ReadAnswer
 }
 
 // From a list to the list of its derivative.
+#[tactic(auto, unfolding(crate::specs::Entries::derivative))]
 pub fn derivative(list: &[u8], out: &mut [u8]) -> Answer
     ensures { Promised entry.derivative list.now out.old out.new (of_answer result) }
 {
@@ -69,6 +67,7 @@ pub fn derivative(list: &[u8], out: &mut [u8]) -> Answer
 }
 
 // From a list to the list of its integral.
+#[tactic(auto, unfolding(crate::specs::Entries::integral))]
 pub fn integral(list: &[u8], out: &mut [u8]) -> Answer
     ensures { Promised entry.integral list.now out.old out.new (of_answer result) }
 {
@@ -76,6 +75,7 @@ pub fn integral(list: &[u8], out: &mut [u8]) -> Answer
 }
 
 // From a list to a list that means what its derivative says.
+#[tactic(auto, unfolding(crate::specs::Entries::derivative_faithful))]
 pub fn derivative_faithful(list: &[u8], out: &mut [u8]) -> Answer
     ensures { Promised entry.derivative_faithful list.now out.old out.new (of_answer result) }
 {
@@ -83,6 +83,7 @@ pub fn derivative_faithful(list: &[u8], out: &mut [u8]) -> Answer
 }
 
 // From a list to a list that means what its integral says.
+#[tactic(auto, unfolding(crate::specs::Entries::integral_faithful))]
 pub fn integral_faithful(list: &[u8], out: &mut [u8]) -> Answer
     ensures { Promised entry.integral_faithful list.now out.old out.new (of_answer result) }
 {
@@ -90,6 +91,7 @@ pub fn integral_faithful(list: &[u8], out: &mut [u8]) -> Answer
 }
 
 // From a list to the list that undoes it.
+#[tactic(auto, unfolding(crate::specs::Entries::inverse))]
 pub fn inverse(list: &[u8], out: &mut [u8]) -> Answer
     ensures { Promised entry.inverse list.now out.old out.new (of_answer result) }
 {
@@ -108,18 +110,15 @@ pub fn derive(sum: &[u8], out: &mut [u8]) -> Answer
     let mut kinds = [0u8; SUM_PLACES];
     let mut insides = [0u8; SUM_PLACES];
     let mut numbers = [[0u64; 3]; SUM_PLACES];
-    let taken = sums::bytes::take_in(&mut kinds, &mut insides, &mut numbers, sum);
+    let mut book = Book {
+        kinds: &mut kinds,
+        insides: &mut insides,
+        numbers: &mut numbers,
+    };
+    let taken = sums::bytes::take_in(&mut book, sum);
     match taken {
-        Taken::Refused(q) => Answer::Refused(q, 0),
-        Taken::Sum(n) => crate::answer::derive(
-            &mut kinds,
-            &mut insides,
-            &mut numbers,
-            0,
-            n,
-            SUM_ENTRIES,
-            out,
-        ),
+        Err(q) => Answer::Refused(q, 0),
+        Ok(n) => crate::answer::derive(&mut book, 0, n, SUM_ENTRIES, out),
     }
 }
 
@@ -130,18 +129,15 @@ pub fn integrate(sum: &[u8], out: &mut [u8]) -> Answer
     let mut kinds = [0u8; SUM_PLACES];
     let mut insides = [0u8; SUM_PLACES];
     let mut numbers = [[0u64; 3]; SUM_PLACES];
-    let taken = sums::bytes::take_in(&mut kinds, &mut insides, &mut numbers, sum);
+    let mut book = Book {
+        kinds: &mut kinds,
+        insides: &mut insides,
+        numbers: &mut numbers,
+    };
+    let taken = sums::bytes::take_in(&mut book, sum);
     match taken {
-        Taken::Refused(q) => Answer::Refused(q, 0),
-        Taken::Sum(n) => crate::answer::integrate(
-            &mut kinds,
-            &mut insides,
-            &mut numbers,
-            0,
-            n,
-            SUM_ENTRIES,
-            out,
-        ),
+        Err(q) => Answer::Refused(q, 0),
+        Ok(n) => crate::answer::integrate(&mut book, 0, n, SUM_ENTRIES, out),
     }
 }
 
@@ -152,12 +148,15 @@ fn write_by(writer: Writer, sum: &[u8], complex: bool, out: &mut [u8]) -> Answer
     let mut kinds = [0u8; SUM_PLACES];
     let mut insides = [0u8; SUM_PLACES];
     let mut numbers = [[0u64; 3]; SUM_PLACES];
-    let taken = sums::bytes::take_in(&mut kinds, &mut insides, &mut numbers, sum);
+    let mut book = Book {
+        kinds: &mut kinds,
+        insides: &mut insides,
+        numbers: &mut numbers,
+    };
+    let taken = sums::bytes::take_in(&mut book, sum);
     match taken {
-        Taken::Refused(q) => Answer::Refused(q, 0),
-        Taken::Sum(n) => crate::answer::write_sum(
-            writer, &kinds, &insides, &numbers, 0, n, complex, out,
-        ),
+        Err(q) => Answer::Refused(q, 0),
+        Ok(n) => crate::answer::write_sum(writer, &book, 0, n, complex, out),
     }
 }
 
@@ -178,34 +177,37 @@ pub fn write_faithful(sum: &[u8], complex: bool, out: &mut [u8]) -> Answer
 // ---- of a sum and a number
 
 // The value at x of a sum that is taken in. Nothing but the sum's own places is needed.
-fn value_taken(sum: &[u8], x: f64) -> ValueAnswer
+fn value_taken(sum: &[u8], x: f64) -> Result<f64, Refusal>
     ensures { ValueOfBytes sum.now x result }
 {
     let mut kinds = [0u8; SUM_ENTRIES];
     let mut insides = [0u8; SUM_ENTRIES];
     let mut numbers = [[0u64; 3]; SUM_ENTRIES];
-    let taken = sums::bytes::take_in(&mut kinds, &mut insides, &mut numbers, sum);
-    match taken {
-        Taken::Refused(q) => ValueAnswer::Refused(q),
-        Taken::Sum(n) => values::value_of(&kinds, &insides, &numbers, n, x),
-    }
+    let mut book = Book {
+        kinds: &mut kinds,
+        insides: &mut insides,
+        numbers: &mut numbers,
+    };
+    let taken = sums::bytes::take_in(&mut book, sum);
+    let n = taken?;
+    values::value_of(&book, n, x)
 }
 
 // The value at x of a sum that is handed over. No list is written, and a sum of powers of x is not taken in either.
-pub fn value(sum: &[u8], x: f64) -> ValueAnswer
+pub fn value(sum: &[u8], x: f64) -> Result<f64, Refusal>
     ensures { Promised (entry.value x) sum.now [] [] (of_value result) }
 {
     let quick = values::powers::quick_value(sum, x);
     match quick {
-        Quick::Answer(a) => a,
-        Quick::Other => value_taken(sum, x),
+        Some(a) => a,
+        None => value_taken(sum, x),
     }
 }
 
 // ---- of a list and a number
 
 // The value of a list at x, with the records run and the most values there were at once.
-pub fn run(list: &[u8], x: f64) -> RunAnswer
+pub fn run(list: &[u8], x: f64) -> Result<RunValue, Stopped>
     ensures { Promised (entry.run x) list.now [] [] (of_run result) }
 {
     running::run::run(list, x)
@@ -214,7 +216,7 @@ pub fn run(list: &[u8], x: f64) -> RunAnswer
 // ---- of a list, before it is read
 
 // How many records a reading of the list runs.
-pub fn cost(list: &[u8]) -> CostAnswer
+pub fn cost(list: &[u8]) -> Result<u64, Refusal>
     ensures { Promised entry.cost list.now [] [] (of_cost result) }
 {
     reading::cost::cost(list)

@@ -6,20 +6,20 @@ ghost use Rattle.algebra.specs.Contract.Lists.{list_held, made_by, room_by, Make
 ghost use Rattle.algebra.specs.Entries.{inverse_of};
 ghost use Rattle.algebra.specs.Reading.{read_list, flagged};
 ghost use Rattle.arithmetic.specs.Add.Contract.Operands.{Source};
-ghost use Rattle.cells.specs.Contract.Book.{book, Room};
+ghost use Rattle.cells.specs.Contract.Book.{seen, Room};
 ghost use Rattle.formats.specs.Tree.{records_in};
 ghost use Rattle.limits.specs.Limits.{sum_entries, sum_levels};
 ghost use Rattle.modifiers.specs.Reading.{Read, done, refused_at};
 ghost use Rattle.reading.specs.Contract.Data.{Reaches, DataAs};
-ghost use Rattle.stack.specs.Contract.Arena.{arena, working, places};
+ghost use Rattle.stack.specs.Contract.Arena.{slots, working, places};
 ghost use Rattle.sums.specs.Contract.Lies.{Held, OfOne};
 
 use crate::ReadAnswer;
 use crate::answer::{Answer, Writer};
-use formats::record::Verdict;
+use cells::Book;
 use limits::{LAST_REPLACED, Refusal};
 use reading::env::AlgebraData;
-use stack::slots::{ARENA, SMALL_ARENA, WORKING};
+use stack::slots::{ARENA, Arena, SMALL_ARENA, WORKING};
 
 // What is made of the sum that a list stands for.
 #[derive(Clone, Copy)]
@@ -31,20 +31,14 @@ pub enum Wanted {
 }
 
 // The sum that a list stands for, read in an arena of `top` places: 11 and 13 come first, over the whole list.
-fn read_sum(
-    list: &[u8],
-    kinds: &mut [u8],
-    insides: &mut [u8],
-    numbers: &mut [[u64; 3]],
-    sizes: &mut [u8],
-    top: usize,
-) -> AlgebraData
-    requires { Reaches (arena kinds.old insides.old numbers.old sizes.old) top }
-    ensures { DataAs result (book kinds.new insides.new numbers.new) (list_held (places - top) list.now) }
+#[tactic(auto, unfolding(crate::specs::Contract::Lists::list_held))]
+fn read_sum(list: &[u8], arena: &mut Arena, top: usize) -> AlgebraData
+    requires { Reaches (slots arena.old) top }
+    ensures { DataAs result (seen arena.new.book) (list_held (places - top) list.now) }
 {
     match formats::rules::check(list) {
-        Verdict::Refused(q) => AlgebraData::Refused(q, 0, false),
-        Verdict::Good => reading::env::nodes_expr(list, kinds, insides, numbers, sizes, top),
+        Err(q) => AlgebraData::Refused(q, 0, false),
+        Ok(()) => reading::env::nodes_expr(list, arena, top),
     }
 }
 
@@ -76,49 +70,39 @@ fn refuse(w: Wanted, q: Refusal, at: usize, handled: bool) -> Answer
 }
 
 // The list that undoes the sum of the first n cells, where what was read counts as handled.
-fn invert_read(
-    kinds: &[u8],
-    insides: &[u8],
-    numbers: &[[u64; 3]],
-    n: usize,
-    complex: bool,
-    handled: bool,
-    out: &mut [u8],
-) -> Answer
-    requires { (n ≤ sum_entries) × Held (book kinds.now insides.now numbers.now) working (working + n) sum_levels }
-    ensures { OfOne (book kinds.now insides.now numbers.now) working (working + n) sum_levels
+fn invert_read(book: &Book, n: usize, complex: bool, handled: bool, out: &mut [u8]) -> Answer
+    requires { (n ≤ sum_entries) × Held (seen book.now) working (working + n) sum_levels }
+    ensures { OfOne (seen book.now) working (working + n) sum_levels
         (λ s. (pairs : ℕ) → Gives records_in (inverse_of (done s complex handled pairs)) out.old out.new result) }
 {
     if !handled {
         return Answer::Refused(Refusal::NotHandled, 0);
     }
-    crate::answer::invert(kinds, insides, numbers, WORKING, n, complex, out)
+    crate::answer::invert(book, WORKING, n, complex, out)
 }
 
 // What is made of the sum of the first n cells.
 fn make(
     w: Wanted,
-    kinds: &mut [u8],
-    insides: &mut [u8],
-    numbers: &mut [[u64; 3]],
+    book: &mut Book,
     n: usize,
     complex: bool,
     handled: bool,
     out: &mut [u8],
 ) -> Answer
-    requires { Source (book kinds.old insides.old numbers.old) working n 0 × Room (book kinds.old insides.old numbers.old) (0 + (sum_entries + sum_entries)) }
-    ensures { OfOne (book kinds.old insides.old numbers.old) working (working + n) sum_levels
+    requires { Source (seen book.old) working n 0 × Room (seen book.old) (0 + (sum_entries + sum_entries)) }
+    ensures { OfOne (seen book.old) working (working + n) sum_levels
         (λ s. (pairs : ℕ) → Gives (room_by w) (made_by w (done s complex handled pairs)) out.old out.new result) }
 {
     match w {
-        Wanted::Sum => crate::answer::put_out(kinds, insides, numbers, WORKING, n, out),
+        Wanted::Sum => crate::answer::put_out(book, WORKING, n, out),
         Wanted::Derivative(writer) => crate::answer::derive_and_write(
-            writer, kinds, insides, numbers, WORKING, n, 0, complex, out,
+            writer, book, WORKING, n, 0, complex, out,
         ),
         Wanted::Integral(writer) => crate::answer::integrate_and_write(
-            writer, kinds, insides, numbers, WORKING, n, 0, complex, out,
+            writer, book, WORKING, n, 0, complex, out,
         ),
-        Wanted::Inverse => invert_read(kinds, insides, numbers, n, complex, handled, out),
+        Wanted::Inverse => invert_read(book, n, complex, handled, out),
     }
 }
 
@@ -143,21 +127,14 @@ fn unflagged(a: ReadAnswer) -> Answer
 }
 
 // What is made of what was read.
-fn make_of(
-    w: Wanted,
-    got: AlgebraData,
-    kinds: &mut [u8],
-    insides: &mut [u8],
-    numbers: &mut [[u64; 3]],
-    out: &mut [u8],
-) -> ReadAnswer
-    requires { (x : Read) × DataAs got (book kinds.old insides.old numbers.old) x }
-    ensures { (x : Read) → DataAs got (book kinds.old insides.old numbers.old) x → Makes w x out.old out.new result }
+fn make_of(w: Wanted, got: AlgebraData, book: &mut Book, out: &mut [u8]) -> ReadAnswer
+    requires { (x : Read) × DataAs got (seen book.old) x }
+    ensures { (x : Read) → DataAs got (seen book.old) x → Makes w x out.old out.new result }
 {
     match got {
         AlgebraData::Refused(q, at, handled) => flagged(false, 0, refuse(w, q, at, handled)),
         AlgebraData::Sum(n, complex, handled, pairs) => {
-            let answer = make(w, kinds, insides, numbers, n, complex, handled, out);
+            let answer = make(w, book, n, complex, handled, out);
             flagged(complex, pairs, answer)
         }
     }
@@ -173,15 +150,16 @@ fn make_in_small(w: Wanted, list: &[u8], out: &mut [u8]) -> ReadAnswer
     let mut insides = [0u8; SMALL_ARENA];
     let mut numbers = [[0u64; 3]; SMALL_ARENA];
     let mut sizes = [0u8; SMALL_ARENA];
-    let data = read_sum(
-        list,
-        &mut kinds,
-        &mut insides,
-        &mut numbers,
-        &mut sizes,
-        SMALL_ARENA,
-    );
-    make_of(w, data, &mut kinds, &mut insides, &mut numbers, out)
+    let mut arena = Arena {
+        book: Book {
+            kinds: &mut kinds,
+            insides: &mut insides,
+            numbers: &mut numbers,
+        },
+        sizes: &mut sizes,
+    };
+    let data = read_sum(list, &mut arena, SMALL_ARENA);
+    make_of(w, data, &mut arena.book, out)
 }
 
 // What is made of a list that is read in the whole arena.
@@ -192,15 +170,16 @@ fn make_in_whole(w: Wanted, list: &[u8], out: &mut [u8]) -> ReadAnswer
     let mut insides = [0u8; ARENA];
     let mut numbers = [[0u64; 3]; ARENA];
     let mut sizes = [0u8; ARENA];
-    let data = read_sum(
-        list,
-        &mut kinds,
-        &mut insides,
-        &mut numbers,
-        &mut sizes,
-        ARENA,
-    );
-    make_of(w, data, &mut kinds, &mut insides, &mut numbers, out)
+    let mut arena = Arena {
+        book: Book {
+            kinds: &mut kinds,
+            insides: &mut insides,
+            numbers: &mut numbers,
+        },
+        sizes: &mut sizes,
+    };
+    let data = read_sum(list, &mut arena, ARENA);
+    make_of(w, data, &mut arena.book, out)
 }
 
 // Whether a first try was refused with 12. It may be for the small arena alone, or for a sum that is too large in any: so that 12 is never told, and the second try's is.

@@ -9,8 +9,8 @@ use lib.Ieee.{Float, eq}
 use borrow.Author.Tests.{eqb-true, ne_eqb}
 use Rattle.numbers.specs.Ops.{◌⊕◌, ◌⊗◌}
 use Rattle.numbers.specs.Signs.{zero64, one64}
-use Rattle.numbers.specs.declared.Ordering.{Ordering}
-use Rattle.numbers.specs.declared.Ordering.TheVariants.{Less, Equal, Greater}
+use Rattle.std.specs.declared.cmp.Ordering.{Ordering}
+use Rattle.std.specs.declared.cmp.Ordering.TheVariants.{Less, Equal, Greater}
 use Rattle.numbers.specs.declared.complex.Complex.{Complex}
 use Rattle.numbers.specs.Complex.Arith as complex
 use Rattle.cells.specs.declared.Entry.{Entry}
@@ -300,7 +300,9 @@ row-x k f g (and l q j d c) e h =
 pair-div : (l : ℕ) (g : Sum → Bool) (u : Sum) → pairable l g Div u ≡ true → g u ≡ true
 pair-div l g u h = go (eqb l X) (eqb l Div) h
   where
-    go : (a b : Bool) → (let code = cond (a && false) add_powers (cond (b && true) mul_insides no_product) in cond (eqb code add_powers) true (cond (eqb code mul_insides) (g u) false)) ≡ true → g u ≡ true
+    go : (a b : Bool)
+        → (let code = cond (a && false) add_powers (cond (b && true) mul_insides no_product) in cond (eqb code add_powers) true (cond (eqb code mul_insides) (g u) false)) ≡ true
+        → g u ≡ true
     go true true h = h
     go true false h = differ (sym h)
     go false true h = h

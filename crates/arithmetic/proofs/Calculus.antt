@@ -11,8 +11,8 @@ use lib.Ieee.Scale.{finite}
 use borrow.Author.Tests.{eqb-true, eq-eqb}
 use Rattle.numbers.specs.Ops.{◌⊕◌}
 use Rattle.numbers.specs.Order.{cmp_num}
-use Rattle.numbers.specs.declared.Ordering.{Ordering}
-use Rattle.numbers.specs.declared.Ordering.TheVariants.{Less, Equal, Greater}
+use Rattle.std.specs.declared.cmp.Ordering.{Ordering}
+use Rattle.std.specs.declared.cmp.Ordering.TheVariants.{Less, Equal, Greater}
 use Rattle.numbers.proofs.Bools.{T_of}
 use Rattle.numbers.proofs.Order.{cmp-equal-eq, eq-symmetric, then-equal-both}
 use Rattle.numbers.specs.declared.complex.Complex.{Complex}

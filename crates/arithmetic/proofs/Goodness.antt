@@ -9,14 +9,13 @@ use lib.Ieee.Bits.{of_bits-fits}
 use lib.Ieee.Fits.{and_i, and_l, and_r, add-fits, sub-fits, mul-fits, neg-fits, cond-fits}
 use lib.Ieee.Scale.{finite}
 use borrow.Author.Tests.{eqb-true}
+use Rattle.std.specs.Prelude.{Option, Some, None}
 use Rattle.numbers.specs.Constants.{euler}
 use Rattle.numbers.specs.Numbers.{is_whole, small_whole}
 use Rattle.numbers.specs.Ops.{◌⊕◌, ◌⊖◌, ◌⊗◌}
 use Rattle.numbers.specs.Signs.{zero64, one64}
-use Rattle.numbers.specs.declared.Ordering.{Ordering}
-use Rattle.numbers.specs.declared.Ordering.TheVariants.{Less, Equal, Greater}
-use Rattle.numbers.specs.declared.SmallWhole.{SmallWhole}
-use Rattle.numbers.specs.declared.SmallWhole.TheVariants.{Is, Other}
+use Rattle.std.specs.declared.cmp.Ordering.{Ordering}
+use Rattle.std.specs.declared.cmp.Ordering.TheVariants.{Less, Equal, Greater}
 use Rattle.numbers.proofs.Finite.{neg-finite}
 use Rattle.numbers.proofs.Values.{bits-0}
 use Rattle.numbers.specs.declared.complex.Complex.{Complex}
@@ -36,8 +35,7 @@ use Rattle.arithmetic.specs.Singles.{GoodSum, is_one, single, alone, constant, a
 use Rattle.arithmetic.specs.Adding.{neg_sum, add_sums, sub_sums}
 use Rattle.arithmetic.specs.Product.{pairable, rowable, mulable, mul_term, mul_into, product}
 use Rattle.arithmetic.specs.Quotient.{x_to, all_divable, add_times, div_term, div_by_several, quotient}
-use Rattle.arithmetic.specs.Power.{raised, whole_power, rootable, unit_coefs, root_of_one, rooted, power, by_real, is_euler, pow, log, number, sqrt, exp, exp2, exp10, ln, log2}
-use Rattle.arithmetic.specs.Power.{log10, reciprocal, not_sum, complex_of, complex_sum}
+use Rattle.arithmetic.specs.Power.{raised, whole_power, rootable, unit_coefs, root_of_one, rooted, power, by_real, is_euler, pow, log, number, sqrt, exp, exp2, exp10, ln, log2, log10, reciprocal, not_sum, complex_of, complex_sum}
 use Rattle.arithmetic.proofs.Steps.{never, differ, and_both, sum_is, then-sum, unless-sum, either}
 
 -- ---- coefficients that fit
@@ -411,10 +409,10 @@ raised-good (suc n) {acc} {s} {r} a b h =
     let w = then-sum (product acc s) (λ acc'. raised n acc' s) r h in
     raised-good n (good-product a b w.1) b w.2
 
-whole-good : (s r : Sum) (n : SmallWhole) → GoodSum s → whole_power s n ≡ sum r → GoodSum r
-whole-good s r (Is zero) g h = subst GoodSum (sum_is h) good-zero
-whole-good s r (Is (suc n)) g h = raised-good n g g h
-whole-good s r Other g h = never (unless-sum (mulable s s) TooComplex (refused BigPower) r h).1
+whole-good : (s r : Sum) (n : Option ℕ) → GoodSum s → whole_power s n ≡ sum r → GoodSum r
+whole-good s r (Some zero) g h = subst GoodSum (sum_is h) good-zero
+whole-good s r (Some (suc n)) g h = raised-good n g g h
+whole-good s r None g h = never (unless-sum (mulable s s) TooComplex (refused BigPower) r h).1
 
 root-fits : (c : Complex) (e : Float) → Fits (root_of_one c e)
 root-fits c e = record { re = of_bits-fits binary64 _; im = cond-fits binary64 (is_whole e) zero64 (c.im ⊗ e) (of_bits-fits binary64 0) (mul-fits binary64 c.im e) }

@@ -7,10 +7,9 @@ use mathlib.Core.Bool.{Bool, true, false, ◌&&◌, cond}
 use mathlib.Core.List.{List, [], ◌∷◌, ◌++◌}
 use lib.ListN.{length, length-append}
 use lib.Ieee.{Float, le}
+use Rattle.std.specs.Prelude.{Option, Some, None}
 use Rattle.numbers.specs.Numbers.{is_whole, small_whole}
 use Rattle.numbers.specs.Signs.{zero64}
-use Rattle.numbers.specs.declared.SmallWhole.{SmallWhole}
-use Rattle.numbers.specs.declared.SmallWhole.TheVariants.{Is, Other}
 use Rattle.numbers.specs.Complex.Arith as complex
 use Rattle.numbers.proofs.Wholes.{small-whole}
 use Rattle.cells.specs.declared.Entry.{Entry}
@@ -124,10 +123,10 @@ raised-pairs-most (suc n) {acc} {s} g h = go (product acc s) refl (λ u k. raise
     go (sum u) e ih = omega (arith, pairs-most g h, ih u (good-product g h e))
     go (refused q) e ih = omega (arith, pairs-most g h)
 
-whole-pairs-most : {s : Sum} (k : SmallWhole) → GoodSum s → ((n : ℕ) → k ≡ Is n → n ≤ 64) → whole_pairs s k ≤ 258048
-whole-pairs-most (Is zero) g h = omega arith
-whole-pairs-most {s} (Is (suc n)) g h = omega (arith, raised-pairs-most n {acc = s} g g, h (suc n) refl)
-whole-pairs-most Other g h = omega arith
+whole-pairs-most : {s : Sum} (k : Option ℕ) → GoodSum s → ((n : ℕ) → k ≡ Some n → n ≤ 64) → whole_pairs s k ≤ 258048
+whole-pairs-most (Some zero) g h = omega arith
+whole-pairs-most {s} (Some (suc n)) g h = omega (arith, raised-pairs-most n {acc = s} g g, h (suc n) refl)
+whole-pairs-most None g h = omega arith
 
 -- a good sum to the power of a number
 pub power-pairs-most : {s : Sum} (e : Float) → GoodSum s → power_pairs s e ≤ 258048

@@ -1,10 +1,8 @@
 -- How many pairs of outermost terms a product and a power multiply: one for each pair that the product's definition tries, whether its key is new or not.
-use Rattle.std.specs.Prelude.{ℕ, zero, suc, ◌+◌, ◌&&◌, cond, List, [], ◌∷◌, ◌++◌, Float}
+use Rattle.std.specs.Prelude.{ℕ, zero, suc, ◌+◌, ◌&&◌, cond, List, [], ◌∷◌, ◌++◌, Float, Option, Some, None}
 use Rattle.std.specs.Float.Ieee.{le}
 use Rattle.numbers.specs.Numbers.{is_whole, small_whole}
 use Rattle.numbers.specs.Signs.{zero64}
-use Rattle.numbers.specs.declared.SmallWhole.{SmallWhole}
-use Rattle.numbers.specs.declared.SmallWhole.TheVariants.{Is, Other}
 use Rattle.numbers.specs.Complex.Arith as complex
 use Rattle.cells.specs.declared.Entry.{Entry}
 use Rattle.sums.specs.Tree.Sums.{Sum, none, and, size, entry}
@@ -34,10 +32,10 @@ raised_pairs zero acc s = 0
 raised_pairs (suc n) acc s = pairs acc s + unless_refused (product acc s) (λ acc'. raised_pairs n acc' s)
 
 -- by a whole number n - 1 products; 0 and what is above highest_power have none
-abbrev pub whole_pairs : Sum → SmallWhole → ℕ
-whole_pairs s (Is zero) = 0
-whole_pairs s (Is (suc n)) = raised_pairs n s s
-whole_pairs s Other = 0
+abbrev pub whole_pairs : Sum → Option ℕ → ℕ
+whole_pairs s (Some zero) = 0
+whole_pairs s (Some (suc n)) = raised_pairs n s s
+whole_pairs s None = 0
 
 -- a root multiplies nothing
 abbrev pub power_pairs : Sum → Float → ℕ

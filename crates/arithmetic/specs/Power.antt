@@ -1,13 +1,11 @@
 -- The Rust's power and logarithm of a sum, and the primitives that are made of them.
-use Rattle.std.specs.Prelude.{ℕ, zero, suc, Bool, true, false, ◌&&◌, not, cond, eqb, Float}
+use Rattle.std.specs.Prelude.{ℕ, zero, suc, Bool, true, false, ◌&&◌, not, cond, eqb, Float, Option, Some, None}
 use Rattle.std.specs.Float.Ieee.{le, of_bits}
 use Rattle.std.specs.Float.{binary64}
 use Rattle.numbers.specs.Constants.{euler}
 use Rattle.numbers.specs.Numbers.{is_whole, small_whole}
 use Rattle.numbers.specs.Ops.{◌⊗◌}
 use Rattle.numbers.specs.Signs.{zero64, one64}
-use Rattle.numbers.specs.declared.SmallWhole.{SmallWhole}
-use Rattle.numbers.specs.declared.SmallWhole.TheVariants.{Is, Other}
 use Rattle.numbers.specs.declared.complex.Complex.{Complex}
 use Rattle.numbers.specs.Complex.Arith as complex
 use Rattle.limits.specs.declared.Refusal.TheVariants.{TooComplex, NeedsMath, BigPower}
@@ -25,10 +23,10 @@ raised zero acc s = sum acc
 raised (suc n) acc s = and_then_sum (product acc s) (λ acc'. raised n acc' s)
 
 -- by a whole number: 0 gives constant 0; n multiplies n - 1 times, to highest_power; above that the first product is still asked for 7
-abbrev pub whole_power : Sum → SmallWhole → Outcome
-whole_power s (Is zero) = sum (constant complex.zero)
-whole_power s (Is (suc n)) = raised n s s
-whole_power s Other = unless (mulable s s) TooComplex (refused BigPower)
+abbrev pub whole_power : Sum → Option ℕ → Outcome
+whole_power s (Some zero) = sum (constant complex.zero)
+whole_power s (Some (suc n)) = raised n s s
+whole_power s None = unless (mulable s s) TooComplex (refused BigPower)
 
 -- by any other number: one term only, an X or a Div of such a sum
 unfoldable pub rootable : Sum → Bool

@@ -3,7 +3,7 @@
 ghost use Rattle.std.specs.Prelude.{◌≡◌, ◌+◌};
 ghost use Rattle.limits.specs.Limits.{sum_entries, sum_levels};
 ghost use Rattle.numbers.specs.Signs.{zero64};
-ghost use Rattle.cells.specs.Contract.Book.{book, Room};
+ghost use Rattle.cells.specs.Contract.Book.{seen, Room};
 ghost use Rattle.cells.specs.Contract.Moves.{Apart, Kept};
 ghost use Rattle.sums.specs.Tree.Kinds.{X};
 ghost use Rattle.sums.specs.Tree.Sums.{none};
@@ -15,17 +15,10 @@ ghost use Rattle.sums.specs.Contract.Heads.{GoodHead};
 ghost use Rattle.arithmetic.specs.Add.Contract.Operands.{Operand, Growing, constant_of};
 
 use crate::Change;
-use cells::Entry;
+use cells::{Book, Entry};
+use limits::Refusal;
 use numbers::complex::Complex;
-use sums::order::Formed;
 use sums::tree::Merge;
-
-// The coefficient of a sum that is a constant.
-#[derive(Clone, Copy)]
-pub enum Constant {
-    Is(Complex),
-    Other,
-}
 
 // Whether the term is x to the 0, which is 1.
 pub fn is_one(x: Entry) -> bool
@@ -35,199 +28,157 @@ pub fn is_one(x: Entry) -> bool
 }
 
 // The coefficient of the sum of n cells from i on, if it is a constant: one term, which is 1 and so has no inside.
-pub fn as_constant(
-    kinds: &[u8],
-    insides: &[u8],
-    numbers: &[[u64; 3]],
-    i: usize,
-    n: usize,
-) -> Constant
-    requires { Held (book kinds.now insides.now numbers.now) i (i + n) sum_levels }
-    ensures { OfOne (book kinds.now insides.now numbers.now) i (i + n) sum_levels (λ s. result ≡ constant_of (as_constant s)) }
+pub fn as_constant(book: &Book, i: usize, n: usize) -> Option<Complex>
+    requires { Held (seen book.now) i (i + n) sum_levels }
+    ensures { OfOne (seen book.now) i (i + n) sum_levels (λ s. result ≡ constant_of (as_constant s)) }
 {
     if n != 1 {
-        return Constant::Other;
+        return None;
     }
-    let x = cells::load(kinds, insides, numbers, i);
+    let x = book.load(i);
     let c = x.coef;
-    if is_one(x) {
-        Constant::Is(c)
-    } else {
-        Constant::Other
-    }
+    if is_one(x) { Some(c) } else { None }
 }
 
 // Whether the sum of n cells from i on is one term, and that x, whatever its coefficient.
-pub fn is_x(kinds: &[u8], insides: &[u8], numbers: &[[u64; 3]], i: usize, n: usize) -> bool
-    requires { Held (book kinds.now insides.now numbers.now) i (i + n) sum_levels }
-    ensures { OfOne (book kinds.now insides.now numbers.now) i (i + n) sum_levels (λ s. result ≡ is_x s) }
+pub fn is_x(book: &Book, i: usize, n: usize) -> bool
+    requires { Held (seen book.now) i (i + n) sum_levels }
+    ensures { OfOne (seen book.now) i (i + n) sum_levels (λ s. result ≡ is_x s) }
 {
     if n != 1 {
         return false;
     }
-    let x = cells::load(kinds, insides, numbers, i);
+    let x = book.load(i);
     (x.kind == sums::tree::X) & (x.num == 1.0)
 }
 
 // Whether any of the n cells from i on, at whatever level, is a power of x other than 0 and 1.
-pub fn is_complex(kinds: &[u8], insides: &[u8], numbers: &[[u64; 3]], i: usize, n: usize) -> bool
-    requires { Held (book kinds.now insides.now numbers.now) i (i + n) sum_levels }
-    ensures { OfOne (book kinds.now insides.now numbers.now) i (i + n) sum_levels (λ s. result ≡ is_complex s) }
+pub fn is_complex(book: &Book, i: usize, n: usize) -> bool
+    requires { Held (seen book.now) i (i + n) sum_levels }
+    ensures { OfOne (seen book.now) i (i + n) sum_levels (λ s. result ≡ is_complex s) }
 {
-    let end = i + n;
-    let mut k = i;
-    while k < end {
-        let x = cells::load(kinds, insides, numbers, k);
+    for k in i..i + n {
+        let x = book.load(k);
         if (x.kind == sums::tree::X) & (!(x.num == 0.0) & !(x.num == 1.0)) {
             return true;
         }
-        k = k + 1;
     }
     false
 }
 
 // The term x, whose inside lies from i on, is put into the sum of n cells from p on: a power of x by its kind and number alone.
 pub fn put_term(
-    kinds: &mut [u8],
-    insides: &mut [u8],
-    numbers: &mut [[u64; 3]],
+    book: &mut Book,
     how: Merge,
     x: Entry,
     i: usize,
     p: usize,
     n: usize,
-) -> Formed
-    requires good_head { GoodHead x × Held (book kinds.old insides.old numbers.old) i (i + x.inside) sum_levels × Apart i x.inside p (p + sum_entries) }
-    requires growing { Growing (book kinds.old insides.old numbers.old) p n }
-    ensures kept { Kept (book kinds.old insides.old numbers.old) (book kinds.new insides.new numbers.new) p (p + sum_entries) }
-    ensures of_two { OfTwo (book kinds.old insides.old numbers.old) p (p + n) i (i + x.inside) sum_levels (λ s t. Agrees result (book kinds.new insides.new numbers.new) p (formed how x t s)) }
+) -> Result<usize, Refusal>
+    requires good_head { GoodHead x × Held (seen book.old) i (i + x.inside) sum_levels × Apart i x.inside p (p + sum_entries) }
+    requires growing { Growing (seen book.old) p n }
+    ensures kept { Kept (seen book.old) (seen book.new) p (p + sum_entries) }
+    ensures of_two { OfTwo (seen book.old) p (p + n) i (i + x.inside) sum_levels (λ s t. Agrees result (seen book.new) p (formed how x t s)) }
 {
     if x.kind == sums::tree::X {
-        return sums::map::put_power(kinds, insides, numbers, how, x.num, x.coef, p, n);
+        return sums::map::put_power(book, how, x.num, x.coef, p, n);
     }
-    sums::map::put_block(kinds, insides, numbers, how, x, i, p, n)
+    sums::map::put_block(book, how, x, i, p, n)
 }
 
 // One term, whose inside is the sum of x.inside cells from i on, as a sum of its own.
-pub fn alone(
-    kinds: &mut [u8],
-    insides: &mut [u8],
-    numbers: &mut [[u64; 3]],
-    x: Entry,
-    i: usize,
-    p: usize,
-) -> Formed
-    requires { GoodHead x × Held (book kinds.old insides.old numbers.old) i (i + x.inside) sum_levels × Apart i x.inside p (p + sum_entries) × Room (book kinds.old insides.old numbers.old) (p + sum_entries) }
-    ensures kept { Kept (book kinds.old insides.old numbers.old) (book kinds.new insides.new numbers.new) p (p + sum_entries) }
-    ensures of_one { OfOne (book kinds.old insides.old numbers.old) i (i + x.inside) sum_levels (λ t. Agrees result (book kinds.new insides.new numbers.new) p (formed Merge.Store x t none)) }
+pub fn alone(book: &mut Book, x: Entry, i: usize, p: usize) -> Result<usize, Refusal>
+    requires { GoodHead x × Held (seen book.old) i (i + x.inside) sum_levels × Apart i x.inside p (p + sum_entries) × Room (seen book.old) (p + sum_entries) }
+    ensures kept { Kept (seen book.old) (seen book.new) p (p + sum_entries) }
+    ensures of_one { OfOne (seen book.old) i (i + x.inside) sum_levels (λ t. Agrees result (seen book.new) p (formed Merge.Store x t none)) }
 {
-    sums::map::put_block(kinds, insides, numbers, Merge::Store, x, i, p, 0)
+    sums::map::put_block(book, Merge::Store, x, i, p, 0)
 }
 
 // The constant c as a sum of its own.
-pub fn constant_sum(
-    kinds: &mut [u8],
-    insides: &mut [u8],
-    numbers: &mut [[u64; 3]],
-    c: Complex,
-    p: usize,
-) -> Formed
-    requires { Room (book kinds.old insides.old numbers.old) (p + sum_entries) }
-    ensures kept { Kept (book kinds.old insides.old numbers.old) (book kinds.new insides.new numbers.new) p (p + sum_entries) }
-    ensures agrees { Agrees result (book kinds.new insides.new numbers.new) p (alone X zero64 none c) }
+pub fn constant_sum(book: &mut Book, c: Complex, p: usize) -> Result<usize, Refusal>
+    requires { Room (seen book.old) (p + sum_entries) }
+    ensures kept { Kept (seen book.old) (seen book.new) p (p + sum_entries) }
+    ensures agrees { Agrees result (seen book.new) p (alone X zero64 none c) }
 {
-    sums::map::put_power(kinds, insides, numbers, Merge::Store, 0.0, c, p, 0)
+    sums::map::put_power(book, Merge::Store, 0.0, c, p, 0)
 }
 
 // Each entry of the sum of m cells from j on, its coefficient changed, is added into the sum of n cells from p on.
 pub fn add_each(
-    kinds: &mut [u8],
-    insides: &mut [u8],
-    numbers: &mut [[u64; 3]],
+    book: &mut Book,
     how: Change,
     j: usize,
     m: usize,
     p: usize,
     n: usize,
-) -> Formed
-    requires { Operand (book kinds.old insides.old numbers.old) j m p × Growing (book kinds.old insides.old numbers.old) p n }
-    ensures kept { Kept (book kinds.old insides.old numbers.old) (book kinds.new insides.new numbers.new) p (p + sum_entries) }
-    ensures of_two { OfTwo (book kinds.old insides.old numbers.old) p (p + n) j (j + m) sum_levels (λ s t. Agrees result (book kinds.new insides.new numbers.new) p (add_each how s t)) }
+) -> Result<usize, Refusal>
+    requires { Operand (seen book.old) j m p × Growing (seen book.old) p n }
+    ensures kept { Kept (seen book.old) (seen book.new) p (p + sum_entries) }
+    ensures of_two { OfTwo (seen book.old) p (p + n) j (j + m) sum_levels (λ s t. Agrees result (seen book.new) p (add_each how s t)) }
 {
     let end = j + m;
     let mut q = j;
     let mut len = n;
     while q < end {
-        let y = cells::load(kinds, insides, numbers, q);
+        let y = book.load(q);
         let x = Entry {
             kind: y.kind,
             inside: y.inside,
             num: y.num,
             coef: crate::change_coef(how, y.coef),
         };
-        match put_term(kinds, insides, numbers, Merge::Add, x, q + 1, p, len) {
-            Formed::Done(k) => len = k,
-            Formed::Refused(r) => return Formed::Refused(r),
-        }
+        len = put_term(book, Merge::Add, x, q + 1, p, len)?;
         q = q + 1 + y.inside as usize;
     }
-    Formed::Done(len)
+    Ok(len)
 }
 
 // The sum of n cells from i on, with that of m cells from j on added into it, its coefficients changed.
 pub fn expr_add(
-    kinds: &mut [u8],
-    insides: &mut [u8],
-    numbers: &mut [[u64; 3]],
+    book: &mut Book,
     how: Change,
     i: usize,
     n: usize,
     j: usize,
     m: usize,
     p: usize,
-) -> Formed
-    requires { Operand (book kinds.old insides.old numbers.old) i n p × Operand (book kinds.old insides.old numbers.old) j m p × Room (book kinds.old insides.old numbers.old) (p + sum_entries) }
-    ensures kept { Kept (book kinds.old insides.old numbers.old) (book kinds.new insides.new numbers.new) p (p + sum_entries) }
-    ensures of_two { OfTwo (book kinds.old insides.old numbers.old) i (i + n) j (j + m) sum_levels (λ s t. Agrees result (book kinds.new insides.new numbers.new) p (add_each how s t)) }
+) -> Result<usize, Refusal>
+    requires { Operand (seen book.old) i n p × Operand (seen book.old) j m p × Room (seen book.old) (p + sum_entries) }
+    ensures kept { Kept (seen book.old) (seen book.new) p (p + sum_entries) }
+    ensures of_two { OfTwo (seen book.old) i (i + n) j (j + m) sum_levels (λ s t. Agrees result (seen book.new) p (add_each how s t)) }
 {
-    cells::copy_within(kinds, insides, numbers, i, n, p);
-    add_each(kinds, insides, numbers, how, j, m, p, n)
+    book.copy_within(i, n, p);
+    add_each(book, how, j, m, p, n)
 }
 
 // The coefficient of every outermost entry of the sum of n cells from p on is negated.
-fn neg_each(kinds: &mut [u8], insides: &mut [u8], numbers: &mut [[u64; 3]], p: usize, n: usize)
-    requires { Held (book kinds.old insides.old numbers.old) p (p + n) sum_levels }
-    ensures kept { Kept (book kinds.old insides.old numbers.old) (book kinds.new insides.new numbers.new) p (p + n) }
-    ensures of_one { OfOne (book kinds.old insides.old numbers.old) p (p + n) sum_levels (λ s. Lies (book kinds.new insides.new numbers.new) p (p + n) sum_levels (neg_sum s)) }
+fn neg_each(book: &mut Book, p: usize, n: usize)
+    requires { Held (seen book.old) p (p + n) sum_levels }
+    ensures kept { Kept (seen book.old) (seen book.new) p (p + n) }
+    ensures of_one { OfOne (seen book.old) p (p + n) sum_levels (λ s. Lies (seen book.new) p (p + n) sum_levels (neg_sum s)) }
 {
     let end = p + n;
     let mut k = p;
     while k < end {
-        let y = cells::load(kinds, insides, numbers, k);
+        let y = book.load(k);
         let x = Entry {
             kind: y.kind,
             inside: y.inside,
             num: y.num,
             coef: y.coef.neg(),
         };
-        cells::store(kinds, insides, numbers, k, x);
+        book.store(k, x);
         k = k + 1 + y.inside as usize;
     }
 }
 
 // The sum of n cells from i on, negated.
-pub fn expr_neg(
-    kinds: &mut [u8],
-    insides: &mut [u8],
-    numbers: &mut [[u64; 3]],
-    i: usize,
-    n: usize,
-    p: usize,
-)
-    requires { Operand (book kinds.old insides.old numbers.old) i n p × Room (book kinds.old insides.old numbers.old) (p + sum_entries) }
-    ensures kept { Kept (book kinds.old insides.old numbers.old) (book kinds.new insides.new numbers.new) p (p + sum_entries) }
-    ensures of_one { OfOne (book kinds.old insides.old numbers.old) i (i + n) sum_levels (λ s. Lies (book kinds.new insides.new numbers.new) p (p + n) sum_levels (neg_sum s)) }
+pub fn expr_neg(book: &mut Book, i: usize, n: usize, p: usize)
+    requires { Operand (seen book.old) i n p × Room (seen book.old) (p + sum_entries) }
+    ensures kept { Kept (seen book.old) (seen book.new) p (p + sum_entries) }
+    ensures of_one { OfOne (seen book.old) i (i + n) sum_levels (λ s. Lies (seen book.new) p (p + n) sum_levels (neg_sum s)) }
 {
-    cells::copy_within(kinds, insides, numbers, i, n, p);
-    neg_each(kinds, insides, numbers, p, n);
+    book.copy_within(i, n, p);
+    neg_each(book, p, n);
 }

@@ -2,7 +2,7 @@
 // book, apart from each other.
 ghost use Rattle.std.specs.Prelude.{◌≡◌, ◌+◌, ◌-◌, ◌≤◌, ◌<◌};
 ghost use Rattle.limits.specs.Limits.{sum_entries, sum_levels};
-ghost use Rattle.cells.specs.Contract.Book.{book, Room};
+ghost use Rattle.cells.specs.Contract.Book.{seen, Room};
 ghost use Rattle.cells.specs.Contract.Moves.{Kept};
 ghost use Rattle.sums.specs.Tree.Sums.{none, size};
 ghost use Rattle.sums.specs.Tree.Map.{and_then_sum, each_into};
@@ -13,60 +13,40 @@ ghost use Rattle.arithmetic.specs.Multiply.Contract.Rows.{PowerOperand, PowersGr
 ghost use Rattle.arithmetic.specs.Multiply.Contract.Shapes.{Shaped, OfShapes};
 ghost use Rattle.arithmetic.specs.Multiply.Contract.Factors.{Pair, Row, Sums, Beside, Fits, Inner, OfThree, OfInner, div_into};
 
-use cells::Entry;
+use cells::{Book, Entry};
 use limits::{Refusal, SUM_ENTRIES, SUM_LEVELS};
 use numbers::complex::Complex;
-use sums::order::Formed;
 use sums::tree::Merge;
 
 // Whether two terms of kinds k and l, whose insides lie from i and from j on, have a product.
 #[cycle(can_mul_can_pair_can_row)]
-fn can_pair(
-    k: u8,
-    i: usize,
-    n: usize,
-    l: u8,
-    j: usize,
-    m: usize,
-    kinds: &[u8],
-    insides: &[u8],
-    left: usize,
-) -> bool
+fn can_pair(k: u8, i: usize, n: usize, l: u8, j: usize, m: usize, book: &Book, left: usize) -> bool
     requires le_k { (1 ≤ k) × (k ≤ 8) × (1 ≤ l) × (l ≤ 8) }
-    requires shaped { Shaped kinds.now insides.now i (i + n) left × Shaped kinds.now insides.now j (j + m) left }
-    ensures { OfShapes kinds.now insides.now i (i + n) left j (j + m) left (λ t v. result ≡ pairable k (mulable t) l v) }
+    requires shaped { Shaped (seen book.now).kinds (seen book.now).insides i (i + n) left × Shaped (seen book.now).kinds (seen book.now).insides j (j + m) left }
+    ensures { OfShapes (seen book.now).kinds (seen book.now).insides i (i + n) left j (j + m) left (λ t v. result ≡ pairable k (mulable t) l v) }
 {
     let c = crate::product_code(k, l);
     if c == crate::ADD_POWERS {
         return true;
     }
     if c == crate::MUL_INSIDES {
-        return can_mul(i, n, j, m, kinds, insides, left);
+        return can_mul(i, n, j, m, book, left);
     }
     false
 }
 
 // Whether a term of kind k has a product with each of the sum of m cells from j on.
 #[cycle(can_mul_can_pair_can_row)]
-fn can_row(
-    k: u8,
-    i: usize,
-    n: usize,
-    j: usize,
-    m: usize,
-    kinds: &[u8],
-    insides: &[u8],
-    left: usize,
-) -> bool
+fn can_row(k: u8, i: usize, n: usize, j: usize, m: usize, book: &Book, left: usize) -> bool
     requires le_k { (1 ≤ k) × (k ≤ 8) }
-    requires shaped { Shaped kinds.now insides.now i (i + n) (left - 1) × Shaped kinds.now insides.now j (j + m) left }
-    ensures { OfShapes kinds.now insides.now i (i + n) (left - 1) j (j + m) left (λ t v. result ≡ rowable k (mulable t) v) }
+    requires shaped { Shaped (seen book.now).kinds (seen book.now).insides i (i + n) (left - 1) × Shaped (seen book.now).kinds (seen book.now).insides j (j + m) left }
+    ensures { OfShapes (seen book.now).kinds (seen book.now).insides i (i + n) (left - 1) j (j + m) left (λ t v. result ≡ rowable k (mulable t) v) }
 {
     let end = j + m;
     let mut q = j;
     while q < end {
-        let d = insides[q] as usize;
-        if !can_pair(k, i, n, kinds[q], q + 1, d, kinds, insides, left - 1) {
+        let d = book.insides[q] as usize;
+        if !can_pair(k, i, n, book.kinds[q], q + 1, d, book, left - 1) {
             return false;
         }
         q = q + 1 + d;
@@ -76,23 +56,15 @@ fn can_row(
 
 // Whether the sums of n cells from i on and of m from j on have a product.
 #[cycle(can_mul_can_pair_can_row)]
-pub fn can_mul(
-    i: usize,
-    n: usize,
-    j: usize,
-    m: usize,
-    kinds: &[u8],
-    insides: &[u8],
-    left: usize,
-) -> bool
-    requires { Shaped kinds.now insides.now i (i + n) left × Shaped kinds.now insides.now j (j + m) left }
-    ensures { OfShapes kinds.now insides.now i (i + n) left j (j + m) left (λ s t. result ≡ mulable s t) }
+pub fn can_mul(i: usize, n: usize, j: usize, m: usize, book: &Book, left: usize) -> bool
+    requires { Shaped (seen book.now).kinds (seen book.now).insides i (i + n) left × Shaped (seen book.now).kinds (seen book.now).insides j (j + m) left }
+    ensures { OfShapes (seen book.now).kinds (seen book.now).insides i (i + n) left j (j + m) left (λ s t. result ≡ mulable s t) }
 {
     let end = i + n;
     let mut q = i;
     while q < end {
-        let d = insides[q] as usize;
-        if !can_row(kinds[q], q + 1, d, j, m, kinds, insides, left) {
+        let d = book.insides[q] as usize;
+        if !can_row(book.kinds[q], q + 1, d, j, m, book, left) {
             return false;
         }
         q = q + 1 + d;
@@ -108,64 +80,29 @@ const BEHIND_ALL: usize = 3 * SUM_ENTRIES;
 const FOUR_SUMS: usize = 4 * SUM_ENTRIES;
 
 // Copies the a cells from i on to 0 of another book, and the b from j on to SUM_ENTRIES.
-fn side_by_side(
-    from_kinds: &[u8],
-    from_insides: &[u8],
-    from_numbers: &[[u64; 3]],
-    i: usize,
-    a: usize,
-    j: usize,
-    b: usize,
-    kinds: &mut [u8],
-    insides: &mut [u8],
-    numbers: &mut [[u64; 3]],
-)
-    requires { Fits (book from_kinds.now from_insides.now from_numbers.now) (book kinds.old insides.old numbers.old) i a j b }
-    ensures { Beside (book from_kinds.now from_insides.now from_numbers.now) (book kinds.new insides.new numbers.new) i a j b }
+fn side_by_side(from: &Book, i: usize, a: usize, j: usize, b: usize, book: &mut Book)
+    requires { Fits (seen from.now) (seen book.old) i a j b }
+    ensures { Beside (seen from.now) (seen book.new) i a j b }
 {
-    cells::copy_in(
-        from_kinds,
-        from_insides,
-        from_numbers,
-        i,
-        a,
-        kinds,
-        insides,
-        numbers,
-        0,
-    );
-    cells::copy_in(
-        from_kinds,
-        from_insides,
-        from_numbers,
-        j,
-        b,
-        kinds,
-        insides,
-        numbers,
-        SUM_ENTRIES,
-    );
+    book.copy_in(from, i, a, 0);
+    book.copy_in(from, j, b, SUM_ENTRIES);
 }
 
 // A Div whose inside lies behind both in the other book, k cells of it, goes with its coefficient into the sum of n cells from p on: by way of the other
 // book, where both then lie.
 fn put_div(
-    other_kinds: &mut [u8],
-    other_insides: &mut [u8],
-    other_numbers: &mut [[u64; 3]],
+    other: &mut Book,
     k: usize,
     coef: Complex,
-    kinds: &mut [u8],
-    insides: &mut [u8],
-    numbers: &mut [[u64; 3]],
+    book: &mut Book,
     p: usize,
     n: usize,
-) -> Formed
-    requires inner { Inner (book other_kinds.old other_insides.old other_numbers.old) k }
-    requires growing { Growing (book kinds.old insides.old numbers.old) p n }
-    ensures kept { Kept (book kinds.old insides.old numbers.old) (book kinds.new insides.new numbers.new) p (p + sum_entries) }
-    ensures of_inner { OfInner (book other_kinds.old other_insides.old other_numbers.old) k (book kinds.old insides.old numbers.old) p n
-        (λ w s. Agrees result (book kinds.new insides.new numbers.new) p (div_into k coef w s)) }
+) -> Result<usize, Refusal>
+    requires inner { Inner (seen other.old) k }
+    requires growing { Growing (seen book.old) p n }
+    ensures kept { Kept (seen book.old) (seen book.new) p (p + sum_entries) }
+    ensures of_inner { OfInner (seen other.old) k (seen book.old) p n
+        (λ w s. Agrees result (seen book.new) p (div_into k coef w s)) }
 {
     let head = Entry {
         kind: sums::tree::DIV,
@@ -173,52 +110,17 @@ fn put_div(
         num: 0.0,
         coef: coef,
     };
-    cells::copy_in(
-        kinds,
-        insides,
-        numbers,
-        p,
-        n,
-        other_kinds,
-        other_insides,
-        other_numbers,
-        BEHIND_ALL,
-    );
-    match sums::map::put_block(
-        other_kinds,
-        other_insides,
-        other_numbers,
-        Merge::Add,
-        head,
-        BEHIND_BOTH,
-        BEHIND_ALL,
-        n,
-    ) {
-        Formed::Done(m) => {
-            cells::copy_in(
-                other_kinds,
-                other_insides,
-                other_numbers,
-                BEHIND_ALL,
-                m,
-                kinds,
-                insides,
-                numbers,
-                p,
-            );
-            Formed::Done(m)
-        }
-        Formed::Refused(r) => Formed::Refused(r),
-    }
+    other.copy_in(book, p, n, BEHIND_ALL);
+    let m = sums::map::put_block(other, Merge::Add, head, BEHIND_BOTH, BEHIND_ALL, n)?;
+    book.copy_in(other, BEHIND_ALL, m, p);
+    Ok(m)
 }
 
 // Two Div terms, whose insides are the a cells from i on and the b from j on: the product of the insides is formed in a book of this call's own, and goes in
 // with the coefficient.
 #[cycle(div_mul_expr_mul_mul_row_term_mul)]
 fn div_mul(
-    kinds: &mut [u8],
-    insides: &mut [u8],
-    numbers: &mut [[u64; 3]],
+    book: &mut Book,
     coef: Complex,
     i: usize,
     a: usize,
@@ -227,60 +129,29 @@ fn div_mul(
     p: usize,
     n: usize,
     left: usize,
-) -> Formed
-    requires { (0 < a) × (0 < b) × Sums (book kinds.old insides.old numbers.old) i a j b p left × Growing (book kinds.old insides.old numbers.old) p n }
-    ensures kept { Kept (book kinds.old insides.old numbers.old) (book kinds.new insides.new numbers.new) p (p + sum_entries) }
-    ensures of_three { OfThree (book kinds.old insides.old numbers.old) i a left j b left p n (λ t v s. Agrees result (book kinds.new insides.new numbers.new) p
+) -> Result<usize, Refusal>
+    requires { (0 < a) × (0 < b) × Sums (seen book.old) i a j b p left × Growing (seen book.old) p n }
+    ensures kept { Kept (seen book.old) (seen book.new) p (p + sum_entries) }
+    ensures of_three { OfThree (seen book.old) i a left j b left p n (λ t v s. Agrees result (seen book.new) p
         (and_then_sum (mul_into t v none) (λ w. div_into (size w) coef w s))) }
 {
     let mut other_kinds = [0u8; FOUR_SUMS];
     let mut other_insides = [0u8; FOUR_SUMS];
     let mut other_numbers = [[0u64; 3]; FOUR_SUMS];
-    side_by_side(
-        kinds,
-        insides,
-        numbers,
-        i,
-        a,
-        j,
-        b,
-        &mut other_kinds,
-        &mut other_insides,
-        &mut other_numbers,
-    );
-    match expr_mul(
-        &mut other_kinds,
-        &mut other_insides,
-        &mut other_numbers,
-        0,
-        a,
-        SUM_ENTRIES,
-        b,
-        BEHIND_BOTH,
-        left,
-    ) {
-        Formed::Done(k) => put_div(
-            &mut other_kinds,
-            &mut other_insides,
-            &mut other_numbers,
-            k,
-            coef,
-            kinds,
-            insides,
-            numbers,
-            p,
-            n,
-        ),
-        Formed::Refused(r) => Formed::Refused(r),
-    }
+    let mut other = Book {
+        kinds: &mut other_kinds,
+        insides: &mut other_insides,
+        numbers: &mut other_numbers,
+    };
+    side_by_side(book, i, a, j, b, &mut other);
+    let k = expr_mul(&mut other, 0, a, SUM_ENTRIES, b, BEHIND_BOTH, left)?;
+    put_div(&mut other, k, coef, book, p, n)
 }
 
 // The product of the terms x and y, whose insides lie from i and from j on, goes into the sum of n cells from p on.
 #[cycle(div_mul_expr_mul_mul_row_term_mul)]
 fn term_mul(
-    kinds: &mut [u8],
-    insides: &mut [u8],
-    numbers: &mut [[u64; 3]],
+    book: &mut Book,
     x: Entry,
     i: usize,
     y: Entry,
@@ -288,21 +159,19 @@ fn term_mul(
     p: usize,
     n: usize,
     left: usize,
-) -> Formed
-    requires { Pair (book kinds.old insides.old numbers.old) x i y j p left × Growing (book kinds.old insides.old numbers.old) p n }
-    ensures kept { Kept (book kinds.old insides.old numbers.old) (book kinds.new insides.new numbers.new) p (p + sum_entries) }
-    ensures of_three { OfThree (book kinds.old insides.old numbers.old) i x.inside left j y.inside left p n
-        (λ t v s. Agrees result (book kinds.new insides.new numbers.new) p (mul_term x (λ u. mul_into t u none) y v s)) }
+) -> Result<usize, Refusal>
+    requires { Pair (seen book.old) x i y j p left × Growing (seen book.old) p n }
+    ensures kept { Kept (seen book.old) (seen book.new) p (p + sum_entries) }
+    ensures of_three { OfThree (seen book.old) i x.inside left j y.inside left p n
+        (λ t v s. Agrees result (seen book.new) p (mul_term x (λ u. mul_into t u none) y v s)) }
 {
     let code = crate::product_code(x.kind, y.kind);
     let c = x.coef.mul(y.coef);
     if code == crate::ADD_POWERS {
-        return sums::map::put_power(kinds, insides, numbers, Merge::Add, x.num + y.num, c, p, n);
+        return sums::map::put_power(book, Merge::Add, x.num + y.num, c, p, n);
     }
     div_mul(
-        kinds,
-        insides,
-        numbers,
+        book,
         c,
         i,
         x.inside as usize,
@@ -317,9 +186,7 @@ fn term_mul(
 // The products of the term x with each of the sum of m cells from j on go into the sum of n cells from p on.
 #[cycle(div_mul_expr_mul_mul_row_term_mul)]
 fn mul_row(
-    kinds: &mut [u8],
-    insides: &mut [u8],
-    numbers: &mut [[u64; 3]],
+    book: &mut Book,
     x: Entry,
     i: usize,
     j: usize,
@@ -327,183 +194,148 @@ fn mul_row(
     p: usize,
     n: usize,
     left: usize,
-) -> Formed
-    requires { Row (book kinds.old insides.old numbers.old) x i j m p left × Growing (book kinds.old insides.old numbers.old) p n }
-    ensures kept { Kept (book kinds.old insides.old numbers.old) (book kinds.new insides.new numbers.new) p (p + sum_entries) }
-    ensures of_three { OfThree (book kinds.old insides.old numbers.old) i x.inside (left - 1) j m left p n
-        (λ t v s. Agrees result (book kinds.new insides.new numbers.new) p (each_into (mul_term x (λ u. mul_into t u none)) s v)) }
+) -> Result<usize, Refusal>
+    requires { Row (seen book.old) x i j m p left × Growing (seen book.old) p n }
+    ensures kept { Kept (seen book.old) (seen book.new) p (p + sum_entries) }
+    ensures of_three { OfThree (seen book.old) i x.inside (left - 1) j m left p n
+        (λ t v s. Agrees result (seen book.new) p (each_into (mul_term x (λ u. mul_into t u none)) s v)) }
 {
     let end = j + m;
     let mut q = j;
     let mut len = n;
     while q < end {
-        let y = cells::load(kinds, insides, numbers, q);
-        match term_mul(kinds, insides, numbers, x, i, y, q + 1, p, len, left - 1) {
-            Formed::Done(k) => len = k,
-            Formed::Refused(r) => return Formed::Refused(r),
-        }
+        let y = book.load(q);
+        len = term_mul(book, x, i, y, q + 1, p, len, left - 1)?;
         q = q + 1 + y.inside as usize;
     }
-    Formed::Done(len)
+    Ok(len)
 }
 
 // The products of the terms of the sum of n cells from i on with those of the m from j on, formed from p on, where there is room for SUM_ENTRIES.
 #[cycle(div_mul_expr_mul_mul_row_term_mul)]
 fn expr_mul(
-    kinds: &mut [u8],
-    insides: &mut [u8],
-    numbers: &mut [[u64; 3]],
+    book: &mut Book,
     i: usize,
     n: usize,
     j: usize,
     m: usize,
     p: usize,
     left: usize,
-) -> Formed
-    requires { Sums (book kinds.old insides.old numbers.old) i n j m p left × Room (book kinds.old insides.old numbers.old) (p + sum_entries) }
-    ensures kept { Kept (book kinds.old insides.old numbers.old) (book kinds.new insides.new numbers.new) p (p + sum_entries) }
-    ensures of_two { OfTwo (book kinds.old insides.old numbers.old) i (i + n) j (j + m) left (λ s t. Agrees result (book kinds.new insides.new numbers.new) p (mul_into s t none)) }
+) -> Result<usize, Refusal>
+    requires { Sums (seen book.old) i n j m p left × Room (seen book.old) (p + sum_entries) }
+    ensures kept { Kept (seen book.old) (seen book.new) p (p + sum_entries) }
+    ensures of_two { OfTwo (seen book.old) i (i + n) j (j + m) left (λ s t. Agrees result (seen book.new) p (mul_into s t none)) }
 {
     let end = i + n;
     let mut q = i;
     let mut len = 0usize;
     while q < end {
-        let x = cells::load(kinds, insides, numbers, q);
-        match mul_row(kinds, insides, numbers, x, q + 1, j, m, p, len, left) {
-            Formed::Done(k) => len = k,
-            Formed::Refused(r) => return Formed::Refused(r),
-        }
+        let x = book.load(q);
+        len = mul_row(book, x, q + 1, j, m, p, len, left)?;
         q = q + 1 + x.inside as usize;
     }
-    Formed::Done(len)
+    Ok(len)
 }
 
 // The products of the power x with each of the m powers from j on go into the sum of the n powers from p on: each is looked for from its last power down.
 fn power_row(
-    kinds: &mut [u8],
-    insides: &mut [u8],
-    numbers: &mut [[u64; 3]],
+    book: &mut Book,
     x: Entry,
     j: usize,
     m: usize,
     p: usize,
     n: usize,
-) -> Formed
-    requires { PowerOperand (book kinds.old insides.old numbers.old) j m p × PowersGrow (book kinds.old insides.old numbers.old) p n }
-    ensures kept { Kept (book kinds.old insides.old numbers.old) (book kinds.new insides.new numbers.new) p (p + sum_entries) × FormedPowers result (book kinds.new insides.new numbers.new) p }
-    ensures of_two { OfTwo (book kinds.old insides.old numbers.old) p (p + n) j (j + m) sum_levels
-        (λ s v. Agrees result (book kinds.new insides.new numbers.new) p (each_into (power_into x) s v)) }
+) -> Result<usize, Refusal>
+    requires { PowerOperand (seen book.old) j m p × PowersGrow (seen book.old) p n }
+    ensures kept { Kept (seen book.old) (seen book.new) p (p + sum_entries) × FormedPowers result (seen book.new) p }
+    ensures of_two { OfTwo (seen book.old) p (p + n) j (j + m) sum_levels
+        (λ s v. Agrees result (seen book.new) p (each_into (power_into x) s v)) }
 {
-    let end = j + m;
-    let mut q = j;
     let mut len = n;
-    while q < end {
-        let y = cells::load(kinds, insides, numbers, q);
+    for q in j..j + m {
+        let y = book.load(q);
         let a = x.num + y.num;
         let v = x.coef.mul(y.coef);
-        match sums::map::put_below(kinds, insides, numbers, Merge::Add, a, v, p, len, p + len) {
-            Formed::Done(k) => len = k,
-            Formed::Refused(r) => return Formed::Refused(r),
-        }
-        q = q + 1;
+        len = sums::map::put_below(book, Merge::Add, a, v, p, len, p + len)?;
     }
-    Formed::Done(len)
+    Ok(len)
 }
 
 // The product of two sums of powers, which always is one: row by row, and only powers come of it.
 fn mul_powers(
-    kinds: &mut [u8],
-    insides: &mut [u8],
-    numbers: &mut [[u64; 3]],
+    book: &mut Book,
     i: usize,
     n: usize,
     j: usize,
     m: usize,
     p: usize,
-) -> Formed
-    requires { PowerOperand (book kinds.old insides.old numbers.old) i n p × PowerOperand (book kinds.old insides.old numbers.old) j m p × Room (book kinds.old insides.old numbers.old) (p + sum_entries) }
-    ensures kept { Kept (book kinds.old insides.old numbers.old) (book kinds.new insides.new numbers.new) p (p + sum_entries) }
-    ensures of_two { OfTwo (book kinds.old insides.old numbers.old) i (i + n) j (j + m) sum_levels (λ s t. Agrees result (book kinds.new insides.new numbers.new) p (product s t)) }
+) -> Result<usize, Refusal>
+    requires { PowerOperand (seen book.old) i n p × PowerOperand (seen book.old) j m p × Room (seen book.old) (p + sum_entries) }
+    ensures kept { Kept (seen book.old) (seen book.new) p (p + sum_entries) }
+    ensures of_two { OfTwo (seen book.old) i (i + n) j (j + m) sum_levels (λ s t. Agrees result (seen book.new) p (product s t)) }
 {
-    let end = i + n;
-    let mut q = i;
     let mut len = 0usize;
-    while q < end {
-        let x = cells::load(kinds, insides, numbers, q);
-        match power_row(kinds, insides, numbers, x, j, m, p, len) {
-            Formed::Done(k) => len = k,
-            Formed::Refused(r) => return Formed::Refused(r),
-        }
-        q = q + 1;
+    for q in i..i + n {
+        let x = book.load(q);
+        len = power_row(book, x, j, m, p, len)?;
     }
-    Formed::Done(len)
+    Ok(len)
 }
 
 // The product of two sums: of nothing but powers it is formed row by row, and of any others whether there is one is asked first.
 fn mul_some(
-    kinds: &mut [u8],
-    insides: &mut [u8],
-    numbers: &mut [[u64; 3]],
+    book: &mut Book,
     i: usize,
     n: usize,
     j: usize,
     m: usize,
     p: usize,
-) -> Formed
-    requires { Operand (book kinds.old insides.old numbers.old) i n p × Operand (book kinds.old insides.old numbers.old) j m p × Room (book kinds.old insides.old numbers.old) (p + sum_entries) }
-    ensures kept { Kept (book kinds.old insides.old numbers.old) (book kinds.new insides.new numbers.new) p (p + sum_entries) }
-    ensures of_two { OfTwo (book kinds.old insides.old numbers.old) i (i + n) j (j + m) sum_levels (λ s t. Agrees result (book kinds.new insides.new numbers.new) p (product s t)) }
+) -> Result<usize, Refusal>
+    requires { Operand (seen book.old) i n p × Operand (seen book.old) j m p × Room (seen book.old) (p + sum_entries) }
+    ensures kept { Kept (seen book.old) (seen book.new) p (p + sum_entries) }
+    ensures of_two { OfTwo (seen book.old) i (i + n) j (j + m) sum_levels (λ s t. Agrees result (seen book.new) p (product s t)) }
 {
-    if sums::order::all_powers(kinds, i, n) & sums::order::all_powers(kinds, j, m) {
-        return mul_powers(kinds, insides, numbers, i, n, j, m, p);
+    if sums::order::all_powers(book, i, n) & sums::order::all_powers(book, j, m) {
+        return mul_powers(book, i, n, j, m, p);
     }
-    if !can_mul(i, n, j, m, kinds, insides, SUM_LEVELS) {
-        return Formed::Refused(Refusal::TooComplex);
+    if !can_mul(i, n, j, m, book, SUM_LEVELS) {
+        return Err(Refusal::TooComplex);
     }
-    expr_mul(kinds, insides, numbers, i, n, j, m, p, SUM_LEVELS)
+    expr_mul(book, i, n, j, m, p, SUM_LEVELS)
 }
 
 // The product of two sums of one cell. Of two powers of x it is one power, and no table is asked.
-fn mul_one(
-    kinds: &mut [u8],
-    insides: &mut [u8],
-    numbers: &mut [[u64; 3]],
-    i: usize,
-    j: usize,
-    p: usize,
-) -> Formed
-    requires { Operand (book kinds.old insides.old numbers.old) i 1 p × Operand (book kinds.old insides.old numbers.old) j 1 p × Room (book kinds.old insides.old numbers.old) (p + sum_entries) }
-    ensures kept { Kept (book kinds.old insides.old numbers.old) (book kinds.new insides.new numbers.new) p (p + sum_entries) }
-    ensures of_two { OfTwo (book kinds.old insides.old numbers.old) i (i + 1) j (j + 1) sum_levels (λ s t. Agrees result (book kinds.new insides.new numbers.new) p (product s t)) }
+fn mul_one(book: &mut Book, i: usize, j: usize, p: usize) -> Result<usize, Refusal>
+    requires { Operand (seen book.old) i 1 p × Operand (seen book.old) j 1 p × Room (seen book.old) (p + sum_entries) }
+    ensures kept { Kept (seen book.old) (seen book.new) p (p + sum_entries) }
+    ensures of_two { OfTwo (seen book.old) i (i + 1) j (j + 1) sum_levels (λ s t. Agrees result (seen book.new) p (product s t)) }
 {
-    let x = cells::load(kinds, insides, numbers, i);
-    let y = cells::load(kinds, insides, numbers, j);
+    let x = book.load(i);
+    let y = book.load(j);
     if (x.kind == sums::tree::X) & (y.kind == sums::tree::X) {
         let num = x.num + y.num;
         let coef = x.coef.mul(y.coef);
-        return sums::map::put_power(kinds, insides, numbers, Merge::Add, num, coef, p, 0);
+        return sums::map::put_power(book, Merge::Add, num, coef, p, 0);
     }
-    mul_some(kinds, insides, numbers, i, 1, j, 1, p)
+    mul_some(book, i, 1, j, 1, p)
 }
 
 // The product of the sums of n cells from i on and of m from j on, formed from p on, where there is room for SUM_ENTRIES: TooComplex where two of their terms
 // have none.
 pub fn mul(
-    kinds: &mut [u8],
-    insides: &mut [u8],
-    numbers: &mut [[u64; 3]],
+    book: &mut Book,
     i: usize,
     n: usize,
     j: usize,
     m: usize,
     p: usize,
-) -> Formed
-    requires { Operand (book kinds.old insides.old numbers.old) i n p × Operand (book kinds.old insides.old numbers.old) j m p × Room (book kinds.old insides.old numbers.old) (p + sum_entries) }
-    ensures kept { Kept (book kinds.old insides.old numbers.old) (book kinds.new insides.new numbers.new) p (p + sum_entries) }
-    ensures of_two { OfTwo (book kinds.old insides.old numbers.old) i (i + n) j (j + m) sum_levels (λ s t. Agrees result (book kinds.new insides.new numbers.new) p (product s t)) }
+) -> Result<usize, Refusal>
+    requires { Operand (seen book.old) i n p × Operand (seen book.old) j m p × Room (seen book.old) (p + sum_entries) }
+    ensures kept { Kept (seen book.old) (seen book.new) p (p + sum_entries) }
+    ensures of_two { OfTwo (seen book.old) i (i + n) j (j + m) sum_levels (λ s t. Agrees result (seen book.new) p (product s t)) }
 {
     if (n == 1) & (m == 1) {
-        return mul_one(kinds, insides, numbers, i, j, p);
+        return mul_one(book, i, j, p);
     }
-    mul_some(kinds, insides, numbers, i, n, j, m, p)
+    mul_some(book, i, n, j, m, p)
 }

@@ -10,8 +10,7 @@ use Rattle.cells.specs.Contract.Moves.{Kept}
 use Rattle.cells.proofs.Laws.{room-less, room-same, kept_refl, kept_trans}
 use Rattle.sums.specs.Tree.Sums.{Sum, none}
 use Rattle.sums.specs.Tree.Map.{Outcome, each_into}
-use Rattle.sums.specs.declared.order.Formed.{Formed}
-use Rattle.sums.specs.declared.order.Formed.TheVariants.{Done, Refused}
+use Rattle.std.specs.Prelude.{Result, Ok, Err}
 use Rattle.sums.specs.Contract.Lies.{Lies, OfOne, Agrees}
 use Rattle.sums.proofs.order.Walk.{Next, next-at, lies_empty}
 use Rattle.sums.proofs.order.Compare.{inner-more}
@@ -48,7 +47,7 @@ module _ (f : Entry → Sum → Sum → Outcome) (places : ℕ) where
         folding = λ t l. outset f any (lies_empty b w 4 (room-less {n = w + (64 + 64)} (omega arith) r)) l;
       }
 
-  pub each-end : {b₀ b : Book} {j m w q len : ℕ} → Eaching b₀ b j m w q len → j + m ≤ q → OfOne b₀ j (j + m) 4 (λ t. Agrees (Done len) b w (each_into f none t))
+  pub each-end : {b₀ b : Book} {j m w q len : ℕ} → Eaching b₀ b j m w q len → j + m ≤ q → OfOne b₀ j (j + m) 4 (λ t. Agrees (Ok len) b w (each_into f none t))
   each-end {b = b} {j} {m} {w} {q} {len} g h t l = ended f any b w len q (j + m) 4 none t (g.folding t l) g.few h
 
   -- the next entry can be read
@@ -93,14 +92,14 @@ module _ (f : Entry → Sum → Sum → Outcome) (places : ℕ) where
         }
 
     -- what it answered
-    module _ {b' : Book} {r : Formed} (y : Into b b' e (q + 1) w len places r f) where
+    module _ {b' : Book} {r : Result ℕ Refusal} (y : Into b b' e (q + 1) w len places r f) where
       turn-kept : Kept b₀ b' w (w + places)
       turn-kept = kept_trans g.each.kept y.kept
 
-      pub turn-stop : {z : Refusal} → r ≡ Refused z → Kept b₀ b' w (w + places) × OfOne b₀ j (j + m) 4 (λ t. Agrees (Refused z) b' w (each_into f none t))
+      pub turn-stop : {z : Refusal} → r ≡ Err z → Kept b₀ b' w (w + places) × OfOne b₀ j (j + m) 4 (λ t. Agrees (Err z) b' w (each_into f none t))
       turn-stop h = (turn-kept, λ t l. halted f b b' w len q (j + m) 4 none t e r (g.each.folding t l) g.read g.more (λ i u li lu. y.agrees u i lu (lies-deeper li)) h)
 
-      pub turn-next : {k : ℕ} → r ≡ Done k → Eaching b₀ b' j m w (q + 1 + e.inside) k
+      pub turn-next : {k : ℕ} → r ≡ Ok k → Eaching b₀ b' j m w (q + 1 + e.inside) k
       turn-next {k} h =
           let fits = g.fits in
           let whole : Clear j (j + m) w (w + places) = clear_first {hi = w + (64 + 64)} (omega arith) (clear g.given.source.apart) in

@@ -27,8 +27,7 @@ use Rattle.arithmetic.specs.Singles.{GoodSum, is_x}
 use Rattle.arithmetic.specs.Product.{product}
 use Rattle.arithmetic.proofs.Steps.{never, differ, sum_is, then-sum, unless-sum, either}
 use Rattle.arithmetic.proofs.Goodness.{fits-times, fits-negated, x-head, over-head, good-formed, good-every, each-good, GoodTerm, none-good, good-zero, good-x_to, good-product}
-use Rattle.calculus.specs.declared.Ln.{Ln}
-use Rattle.calculus.specs.declared.Ln.TheVariants.{Is, Other}
+use Rattle.std.specs.Prelude.{Option, Some, None}
 use Rattle.calculus.specs.Derivative.{slope, vanishes, prime, by_prime, first_coef, turned_to, by_ln, derive_x, derive_div, derive_exp, derive_by, ln_of, derive_log, derive_into, or_zero, derive}
 use Rattle.calculus.specs.Integral.{x, stored, integrate_x, integrate_by, integrate_into, integrate}
 
@@ -76,9 +75,9 @@ by-prime : (P : Sum → Type 0) (f : Complex → Outcome) (v : Found) (r : Sum) 
 by-prime P f absent r k h = never h
 by-prime P f (at d) r k h = k d h
 
-by-ln : (P : Sum → Type 0) (f : Float → Outcome) (l : Ln) (r : Sum) → ((v : Float) → f v ≡ sum r → P r) → by_ln l f ≡ sum r → P r
-by-ln P f (Is v) r k h = k v h
-by-ln P f Other r k h = never h
+by-ln : (P : Sum → Type 0) (f : Float → Outcome) (l : Option Float) (r : Sum) → ((v : Float) → f v ≡ sum r → P r) → by_ln l f ≡ sum r → P r
+by-ln P f (Some v) r k h = k v h
+by-ln P f None r k h = never h
 
 -- a power of x
 pub derive-is-x : (k n : ℕ) (p : Float) (c : Complex) (j s : Sum) → eqb k kinds.X ≡ true → derive_into (entry k n p c) j s ≡ derive_x (entry k n p c) s

@@ -17,8 +17,7 @@ use Rattle.sums.specs.Tree.Kinds as kinds
 use Rattle.sums.specs.Tree.Sums.{Sum, none, entry}
 use Rattle.sums.specs.Tree.Map.{Outcome, refused}
 use Rattle.calculus.specs.Contract.Turned.{turned_kind}
-use Rattle.sums.specs.declared.order.Formed.{Formed}
-use Rattle.sums.specs.declared.order.Formed.TheVariants.{Refused}
+use Rattle.std.specs.Prelude.{Result, Err}
 use Rattle.sums.specs.Contract.Heads.{GoodHead}
 use Rattle.sums.specs.Contract.Lies.{Lies, OfOne, Agrees}
 use Rattle.sums.proofs.order.Walk.{lies-none}
@@ -65,10 +64,10 @@ module _ {b : Book} {e : Entry} {i w len : ℕ} where
 
   -- nothing is written where it is refused
   pub into-refused : {places : ℕ} {q : Refusal} {f : Entry → Sum → Sum → Outcome} → ((t : Sum) → Lies b i (i + e.inside) 4 t → (s : Sum) → f e t s ≡ refused q)
-      → Into b b e i w len places (Refused q) f
+      → Into b b e i w len places (Err q) f
   into-refused {places} {q} {f} h = record { kept = kept_refl b w (w + places); agrees = λ s t ls lt. agree-refused b w q (f e t s) (h t lt s) }
 
-  module _ {b' : Book} {r : Formed} {f : Entry → Sum → Sum → Outcome} where
+  module _ {b' : Book} {r : Result ℕ Refusal} {f : Entry → Sum → Sum → Outcome} where
     -- the same, written otherwise
     pub into-as : {places : ℕ} {g : Entry → Sum → Sum → Outcome} → ((t s : Sum) → f e t s ≡ g e t s) → Into b b' e i w len places r f → Into b b' e i w len places r g
     into-as h y = record { kept = y.kept; agrees = λ s t ls lt. subst (Agrees r b' w) (h t s) (y.agrees s t ls lt) }

@@ -29,8 +29,7 @@ use Rattle.sums.proofs.tree.Keeps.{refused-is, not-refused, each-refusal}
 use Rattle.sums.proofs.tree.Overflow.{other-refusal, overflowed}
 use Rattle.arithmetic.specs.Singles.{is_x}
 use Rattle.arithmetic.specs.Product.{product}
-use Rattle.calculus.specs.declared.Ln.{Ln}
-use Rattle.calculus.specs.declared.Ln.TheVariants.{Is, Other}
+use Rattle.std.specs.Prelude.{Option, Some, None}
 use Rattle.calculus.specs.Derivative.{slope, vanishes, prime, by_prime, first_coef, turned_to, by_ln, ln_of, derive_x, derive_div, derive_exp, derive_by, derive_log, derive_into, or_zero, derive}
 use Rattle.calculus.specs.Integral.{x, stored, integrate_x, integrate_by, integrate_into, integrate}
 
@@ -55,9 +54,9 @@ prime-quiet : (f : Found) (g : Complex → Outcome) → ((d : Complex) → Overf
 prime-quiet (at d) g k h = k d h
 prime-quiet absent g k h = other-refusal TooComplex (λ e. omega arith) h
 
-ln-quiet : (l : Ln) (g : Float → Outcome) → ((b : Float) → Overflow (g b) → ⊥) → Overflow (by_ln l g) → ⊥
-ln-quiet (Is b) g k h = k b h
-ln-quiet Other g k h = other-refusal NeedsMath (λ e. omega arith) h
+ln-quiet : (l : Option Float) (g : Float → Outcome) → ((b : Float) → Overflow (g b) → ⊥) → Overflow (by_ln l g) → ⊥
+ln-quiet (Some b) g k h = k b h
+ln-quiet None g k h = other-refusal NeedsMath (λ e. omega arith) h
 
 -- ---- one entry's derivative
 

@@ -16,8 +16,8 @@ use Rattle.numbers.specs.Ops.{◌⊕◌, ◌⊖◌}
 use Rattle.numbers.specs.Order.{cmp_num}
 use Rattle.numbers.specs.Signs.{zero64, one64}
 use Rattle.numbers.specs.Wholes.{Means, Near, NearUp}
-use Rattle.numbers.specs.declared.Ordering.{Ordering}
-use Rattle.numbers.specs.declared.Ordering.TheVariants.{Less, Equal, Greater}
+use Rattle.std.specs.declared.cmp.Ordering.{Ordering}
+use Rattle.std.specs.declared.cmp.Ordering.TheVariants.{Less, Equal, Greater}
 use Rattle.numbers.proofs.Bools.{T_of}
 use Rattle.numbers.proofs.Order.{eq-symmetric, eq-transitive, then-equal-both}
 use Rattle.numbers.proofs.Wholes.{means-finite, less-1, less-1-eq, more-1, more-1-eq}

@@ -1,5 +1,5 @@
 -- The Rust's derivative of a sum. One outermost entry is one step: 7 is asked first, then 14, and then 18, 15, 13 and 12 as the entry is formed.
-use Rattle.std.specs.Prelude.{ℕ, Bool, cond, eqb, Float}
+use Rattle.std.specs.Prelude.{ℕ, Bool, cond, eqb, Float, Option, Some, None}
 use Rattle.std.specs.Float.Ieee.{eq, of_bits}
 use Rattle.std.specs.Float.{binary64}
 use Rattle.numbers.specs.Constants.{euler, ln2, ln10, two64}
@@ -16,8 +16,6 @@ use Rattle.sums.specs.Tree.Sums.{Sum, none, and, size, entry}
 use Rattle.sums.specs.Tree.Map.{Outcome, sum, refused, Found, at, absent, and_then_sum, unless, formed, each_into}
 use Rattle.arithmetic.specs.Singles.{constant, is_x}
 use Rattle.arithmetic.specs.Product.{product}
-use Rattle.calculus.specs.declared.Ln.{Ln}
-use Rattle.calculus.specs.declared.Ln.TheVariants.{Is, Other}
 
 -- ---- powers of x
 
@@ -60,9 +58,9 @@ abbrev pub turned_to : ℕ → Complex → Sum → Merge → Sum → Outcome
 turned_to k c i m s = formed m (entry k (size i) zero64 c) i s
 
 -- the natural logarithm of a base that is E, 2 or 10
-abbrev pub by_ln : Ln → (Float → Outcome) → Outcome
-by_ln (Is l) f = f l
-by_ln Other f = refused NeedsMath
+abbrev pub by_ln : Option Float → (Float → Outcome) → Outcome
+by_ln (Some l) f = f l
+by_ln None f = refused NeedsMath
 
 -- ---- one entry
 
@@ -83,8 +81,8 @@ abbrev pub ten64 : Float
 ten64 = of_bits binary64 0x4024000000000000
 
 -- bases compared as numbers
-abbrev pub ln_of : Float → Ln
-ln_of b = cond (eq b euler) (Is one64) (cond (eq b two64) (Is ln2) (cond (eq b ten64) (Is ln10) Other))
+abbrev pub ln_of : Float → Option Float
+ln_of b = cond (eq b euler) (Some one64) (cond (eq b two64) (Some ln2) (cond (eq b ten64) (Some ln10) None))
 
 abbrev pub derive_log : Entry → Sum → Sum → Outcome
 derive_log x i s = by_prime (prime i) (λ d. by_ln (ln_of x.num) (λ l. turned_to kinds.Div (complex.over_real (complex.times x.coef d) l) i Add s))

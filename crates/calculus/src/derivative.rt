@@ -1,7 +1,7 @@
 // The derivative of a sum, one outermost entry a step.
 ghost use Rattle.std.specs.Prelude.{◌≡◌, ◌+◌, ◌≤◌};
 ghost use Rattle.limits.specs.Limits.{sum_entries, sum_levels};
-ghost use Rattle.cells.specs.Contract.Book.{book, Room};
+ghost use Rattle.cells.specs.Contract.Book.{seen, Room};
 ghost use Rattle.cells.specs.Contract.Moves.{Kept};
 ghost use Rattle.sums.specs.Tree.Kinds.{Log};
 ghost use Rattle.sums.specs.Tree.Sums.{none};
@@ -11,84 +11,64 @@ ghost use Rattle.sums.specs.Contract.Lies.{Held, OfOne, Agrees};
 ghost use Rattle.arithmetic.specs.Add.Contract.Operands.{Source, Growing, constant_of};
 ghost use Rattle.calculus.specs.Contract.Into.{Ready, Into, derive_wave};
 
-use crate::Ln;
-use arithmetic::add::Constant;
-use cells::Entry;
+use cells::{Book, Entry};
 use limits::{Refusal, SUM_ENTRIES};
 use numbers::complex::Complex;
-use sums::order::Formed;
 use sums::tree::Merge;
 
 // What a power of x adds to the constant that the derivative of an argument has to be.
-fn prime_step(acc: Complex, p: f64, c: Complex) -> Constant
+fn prime_step(acc: Complex, p: f64, c: Complex) -> Option<Complex>
     ensures { result ≡ constant_of (prime_step acc p c) }
 {
     if crate::vanishes(p, c) {
-        return Constant::Is(acc);
+        return Some(acc);
     }
     if p - 1.0 == 0.0 {
-        return Constant::Is(acc.add(crate::slope(p, c)));
+        return Some(acc.add(crate::slope(p, c)));
     }
-    Constant::Other
+    None
 }
 
 // The constant that the derivative of the sum of n cells from i on is, if it is one.
-fn prime_of(kinds: &[u8], insides: &[u8], numbers: &[[u64; 3]], i: usize, n: usize) -> Constant
-    requires { Held (book kinds.now insides.now numbers.now) i (i + n) sum_levels }
-    ensures { OfOne (book kinds.now insides.now numbers.now) i (i + n) sum_levels (λ s. result ≡ constant_of (prime s)) }
+fn prime_of(book: &Book, i: usize, n: usize) -> Option<Complex>
+    requires { Held (seen book.now) i (i + n) sum_levels }
+    ensures { OfOne (seen book.now) i (i + n) sum_levels (λ s. result ≡ constant_of (prime s)) }
 {
     let end = i + n;
-    let mut q = i;
     let mut acc = Complex::ZERO;
-    while q < end {
-        let x = cells::load(kinds, insides, numbers, q);
+    for q in i..end {
+        let x = book.load(q);
         if x.kind != sums::tree::X {
-            return Constant::Other;
+            return None;
         }
-        let Constant::Is(next) = prime_step(acc, x.num, x.coef) else {
-            return Constant::Other;
+        let Some(next) = prime_step(acc, x.num, x.coef) else {
+            return None;
         };
         acc = next;
-        q = q + 1;
     }
-    Constant::Is(acc)
+    Some(acc)
 }
 
 // A power of x is skipped, or put into the sum of len cells from w on.
-fn derive_x(
-    kinds: &mut [u8],
-    insides: &mut [u8],
-    numbers: &mut [[u64; 3]],
-    x: Entry,
-    w: usize,
-    len: usize,
-) -> Formed
-    requires { Growing (book kinds.old insides.old numbers.old) w len }
-    ensures kept { Kept (book kinds.old insides.old numbers.old) (book kinds.new insides.new numbers.new) w (w + sum_entries) }
-    ensures of_one { OfOne (book kinds.old insides.old numbers.old) w (w + len) sum_levels (λ s. Agrees result (book kinds.new insides.new numbers.new) w (derive_x x s)) }
+fn derive_x(book: &mut Book, x: Entry, w: usize, len: usize) -> Result<usize, Refusal>
+    requires { Growing (seen book.old) w len }
+    ensures kept { Kept (seen book.old) (seen book.new) w (w + sum_entries) }
+    ensures of_one { OfOne (seen book.old) w (w + len) sum_levels (λ s. Agrees result (seen book.new) w (derive_x x s)) }
 {
     if crate::vanishes(x.num, x.coef) {
-        return Formed::Done(len);
+        return Ok(len);
     }
     let c = crate::slope(x.num, x.coef);
-    sums::map::put_power(kinds, insides, numbers, Merge::Add, x.num - 1.0, c, w, len)
+    sums::map::put_power(book, Merge::Add, x.num - 1.0, c, w, len)
 }
 
 // sin, cos, sinh or cosh, whose derivative is of another kind: that of its argument has to be a constant.
-fn derive_wave(
-    kinds: &mut [u8],
-    insides: &mut [u8],
-    numbers: &mut [[u64; 3]],
-    x: Entry,
-    i: usize,
-    w: usize,
-    len: usize,
-) -> Formed
-    requires { Ready (book kinds.old insides.old numbers.old) x i w len × (1 ≤ x.inside) }
-    ensures { Into (book kinds.old insides.old numbers.old) (book kinds.new insides.new numbers.new) x i w len sum_entries result derive_wave }
+fn derive_wave(book: &mut Book, x: Entry, i: usize, w: usize, len: usize) -> Result<usize, Refusal>
+    requires { Ready (seen book.old) x i w len × (1 ≤ x.inside) }
+    ensures { Into (seen book.old) (seen book.new) x i w len sum_entries result derive_wave }
 {
-    let Constant::Is(d) = prime_of(kinds, insides, numbers, i, x.inside as usize) else {
-        return Formed::Refused(Refusal::TooComplex);
+    let Some(d) = prime_of(book, i, x.inside as usize) else {
+        return Err(Refusal::TooComplex);
     };
     let kind = crate::turned_kind(x.kind);
     let how = crate::turned_how(x.kind);
@@ -98,53 +78,37 @@ fn derive_wave(
         num: 0.0,
         coef: x.coef.mul(d),
     };
-    sums::map::put_block(kinds, insides, numbers, how, y, i, w, len)
+    sums::map::put_block(book, how, y, i, w, len)
 }
 
 // E to a multiple of x.
-fn derive_exp(
-    kinds: &mut [u8],
-    insides: &mut [u8],
-    numbers: &mut [[u64; 3]],
-    x: Entry,
-    i: usize,
-    w: usize,
-    len: usize,
-) -> Formed
-    requires { Ready (book kinds.old insides.old numbers.old) x i w len × (1 ≤ x.inside) }
-    ensures { Into (book kinds.old insides.old numbers.old) (book kinds.new insides.new numbers.new) x i w len sum_entries result derive_exp }
+fn derive_exp(book: &mut Book, x: Entry, i: usize, w: usize, len: usize) -> Result<usize, Refusal>
+    requires { Ready (seen book.old) x i w len × (1 ≤ x.inside) }
+    ensures { Into (seen book.old) (seen book.new) x i w len sum_entries result derive_exp }
 {
-    if !arithmetic::add::is_x(kinds, insides, numbers, i, x.inside as usize) {
-        return Formed::Refused(Refusal::TooComplex);
+    if !arithmetic::add::is_x(book, i, x.inside as usize) {
+        return Err(Refusal::TooComplex);
     }
-    let argument = cells::load(kinds, insides, numbers, i);
+    let argument = book.load(i);
     let y = Entry {
         kind: sums::tree::EXP,
         inside: x.inside,
         num: 0.0,
         coef: x.coef.mul(argument.coef),
     };
-    sums::map::put_block(kinds, insides, numbers, Merge::Add, y, i, w, len)
+    sums::map::put_block(book, Merge::Add, y, i, w, len)
 }
 
 // A logarithm, to a base whose natural logarithm is known.
-fn derive_log(
-    kinds: &mut [u8],
-    insides: &mut [u8],
-    numbers: &mut [[u64; 3]],
-    x: Entry,
-    i: usize,
-    w: usize,
-    len: usize,
-) -> Formed
-    requires { Ready (book kinds.old insides.old numbers.old) x i w len × (1 ≤ x.inside) }
-    ensures { Into (book kinds.old insides.old numbers.old) (book kinds.new insides.new numbers.new) x i w len sum_entries result derive_log }
+fn derive_log(book: &mut Book, x: Entry, i: usize, w: usize, len: usize) -> Result<usize, Refusal>
+    requires { Ready (seen book.old) x i w len × (1 ≤ x.inside) }
+    ensures { Into (seen book.old) (seen book.new) x i w len sum_entries result derive_log }
 {
-    let Constant::Is(d) = prime_of(kinds, insides, numbers, i, x.inside as usize) else {
-        return Formed::Refused(Refusal::TooComplex);
+    let Some(d) = prime_of(book, i, x.inside as usize) else {
+        return Err(Refusal::TooComplex);
     };
-    let Ln::Is(l) = crate::ln_of(x.num) else {
-        return Formed::Refused(Refusal::NeedsMath);
+    let Some(l) = crate::ln_of(x.num) else {
+        return Err(Refusal::NeedsMath);
     };
     let y = Entry {
         kind: sums::tree::DIV,
@@ -152,130 +116,87 @@ fn derive_log(
         num: 0.0,
         coef: x.coef.mul(d).div_real(l),
     };
-    sums::map::put_block(kinds, insides, numbers, Merge::Add, y, i, w, len)
+    sums::map::put_block(book, Merge::Add, y, i, w, len)
 }
 
 // 1 over a sum: the sum's square is formed behind the result.
-fn derive_div(
-    kinds: &mut [u8],
-    insides: &mut [u8],
-    numbers: &mut [[u64; 3]],
-    x: Entry,
-    i: usize,
-    w: usize,
-    len: usize,
-) -> Formed
-    requires { Ready (book kinds.old insides.old numbers.old) x i w len × (1 ≤ x.inside) }
-    ensures { Into (book kinds.old insides.old numbers.old) (book kinds.new insides.new numbers.new) x i w len (sum_entries + sum_entries) result derive_div }
+fn derive_div(book: &mut Book, x: Entry, i: usize, w: usize, len: usize) -> Result<usize, Refusal>
+    requires { Ready (seen book.old) x i w len × (1 ≤ x.inside) }
+    ensures { Into (seen book.old) (seen book.new) x i w len (sum_entries + sum_entries) result derive_div }
 {
     let n = x.inside as usize;
     let c = x.coef;
     let p = w + SUM_ENTRIES;
-    match arithmetic::multiply::mul(kinds, insides, numbers, i, n, i, n, p) {
-        Formed::Done(k) => {
-            let y = Entry {
-                kind: sums::tree::DIV,
-                inside: k as u8,
-                num: 0.0,
-                coef: c,
-            };
-            sums::map::put_block(kinds, insides, numbers, Merge::Add, y, p, w, len)
-        }
-        Formed::Refused(r) => Formed::Refused(r),
-    }
+    let k = arithmetic::multiply::mul(book, i, n, i, n, p)?;
+    let y = Entry {
+        kind: sums::tree::DIV,
+        inside: k as u8,
+        num: 0.0,
+        coef: c,
+    };
+    sums::map::put_block(book, Merge::Add, y, p, w, len)
 }
 
 // Any function of a sum but Div.
 fn derive_function(
-    kinds: &mut [u8],
-    insides: &mut [u8],
-    numbers: &mut [[u64; 3]],
+    book: &mut Book,
     x: Entry,
     i: usize,
     w: usize,
     len: usize,
-) -> Formed
-    requires { Ready (book kinds.old insides.old numbers.old) x i w len × (Log ≤ x.kind) }
-    ensures { Into (book kinds.old insides.old numbers.old) (book kinds.new insides.new numbers.new) x i w len sum_entries result derive_into }
+) -> Result<usize, Refusal>
+    requires { Ready (seen book.old) x i w len × (Log ≤ x.kind) }
+    ensures { Into (seen book.old) (seen book.new) x i w len sum_entries result derive_into }
 {
     if x.kind == sums::tree::LOG {
-        return derive_log(kinds, insides, numbers, x, i, w, len);
+        return derive_log(book, x, i, w, len);
     }
     if x.kind == sums::tree::EXP {
-        return derive_exp(kinds, insides, numbers, x, i, w, len);
+        return derive_exp(book, x, i, w, len);
     }
-    derive_wave(kinds, insides, numbers, x, i, w, len)
+    derive_wave(book, x, i, w, len)
 }
 
 // One entry, whose argument lies from i on, derived into the sum of len cells from w on.
-fn derive_entry(
-    kinds: &mut [u8],
-    insides: &mut [u8],
-    numbers: &mut [[u64; 3]],
-    x: Entry,
-    i: usize,
-    w: usize,
-    len: usize,
-) -> Formed
-    requires { Ready (book kinds.old insides.old numbers.old) x i w len }
-    ensures { Into (book kinds.old insides.old numbers.old) (book kinds.new insides.new numbers.new) x i w len (sum_entries + sum_entries) result derive_into }
+fn derive_entry(book: &mut Book, x: Entry, i: usize, w: usize, len: usize) -> Result<usize, Refusal>
+    requires { Ready (seen book.old) x i w len }
+    ensures { Into (seen book.old) (seen book.new) x i w len (sum_entries + sum_entries) result derive_into }
 {
     if x.kind == sums::tree::X {
-        return derive_x(kinds, insides, numbers, x, w, len);
+        return derive_x(book, x, w, len);
     }
     if x.kind == sums::tree::DIV {
-        return derive_div(kinds, insides, numbers, x, i, w, len);
+        return derive_div(book, x, i, w, len);
     }
-    derive_function(kinds, insides, numbers, x, i, w, len)
+    derive_function(book, x, i, w, len)
 }
 
 // Each entry of the sum of m cells from j on, derived into a sum that starts empty.
-fn derive_each(
-    kinds: &mut [u8],
-    insides: &mut [u8],
-    numbers: &mut [[u64; 3]],
-    j: usize,
-    m: usize,
-    w: usize,
-) -> Formed
-    requires { Source (book kinds.old insides.old numbers.old) j m w × Room (book kinds.old insides.old numbers.old) (w + (sum_entries + sum_entries)) }
-    ensures kept { Kept (book kinds.old insides.old numbers.old) (book kinds.new insides.new numbers.new) w (w + (sum_entries + sum_entries)) }
-    ensures of_one { OfOne (book kinds.old insides.old numbers.old) j (j + m) sum_levels (λ t. Agrees result (book kinds.new insides.new numbers.new) w (each_into derive_into none t)) }
+fn derive_each(book: &mut Book, j: usize, m: usize, w: usize) -> Result<usize, Refusal>
+    requires { Source (seen book.old) j m w × Room (seen book.old) (w + (sum_entries + sum_entries)) }
+    ensures kept { Kept (seen book.old) (seen book.new) w (w + (sum_entries + sum_entries)) }
+    ensures of_one { OfOne (seen book.old) j (j + m) sum_levels (λ t. Agrees result (seen book.new) w (each_into derive_into none t)) }
 {
     let end = j + m;
     let mut q = j;
     let mut len = 0usize;
     while q < end {
-        let x = cells::load(kinds, insides, numbers, q);
-        match derive_entry(kinds, insides, numbers, x, q + 1, w, len) {
-            Formed::Done(k) => len = k,
-            Formed::Refused(r) => return Formed::Refused(r),
-        }
+        let x = book.load(q);
+        len = derive_entry(book, x, q + 1, w, len)?;
         q = q + 1 + x.inside as usize;
     }
-    Formed::Done(len)
+    Ok(len)
 }
 
 // The derivative of the sum of m cells from j on: nothing becomes constant 0.
-pub fn expr_deriv(
-    kinds: &mut [u8],
-    insides: &mut [u8],
-    numbers: &mut [[u64; 3]],
-    j: usize,
-    m: usize,
-    w: usize,
-) -> Formed
-    requires { Source (book kinds.old insides.old numbers.old) j m w × Room (book kinds.old insides.old numbers.old) (w + (sum_entries + sum_entries)) }
-    ensures kept { Kept (book kinds.old insides.old numbers.old) (book kinds.new insides.new numbers.new) w (w + (sum_entries + sum_entries)) }
-    ensures of_one { OfOne (book kinds.old insides.old numbers.old) j (j + m) sum_levels (λ t. Agrees result (book kinds.new insides.new numbers.new) w (derive t)) }
+pub fn expr_deriv(book: &mut Book, j: usize, m: usize, w: usize) -> Result<usize, Refusal>
+    requires { Source (seen book.old) j m w × Room (seen book.old) (w + (sum_entries + sum_entries)) }
+    ensures kept { Kept (seen book.old) (seen book.new) w (w + (sum_entries + sum_entries)) }
+    ensures of_one { OfOne (seen book.old) j (j + m) sum_levels (λ t. Agrees result (seen book.new) w (derive t)) }
 {
-    match derive_each(kinds, insides, numbers, j, m, w) {
-        Formed::Done(n) => {
-            if n == 0 {
-                return arithmetic::add::constant_sum(kinds, insides, numbers, Complex::ZERO, w);
-            }
-            Formed::Done(n)
-        }
-        Formed::Refused(r) => Formed::Refused(r),
+    let n = derive_each(book, j, m, w)?;
+    if n == 0 {
+        return arithmetic::add::constant_sum(book, Complex::ZERO, w);
     }
+    Ok(n)
 }

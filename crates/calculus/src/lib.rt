@@ -12,27 +12,20 @@ ghost use Rattle.std.specs.Prelude.{◌≡◌};
 use numbers::complex::Complex;
 use sums::tree::Merge;
 
-// The natural logarithm of a base, where it is known.
-#[derive(Clone, Copy)]
-pub enum Ln {
-    Is(f64),
-    Other,
-}
-
 // Bases are compared as numbers.
-pub fn ln_of(base: f64) -> Ln
+pub fn ln_of(base: f64) -> Option<f64>
     ensures { result ≡ ln_of base }
 {
     if base == numbers::e() {
-        return Ln::Is(1.0);
+        return Some(1.0);
     }
     if base == 2.0 {
-        return Ln::Is(numbers::ln_2());
+        return Some(numbers::ln_2());
     }
     if base == 10.0 {
-        return Ln::Is(numbers::ln_10());
+        return Some(numbers::ln_10());
     }
-    Ln::Other
+    None
 }
 
 pub fn slope(p: f64, c: Complex) -> Complex

@@ -1,9 +1,7 @@
 -- The kinds, primitives and modifiers, each with its number in document 01, and the name that a number stands for.
-use Rattle.std.specs.Prelude.{ℕ, Bool, true, false, List, [], ◌∷◌, eqb}
+use Rattle.std.specs.Prelude.{ℕ, Bool, true, false, Option, Some, None, List, [], ◌∷◌, eqb}
 use Rattle.formats.specs.declared.record.Kind.{Kind}
 use Rattle.formats.specs.declared.record.Kind.TheVariants as kind
-use Rattle.formats.specs.declared.record.KindFound.{KindFound}
-use Rattle.formats.specs.declared.record.KindFound.TheVariants.{Known, Unknown}
 use Rattle.formats.specs.declared.record.Primitive.{Primitive}
 use Rattle.formats.specs.declared.record.Primitive.TheVariants as prim
 use Rattle.formats.specs.declared.record.Modifier.{Modifier}
@@ -52,8 +50,8 @@ kinds =
     ∷ kind.AnythingElse
     ∷ []
 
-unfoldable pub kind_of : ℕ → KindFound
-kind_of = named kind_no Known Unknown kinds
+unfoldable pub kind_of : ℕ → Option Kind
+kind_of = named kind_no Some None kinds
 
 -- ---- primitives; an unlisted one is written as 0, which no listed one has
 

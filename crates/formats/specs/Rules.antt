@@ -1,5 +1,5 @@
 -- Which trees of records are well-formed, and the verdict on a list of bytes: 11 where a rule is broken, then 13 where more than list_levels of them lie one inside the other.
-use Rattle.std.specs.Prelude.{◌≡◌, Bool, true, false, ◌&&◌, ◌||◌, cond, ◌↔◌, List, [], ◌∷◌, ℕ, ◌/◌, ◌%◌, ◌≤◌, ◌<◌, length, leb, eqb}
+use Rattle.std.specs.Prelude.{◌≡◌, Bool, true, false, ◌&&◌, ◌||◌, cond, ◌↔◌, Option, Some, None, Result, Ok, Err, List, [], ◌∷◌, ℕ, ◌%◌, ◌≤◌, ◌<◌, length, leb, eqb}
 use Rattle.std.specs.Bool.{beq}
 use Rattle.limits.specs.Limits.{list_records, list_levels, record_bytes}
 use Rattle.formats.specs.Names.{kind_no, kind_of}
@@ -7,12 +7,7 @@ use Rattle.formats.specs.Tree.{Nodes, end, rec, size, height, parse, encode, rec
 use Rattle.formats.specs.declared.record.Record.{Record}
 use Rattle.formats.specs.declared.record.Kind.{Kind}
 use Rattle.formats.specs.declared.record.Kind.TheVariants.{RealPush, ComplexPush, Primitive, Modifier, Body, Run, CustomInverse}
-use Rattle.formats.specs.declared.record.KindFound.{KindFound}
-use Rattle.formats.specs.declared.record.KindFound.TheVariants.{Known, Unknown}
-use Rattle.formats.specs.declared.record.Shape.{Shape}
-use Rattle.formats.specs.declared.record.Shape.TheVariants.{Bad, Tall}
-use Rattle.formats.specs.declared.record.Verdict.{Verdict}
-use Rattle.formats.specs.declared.record.Verdict.TheVariants.{Good, Refused}
+use Rattle.limits.specs.declared.Refusal.{Refusal}
 use Rattle.limits.specs.declared.Refusal.TheVariants.{BadRecord, TooDeep}
 
 -- ---- one record
@@ -25,9 +20,9 @@ abbrev pub one_of : Record → List Kind → Bool
 one_of r [] = false
 one_of r (k ∷ ks) = is_a r k || one_of r ks
 
-abbrev pub is_known : KindFound → Bool
-is_known (Known k) = true
-is_known Unknown = false
+abbrev pub is_known : Option Kind → Bool
+is_known (Some k) = true
+is_known None = false
 
 -- a field is used, or is zero
 abbrev pub used_or_zero : Bool → ℕ → Bool
@@ -73,20 +68,24 @@ pub record WellFormed (t : Nodes) : Type 0 where
 
 -- ---- the verdict
 
+-- a list is good, or is refused
+abbrev pub Verdict : Type 0
+Verdict = Result (Unit {0}) Refusal
+
 -- nodes that are well-formed have a height
-unfoldable pub shape_of : Bool → Nodes → Shape
-shape_of b t = cond (ok_nodes b t) (Tall (height t)) Bad
+unfoldable pub shape_of : Bool → Nodes → Option ℕ
+shape_of b t = cond (ok_nodes b t) (Some (height t)) None
 
 -- more than list_levels records one inside the other are 13
-abbrev pub judge : Shape → Verdict
-judge Bad = Refused BadRecord
-judge (Tall h) = cond (leb h list_levels) Good (Refused TooDeep)
+abbrev pub judge : Option ℕ → Verdict
+judge None = Err BadRecord
+judge (Some h) = cond (leb h list_levels) (Ok tt) (Err TooDeep)
 
 unfoldable pub verdict : List ℕ → Verdict
-verdict s = cond (eqb (length s % record_bytes) 0 && leb (records_in s) list_records) (judge (shape_of false (parse s))) (Refused BadRecord)
+verdict s = cond (eqb (length s % record_bytes) 0 && leb (records_in s) list_records) (judge (shape_of false (parse s))) (Err BadRecord)
 
 -- what a verdict says of a list of bytes, in the words of the trees
 pub record Judged (s : List ℕ) (v : Verdict) : Type 0 where
-  pub good : (v ≡ Good) ↔ ((t : Nodes) × (encode t ≡ s) × WellFormed t × (height t ≤ list_levels))
-  pub deep : (v ≡ Refused TooDeep) ↔ ((t : Nodes) × (encode t ≡ s) × WellFormed t × (list_levels < height t))
-  pub bad : (v ≡ Refused BadRecord) ↔ ((t : Nodes) → encode t ≡ s → WellFormed t → ⊥)
+  pub good : (v ≡ Ok tt) ↔ ((t : Nodes) × (encode t ≡ s) × WellFormed t × (height t ≤ list_levels))
+  pub deep : (v ≡ Err TooDeep) ↔ ((t : Nodes) × (encode t ≡ s) × WellFormed t × (list_levels < height t))
+  pub bad : (v ≡ Err BadRecord) ↔ ((t : Nodes) → encode t ≡ s → WellFormed t → ⊥)

@@ -6,7 +6,7 @@ ghost use Rattle.formats.specs.Rules.{fields_ok, is_known};
 ghost use Rattle.formats.specs.Tree.{rec_at};
 ghost use Rattle.formats.specs.Contract.Measure.{Simple, may_stand};
 
-use crate::record::{Kind, KindFound, Record};
+use crate::record::{Kind, Record};
 use limits::RECORD_BYTES;
 
 // The first word of a record, from its lowest byte up: the kind, the code, then what a push and a primitive don't use.
@@ -21,11 +21,7 @@ const PRIMITIVE: u64 = 5;
 fn is_known(b: u8) -> bool
     ensures { result ≡ is_known (kind_of b) }
 {
-    if let KindFound::Known(_) = crate::record::kind_of(b) {
-        true
-    } else {
-        false
-    }
+    crate::record::kind_of(b).is_some()
 }
 
 // Whether the kind is one of the listed, and what it does not use is zero: field by field.

@@ -7,78 +7,71 @@ ghost use Rattle.formats.specs.Bytes.{number, bytes};
 ghost use Rattle.formats.specs.Tree.{rec_at, records_in, count, forest, Written};
 ghost use Rattle.formats.specs.Contract.Walk.{Walkable};
 
-use limits::{RECORD_BYTES, Refusal};
+use limits::RECORD_BYTES;
 
 // What a record is.
-#[derive(Clone, Copy)]
+#[derive(Clone, Copy, PartialEq, Eq)]
 pub enum Kind {
-    RealPush,
-    ComplexPush,
-    ArrayPush,
-    OtherPush,
-    Primitive,
-    Modifier,
-    Body,
-    Run,
-    CustomInverse,
-    Obverse,
-    NoNormal,
-    UnderMarker,
-    AnythingElse,
-}
-
-// What a kind byte stands for.
-#[derive(Clone, Copy)]
-pub enum KindFound {
-    Known(Kind),
-    Unknown,
+    RealPush = 1,
+    ComplexPush = 2,
+    ArrayPush = 3,
+    OtherPush = 4,
+    Primitive = 5,
+    Modifier = 6,
+    Body = 7,
+    Run = 8,
+    CustomInverse = 9,
+    Obverse = 10,
+    NoNormal = 11,
+    UnderMarker = 12,
+    AnythingElse = 13,
 }
 
 // What the code of a primitive stands for. Max, SinH, CosH and Root are only written.
-#[derive(Clone, Copy)]
+#[derive(Clone, Copy, PartialEq, Eq)]
 pub enum Primitive {
-    Identity,
-    Pop,
-    Dup,
-    Flip,
-    Neg,
-    Not,
-    Sqrt,
-    Add,
-    Sub,
-    Mul,
-    Div,
-    Pow,
-    Exp,
-    Sin,
-    Cos,
-    Reciprocal,
-    Complex,
-    Max,
-    SinH,
-    CosH,
-    Exp2,
-    Exp10,
-    Log,
-    Ln,
-    Log2,
-    Log10,
-    Over,
-    Root,
-    Unlisted,
+    Identity = 1,
+    Pop = 2,
+    Dup = 3,
+    Flip = 4,
+    Neg = 5,
+    Not = 6,
+    Sqrt = 7,
+    Add = 8,
+    Sub = 9,
+    Mul = 10,
+    Div = 11,
+    Pow = 12,
+    Exp = 13,
+    Sin = 14,
+    Cos = 15,
+    Reciprocal = 16,
+    Complex = 17,
+    Max = 18,
+    SinH = 19,
+    CosH = 20,
+    Exp2 = 32,
+    Exp10 = 33,
+    Log = 34,
+    Ln = 35,
+    Log2 = 36,
+    Log10 = 37,
+    Over = 38,
+    Root = 39,
+    Unlisted = 0,
 }
 
 // What the code of a modifier stands for.
-#[derive(Clone, Copy)]
+#[derive(Clone, Copy, PartialEq, Eq)]
 pub enum Modifier {
-    Dip,
-    Gap,
-    On,
-    By,
-    Both,
-    Bracket,
-    Fork,
-    Unlisted,
+    Dip = 1,
+    Gap = 2,
+    On = 3,
+    By = 4,
+    Both = 5,
+    Bracket = 6,
+    Fork = 7,
+    Unlisted = 0,
 }
 
 #[derive(Clone, Copy)]
@@ -92,95 +85,38 @@ pub struct Record {
     pub im: u64,
 }
 
-// Whether a stretch of records is well-formed, and how many of it stand one inside the other.
-#[derive(Clone, Copy)]
-pub enum Shape {
-    Bad,
-    Tall(usize),
-}
-
-#[derive(Clone, Copy)]
-pub enum Verdict {
-    Good,
-    Refused(Refusal),
-}
-
 pub fn kind_no(k: Kind) -> u8
     ensures { result ≡ kind_no k }
 {
-    match k {
-        Kind::RealPush => 1,
-        Kind::ComplexPush => 2,
-        Kind::ArrayPush => 3,
-        Kind::OtherPush => 4,
-        Kind::Primitive => 5,
-        Kind::Modifier => 6,
-        Kind::Body => 7,
-        Kind::Run => 8,
-        Kind::CustomInverse => 9,
-        Kind::Obverse => 10,
-        Kind::NoNormal => 11,
-        Kind::UnderMarker => 12,
-        Kind::AnythingElse => 13,
-    }
+    k as u8
 }
 
 #[tactic(auto, unfolding(crate::specs::Names::kind_of))]
-pub fn kind_of(b: u8) -> KindFound
+pub fn kind_of(b: u8) -> Option<Kind>
     ensures { result ≡ kind_of b }
 {
     match b {
-        1 => KindFound::Known(Kind::RealPush),
-        2 => KindFound::Known(Kind::ComplexPush),
-        3 => KindFound::Known(Kind::ArrayPush),
-        4 => KindFound::Known(Kind::OtherPush),
-        5 => KindFound::Known(Kind::Primitive),
-        6 => KindFound::Known(Kind::Modifier),
-        7 => KindFound::Known(Kind::Body),
-        8 => KindFound::Known(Kind::Run),
-        9 => KindFound::Known(Kind::CustomInverse),
-        10 => KindFound::Known(Kind::Obverse),
-        11 => KindFound::Known(Kind::NoNormal),
-        12 => KindFound::Known(Kind::UnderMarker),
-        13 => KindFound::Known(Kind::AnythingElse),
-        _ => KindFound::Unknown,
+        1 => Some(Kind::RealPush),
+        2 => Some(Kind::ComplexPush),
+        3 => Some(Kind::ArrayPush),
+        4 => Some(Kind::OtherPush),
+        5 => Some(Kind::Primitive),
+        6 => Some(Kind::Modifier),
+        7 => Some(Kind::Body),
+        8 => Some(Kind::Run),
+        9 => Some(Kind::CustomInverse),
+        10 => Some(Kind::Obverse),
+        11 => Some(Kind::NoNormal),
+        12 => Some(Kind::UnderMarker),
+        13 => Some(Kind::AnythingElse),
+        _ => None,
     }
 }
 
 pub fn primitive_no(p: Primitive) -> u8
     ensures { result ≡ primitive_no p }
 {
-    match p {
-        Primitive::Identity => 1,
-        Primitive::Pop => 2,
-        Primitive::Dup => 3,
-        Primitive::Flip => 4,
-        Primitive::Neg => 5,
-        Primitive::Not => 6,
-        Primitive::Sqrt => 7,
-        Primitive::Add => 8,
-        Primitive::Sub => 9,
-        Primitive::Mul => 10,
-        Primitive::Div => 11,
-        Primitive::Pow => 12,
-        Primitive::Exp => 13,
-        Primitive::Sin => 14,
-        Primitive::Cos => 15,
-        Primitive::Reciprocal => 16,
-        Primitive::Complex => 17,
-        Primitive::Max => 18,
-        Primitive::SinH => 19,
-        Primitive::CosH => 20,
-        Primitive::Exp2 => 32,
-        Primitive::Exp10 => 33,
-        Primitive::Log => 34,
-        Primitive::Ln => 35,
-        Primitive::Log2 => 36,
-        Primitive::Log10 => 37,
-        Primitive::Over => 38,
-        Primitive::Root => 39,
-        Primitive::Unlisted => 0,
-    }
+    p as u8
 }
 
 #[tactic(auto, unfolding(crate::specs::Names::primitive_of))]
@@ -223,16 +159,7 @@ pub fn primitive_of(code: u8) -> Primitive
 pub fn modifier_no(m: Modifier) -> u8
     ensures { result ≡ modifier_no m }
 {
-    match m {
-        Modifier::Dip => 1,
-        Modifier::Gap => 2,
-        Modifier::On => 3,
-        Modifier::By => 4,
-        Modifier::Both => 5,
-        Modifier::Bracket => 6,
-        Modifier::Fork => 7,
-        Modifier::Unlisted => 0,
-    }
+    m as u8
 }
 
 #[tactic(auto, unfolding(crate::specs::Names::modifier_of))]
@@ -251,28 +178,12 @@ pub fn modifier_of(code: u8) -> Modifier
     }
 }
 
-fn wide(x: u8) -> u32
-    ensures { (result ≡ x) × (result < 256) }
-{
-    x as u32
-}
-
-fn low(x: u64) -> u8
-    ensures { result ≡ x % 256 }
-{
-    (x % 256) as u8
-}
-
 // The number in the four bytes at `at`.
 pub fn four(s: &[u8], at: usize) -> u32
     requires { at + 4 ≤ length s.now }
     ensures { (result ≡ number 4 s.now at) × (result < 4294967296) }
 {
-    let a = wide(s[at]);
-    let b = wide(s[at + 1]);
-    let c = wide(s[at + 2]);
-    let d = wide(s[at + 3]);
-    a + 256 * b + 65536 * c + 16777216 * d
+    u32::from_le_bytes([s[at], s[at + 1], s[at + 2], s[at + 3]])
 }
 
 // The number in the eight bytes at `at`.
@@ -280,9 +191,16 @@ pub fn eight(s: &[u8], at: usize) -> u64
     requires { at + 8 ≤ length s.now }
     ensures { result ≡ number 8 s.now at }
 {
-    let a = four(s, at);
-    let b = four(s, at + 4);
-    a as u64 + 4294967296 * (b as u64)
+    u64::from_le_bytes([
+        s[at],
+        s[at + 1],
+        s[at + 2],
+        s[at + 3],
+        s[at + 4],
+        s[at + 5],
+        s[at + 6],
+        s[at + 7],
+    ])
 }
 
 // Writes a number's lowest four bytes at `at`.
@@ -290,13 +208,8 @@ pub fn put_four(out: &mut [u8], at: usize, v: u64)
     requires { at + 4 ≤ length out.old }
     ensures { out.new ≡ sets out.old at (bytes 4 v) }
 {
-    let second = v / 256;
-    let third = second / 256;
-    let fourth = third / 256;
-    out[at] = low(v);
-    out[at + 1] = low(second);
-    out[at + 2] = low(third);
-    out[at + 3] = low(fourth);
+    let lowest = (v % 4294967296) as u32;
+    out[at..at + 4].copy_from_slice(&lowest.to_le_bytes());
 }
 
 // Writes a number's eight bytes at `at`.
@@ -304,8 +217,7 @@ pub fn put_eight(out: &mut [u8], at: usize, v: u64)
     requires { at + 8 ≤ length out.old }
     ensures { out.new ≡ sets out.old at (bytes 8 v) }
 {
-    put_four(out, at, v);
-    put_four(out, at + 4, v / 4294967296);
+    out[at..at + 8].copy_from_slice(&v.to_le_bytes());
 }
 
 // How many whole records there are, or there is room for.
@@ -364,10 +276,11 @@ pub fn count_nodes(list: &[u8], from: usize, to: usize) -> usize
 {
     let mut at = from;
     let mut n = 0;
+    // A `while`, since what lies inside a record is passed over.
     while at < to {
         let r = record_at(list, at);
-        at = at + 1 + r.inside as usize;
-        n = n + 1;
+        at += 1 + r.inside as usize;
+        n += 1;
     }
     n
 }

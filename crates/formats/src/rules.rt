@@ -5,7 +5,7 @@ ghost use Rattle.formats.specs.Tree.{forest};
 ghost use Rattle.formats.specs.Rules.{ok_nodes, verdict, Judged};
 ghost use Rattle.formats.specs.Contract.Measure.{OkInside, Low};
 
-use crate::record::{Kind, Verdict};
+use crate::record::Kind;
 use limits::{LIST_RECORDS, NODE_INSIDE, RECORD_BYTES, Refusal};
 
 // The place of the first record from `from` up to `to` that isn't simple; `from` where bodies stand, since none of them is.
@@ -16,14 +16,12 @@ fn past_simple(list: &[u8], from: usize, to: usize, bodies: bool) -> usize
     if bodies {
         return from;
     }
-    let mut at = from;
-    while at < to {
+    for at in from..to {
         if !crate::fields::is_simple(list, at) {
             return at;
         }
-        at = at + 1;
     }
-    at
+    to
 }
 
 // Whether the records from `from` up to `n` keep the rules and none lies too deep, in one pass over them. The one at `at` lies inside `depth` others and in a
@@ -38,13 +36,14 @@ fn all_stand(list: &[u8], from: usize, n: usize) -> bool
     let mut at = from;
     let mut end = n;
     let mut bodies = false;
+    // A `loop`, since a stretch that ends goes on with the one around it, and a record that holds others goes into them.
     loop {
         at = past_simple(list, at, end, bodies);
         if at == end {
             if depth == 0 {
                 return true;
             }
-            depth = depth - 1;
+            depth -= 1;
             end = ends[depth] as usize;
             bodies = of_bodies[depth];
             continue;
@@ -53,7 +52,7 @@ fn all_stand(list: &[u8], from: usize, n: usize) -> bool
         if !crate::fields::may_stand(r, at, end, bodies) {
             return false;
         }
-        at = at + 1;
+        at += 1;
         if r.inside == 0 {
             continue;
         }
@@ -62,7 +61,7 @@ fn all_stand(list: &[u8], from: usize, n: usize) -> bool
         }
         ends[depth] = end as u16;
         of_bodies[depth] = bodies;
-        depth = depth + 1;
+        depth += 1;
         end = at + r.inside as usize;
         bodies = crate::record::is_a(r.kind, Kind::Modifier);
     }
@@ -87,12 +86,13 @@ fn stretch_ok(list: &[u8], from: usize, to: usize, bodies: bool) -> bool
     ensures { result ≡ ok_nodes bodies (forest list.now from to) }
 {
     let mut at = from;
+    // A `while`, since what lies inside a record is passed over.
     while at < to {
         let r = crate::record::record_at(list, at);
         if !crate::fields::may_stand(r, at, to, bodies) {
             return false;
         }
-        at = at + 1 + r.inside as usize;
+        at += 1 + r.inside as usize;
     }
     true
 }
@@ -103,9 +103,7 @@ fn all_nest(list: &[u8], n: usize) -> bool
     requires { (record_bytes * n ≤ length list.now) × (n ≤ list_records) }
     ensures { result ≡ ok_nodes false (forest list.now 0 n) }
 {
-    let mut i = n;
-    while 0 < i {
-        i = i - 1;
+    for i in (0..n).rev() {
         let r = crate::record::record_at(list, i);
         let next = i + 1 + r.inside as usize;
         if n < next {
@@ -123,27 +121,27 @@ fn all_nest(list: &[u8], n: usize) -> bool
     stretch_ok(list, 0, n, false)
 }
 
-fn judged(list: &[u8]) -> Verdict
+fn judged(list: &[u8]) -> Result<(), Refusal>
     ensures { result ≡ verdict list.now }
 {
     let n = list.len() / RECORD_BYTES;
     if list.len() % RECORD_BYTES != 0 {
-        return Verdict::Refused(Refusal::BadRecord);
+        return Err(Refusal::BadRecord);
     }
     if LIST_RECORDS < n {
-        return Verdict::Refused(Refusal::BadRecord);
+        return Err(Refusal::BadRecord);
     }
     if all_good(list, n) {
-        return Verdict::Good;
+        return Ok(());
     }
     if all_nest(list, n) {
-        return Verdict::Refused(Refusal::TooDeep);
+        return Err(Refusal::TooDeep);
     }
-    Verdict::Refused(Refusal::BadRecord)
+    Err(Refusal::BadRecord)
 }
 
 // Whether a list of bytes is a list of well-formed records (else 11), none of them too deep (else 13).
-pub fn check(list: &[u8]) -> Verdict
+pub fn check(list: &[u8]) -> Result<(), Refusal>
     ensures verdict { result ≡ verdict list.now }
     ensures trees { Judged list.now result }
 {

@@ -21,8 +21,7 @@ const TABLE: [u8; 256] = [
 fn table_at(code: u8) -> u8
     ensures { result ≡ packed (row (primitive_of code)) }
 {
-    let i = code as usize;
-    TABLE[i]
+    TABLE[code as usize]
 }
 
 // Rows as the table has them: the operands taken, four times the results left, and 16 where it counts as handled.

@@ -11,8 +11,7 @@ use Rattle.limits.specs.declared.Refusal.TheVariants.{TooComplex, NeedsMath}
 use Rattle.formats.specs.declared.record.Primitive.TheVariants as prim
 use Rattle.formats.specs.Tree.{end}
 use Rattle.writing.specs.Draft.Writing.{refused}
-use Rattle.inverse.specs.Inverse.{Word, num, act, spell, minus_four64, minus_one64, less_constant, over_factor, unpower, is_int, of_power, simple_quadratic, root, larger}
-use Rattle.inverse.specs.Inverse.{full_quadratic, linear, of_constant, of_quadratic}
+use Rattle.inverse.specs.Inverse.{Word, num, act, spell, minus_four64, minus_one64, less_constant, over_factor, unpower, is_int, of_power, simple_quadratic, root, larger, full_quadratic, linear, of_constant, of_quadratic}
 use Rattle.inverse.specs.Contract.Steps.{by_others}
 use Rattle.inverse.specs.declared.Others.{Others}
 use Rattle.inverse.specs.declared.Others.TheVariants.{Nothing, Power, TooMuch}

@@ -8,6 +8,7 @@ use lib.Dec.{T, eqb}
 use lib.Ieee.{Float, eq, neg, binary64, fits}
 use lib.Ieee.Scale.{finite}
 use lib.Ieee.Fits.{and_r, mul-fits, div-fits}
+use Rattle.std.specs.Prelude.{Ok}
 use Rattle.numbers.specs.Constants.{half64, two64}
 use Rattle.numbers.specs.Signs.{zero64, one64}
 use Rattle.numbers.specs.Ops.{◌⊗◌}
@@ -22,15 +23,13 @@ use Rattle.sums.proofs.tree.Keeps.{Fits}
 use Rattle.arithmetic.specs.Powers.{coef_at}
 use Rattle.arithmetic.proofs.Goodness.{fits-times, fits_bits}
 use Rattle.formats.specs.declared.record.Primitive.{Primitive}
-use Rattle.formats.specs.declared.record.Verdict.TheVariants.{Good}
 use Rattle.formats.specs.declared.record.Primitive.TheVariants as prim
 use Rattle.formats.specs.Tree.{Nodes, end, encode}
 use Rattle.formats.specs.Rules.{verdict}
 use Rattle.writing.specs.Draft.Writing.{does, append, one, Written, wrote, refused, and_then, number_record, can_write, if_can}
 use Rattle.writing.proofs.draft.Fine.{Fine, fine_more, fine_end, fine-say, fine-good, plain-does, plain-number}
 use Rattle.inverse.proofs.Coefs.{coef-first}
-use Rattle.inverse.specs.Inverse.{Word, num, act, spell, minus_four64, minus_one64, coef_of, low, others, less_constant, over_factor, unpower, is_int, simple_quadratic}
-use Rattle.inverse.specs.Inverse.{full_quadratic, linear, of_quadratic, of_others, inverse}
+use Rattle.inverse.specs.Inverse.{Word, num, act, spell, minus_four64, minus_one64, coef_of, low, others, less_constant, over_factor, unpower, is_int, simple_quadratic, full_quadratic, linear, of_quadratic, of_others, inverse}
 
 -- ---- words
 
@@ -73,7 +72,7 @@ spell-fine flag zero (_ ∷ ws) m ns ms x5 f e = elim x5 [ ]
 -- ---- what is written is good
 
 abbrev GoodList : Written → Type 0
-GoodList w = (ns : Nodes) → w ≡ wrote ns → verdict (encode ns) ≡ Good
+GoodList w = (ns : Nodes) → w ≡ wrote ns → verdict (encode ns) ≡ Ok tt
 
 spell-good : (flag : Bool) (ws : List Word) → Fitting 18 ws → GoodList (spell flag ws end)
 spell-good flag ws f ns e = fine-good ns (omega arith) (omega arith) (spell-fine flag 18 ws 0 end ns f (fine_end 1) e)
@@ -170,7 +169,7 @@ others-good flag a b c (and k p i d none) fa fb fc f =
 others-good flag a b c (and k p i d (and l q j e r)) fa fb fc f = refused-good TooComplex
 
 -- what undoes a good sum can be read again
-pub inverse-good : (flag : Bool) (left : ℕ) (s : Sum) → good.Good left s → (ns : Nodes) → inverse flag s ≡ wrote ns → verdict (encode ns) ≡ Good
+pub inverse-good : (flag : Bool) (left : ℕ) (s : Sum) → good.Good left s → (ns : Nodes) → inverse flag s ≡ wrote ns → verdict (encode ns) ≡ Ok tt
 unfolding inverse
 inverse-good flag left s g =
     let f : FitSum s = fit-sum left s g in

@@ -109,7 +109,8 @@ all_others (and k p i c r) = either (low k p) (all_others r)
     alone false none e x = too_much r ∙ sym (ap (λ (y : Bool). cond y (Power p c) TooMuch) x)
     alone false (and l q j d v) e x = too_much r
 
-    either : (t : Bool) → others_from Nothing r ≡ others_of (others r) → others_from (cond t Nothing (cond (eqb k kinds.X) (Power p c) TooMuch)) r ≡ others_of (cond t (others r) (and k p i c (others r)))
+    either : (t : Bool) → others_from Nothing r ≡ others_of (others r)
+        → others_from (cond t Nothing (cond (eqb k kinds.X) (Power p c) TooMuch)) r ≡ others_of (cond t (others r) (and k p i c (others r)))
     either true e = e
     either false e = alone (eqb k kinds.X) (others r) (after-power p c r) refl
 

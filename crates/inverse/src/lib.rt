@@ -2,22 +2,21 @@
 #![tactic(auto)]
 
 ghost use Rattle.std.specs.Prelude.{◌+◌, ◌*◌, ◌≤◌, length, Bool, [], ◌∷◌, ◌≡◌};
-ghost use Rattle.cells.specs.Contract.Book.{book};
+ghost use Rattle.cells.specs.Contract.Book.{seen};
 ghost use Rattle.formats.specs.Tree.{end};
 ghost use Rattle.inverse.specs.Contract.Steps.{inverse_records, next_other, others_of, by_others, ReadyTo, Spelt, Told};
-ghost use Rattle.inverse.specs.Inverse.{num, act, spell, coef_of, low, others, less_constant, over_factor, unpower, is_int, of_power, simple_quadratic, root, larger};
-ghost use Rattle.inverse.specs.Inverse.{full_quadratic, linear, of_constant, of_quadratic, inverse};
+ghost use Rattle.inverse.specs.Inverse.{num, act, spell, coef_of, low, others, less_constant, over_factor, unpower, is_int, of_power, simple_quadratic, root, larger, full_quadratic, linear, of_constant, of_quadratic, inverse};
 ghost use Rattle.limits.specs.Limits.{sum_levels, record_bytes};
 ghost use Rattle.numbers.specs.Complex.Arith.{real_over};
 ghost use Rattle.numbers.specs.Signs.{one64};
 ghost use Rattle.sums.specs.Contract.Lies.{Held, OfOne};
 ghost use Rattle.writing.specs.Draft.Contract.Lying.{Answered};
 
-use cells::Entry;
+use cells::{Book, Entry};
 use formats::record::Primitive;
 use limits::{RECORD_BYTES, Refusal};
 use numbers::complex::Complex;
-use writing::draft::{Draft, Said, Wrote};
+use writing::draft::Draft;
 
 // What a sum has besides x to the 0, 1 and 2: nothing, one power of x with its coefficient, or too much to be undone.
 #[derive(Clone, Copy)]
@@ -34,21 +33,14 @@ fn wide(x: u8) -> usize
 }
 
 // The coefficient of x to the q in the sum of m cells from j on, +0 where there is none.
-fn coef_of(
-    kinds: &[u8],
-    insides: &[u8],
-    numbers: &[[u64; 3]],
-    j: usize,
-    m: usize,
-    q: f64,
-) -> Complex
-    requires { Held (book kinds.now insides.now numbers.now) j (j + m) sum_levels }
-    ensures { OfOne (book kinds.now insides.now numbers.now) j (j + m) sum_levels (λ s. result ≡ coef_of q s) }
+fn coef_of(book: &Book, j: usize, m: usize, q: f64) -> Complex
+    requires { Held (seen book.now) j (j + m) sum_levels }
+    ensures { OfOne (seen book.now) j (j + m) sum_levels (λ s. result ≡ coef_of q s) }
 {
     let end = j + m;
     let mut i = j;
     while i < end {
-        let x = cells::load(kinds, insides, numbers, i);
+        let x = book.load(i);
         if (x.kind == sums::tree::X) & (x.num == q) {
             let c = x.coef;
             return c;
@@ -85,15 +77,15 @@ fn next_other(found: Others, x: Entry) -> Others
 }
 
 // What the sum of m cells from j on has besides x to the 0, 1 and 2.
-fn others_of(kinds: &[u8], insides: &[u8], numbers: &[[u64; 3]], j: usize, m: usize) -> Others
-    requires { Held (book kinds.now insides.now numbers.now) j (j + m) sum_levels }
-    ensures { OfOne (book kinds.now insides.now numbers.now) j (j + m) sum_levels (λ s. result ≡ others_of (others s)) }
+fn others_of(book: &Book, j: usize, m: usize) -> Others
+    requires { Held (seen book.now) j (j + m) sum_levels }
+    ensures { OfOne (seen book.now) j (j + m) sum_levels (λ s. result ≡ others_of (others s)) }
 {
     let end = j + m;
     let mut i = j;
     let mut found = Others::Nothing;
     while i < end {
-        let x = cells::load(kinds, insides, numbers, i);
+        let x = book.load(i);
         found = next_other(found, x);
         i = i + 1 + wide(x.inside);
     }
@@ -102,31 +94,36 @@ fn others_of(kinds: &[u8], insides: &[u8], numbers: &[[u64; 3]], j: usize, m: us
 
 // ---- words
 
-fn then_number(b: &mut [u8], s: Said, complex: bool, c: Complex) -> Said
+fn then_number(
+    b: &mut [u8],
+    s: Result<Draft, Refusal>,
+    complex: bool,
+    c: Complex,
+) -> Result<Draft, Refusal>
     requires { ReadyTo b.old s 1 }
     ensures { Spelt b.old b.new s result 1 complex (num c ∷ []) }
 {
-    match s {
-        Said::Done(d) => writing::draft::say_number(b, d, complex, c),
-        Said::Refused(q) => Said::Refused(q),
-    }
+    let d = s?;
+    writing::draft::say_number(b, d, complex, c)
 }
 
-fn then_do(b: &mut [u8], s: Said, p: Primitive) -> Said
+fn then_do(b: &mut [u8], s: Result<Draft, Refusal>, p: Primitive) -> Result<Draft, Refusal>
     requires { ReadyTo b.old s 1 }
     ensures { (flag : Bool) → Spelt b.old b.new s result 1 flag (act p ∷ []) }
 {
-    match s {
-        Said::Done(d) => {
-            let e = writing::draft::say_primitive(b, d, p);
-            Said::Done(e)
-        }
-        Said::Refused(q) => Said::Refused(q),
-    }
+    let d = s?;
+    let e = writing::draft::say_primitive(b, d, p);
+    Ok(e)
 }
 
 // A number, and what is done with it.
-fn then_by(b: &mut [u8], s: Said, complex: bool, c: Complex, p: Primitive) -> Said
+fn then_by(
+    b: &mut [u8],
+    s: Result<Draft, Refusal>,
+    complex: bool,
+    c: Complex,
+    p: Primitive,
+) -> Result<Draft, Refusal>
     requires { ReadyTo b.old s 2 }
     ensures { Spelt b.old b.new s result 2 complex (num c ∷ act p ∷ []) }
 {
@@ -135,15 +132,20 @@ fn then_by(b: &mut [u8], s: Said, complex: bool, c: Complex, p: Primitive) -> Sa
 }
 
 // The list so far is empty.
-fn start() -> Said
-    ensures { result ≡ Said.Done record { from = 0; end = 0 } }
+fn start() -> Result<Draft, Refusal>
+    ensures { result ≡ Ok record { from = 0; end = 0 } }
 {
-    Said::Done(Draft { from: 0, end: 0 })
+    Ok(Draft { from: 0, end: 0 })
 }
 
 // ---- kx^p + c
 
-fn less_constant(b: &mut [u8], s: Said, complex: bool, c: Complex) -> Said
+fn less_constant(
+    b: &mut [u8],
+    s: Result<Draft, Refusal>,
+    complex: bool,
+    c: Complex,
+) -> Result<Draft, Refusal>
     requires { ReadyTo b.old s 2 }
     ensures { Spelt b.old b.new s result 2 complex (less_constant c []) }
 {
@@ -153,7 +155,12 @@ fn less_constant(b: &mut [u8], s: Said, complex: bool, c: Complex) -> Said
     then_by(b, s, complex, c, Primitive::Sub)
 }
 
-fn over_factor(b: &mut [u8], s: Said, complex: bool, k: Complex) -> Said
+fn over_factor(
+    b: &mut [u8],
+    s: Result<Draft, Refusal>,
+    complex: bool,
+    k: Complex,
+) -> Result<Draft, Refusal>
     requires { ReadyTo b.old s 2 }
     ensures { Spelt b.old b.new s result 2 complex (over_factor k []) }
 {
@@ -163,7 +170,7 @@ fn over_factor(b: &mut [u8], s: Said, complex: bool, k: Complex) -> Said
     then_by(b, s, complex, k, Primitive::Div)
 }
 
-fn unpower(b: &mut [u8], s: Said, complex: bool, p: f64) -> Said
+fn unpower(b: &mut [u8], s: Result<Draft, Refusal>, complex: bool, p: f64) -> Result<Draft, Refusal>
     requires { ReadyTo b.old s 2 }
     ensures { Spelt b.old b.new s result 2 complex (unpower p) }
 {
@@ -184,12 +191,12 @@ fn is_int(k: Complex) -> bool
     (k.im == 0.0) & numbers::is_whole(k.re)
 }
 
-fn of_power(b: &mut [u8], complex: bool, k: Complex, p: f64, c: Complex) -> Said
+fn of_power(b: &mut [u8], complex: bool, k: Complex, p: f64, c: Complex) -> Result<Draft, Refusal>
     requires { record_bytes * inverse_records ≤ length b.old }
     ensures { Told b.old b.new result (of_power complex k p c) }
 {
     if !is_int(k) {
-        return Said::Refused(Refusal::NeedsMath);
+        return Err(Refusal::NeedsMath);
     }
     let t = less_constant(b, start(), complex, c);
     let u = over_factor(b, t, complex, k);
@@ -198,7 +205,7 @@ fn of_power(b: &mut [u8], complex: bool, k: Complex, p: f64, c: Complex) -> Said
 
 // ---- ax² + bx + c, where the middle coefficient is called q
 
-fn simple_quadratic(b: &mut [u8], complex: bool, a: Complex, c: Complex) -> Said
+fn simple_quadratic(b: &mut [u8], complex: bool, a: Complex, c: Complex) -> Result<Draft, Refusal>
     requires { record_bytes * inverse_records ≤ length b.old }
     ensures { Told b.old b.new result (spell complex (simple_quadratic a c) end) }
 {
@@ -207,7 +214,14 @@ fn simple_quadratic(b: &mut [u8], complex: bool, a: Complex, c: Complex) -> Said
     then_do(b, u, Primitive::Sqrt)
 }
 
-fn root(b: &mut [u8], s: Said, complex: bool, a: Complex, q: Complex, c: Complex) -> Said
+fn root(
+    b: &mut [u8],
+    s: Result<Draft, Refusal>,
+    complex: bool,
+    a: Complex,
+    q: Complex,
+    c: Complex,
+) -> Result<Draft, Refusal>
     requires { ReadyTo b.old s 8 }
     ensures { Spelt b.old b.new s result 8 complex (root a q c) }
 {
@@ -218,7 +232,12 @@ fn root(b: &mut [u8], s: Said, complex: bool, a: Complex, q: Complex, c: Complex
     then_do(b, w, Primitive::Sqrt)
 }
 
-fn larger(b: &mut [u8], s: Said, complex: bool, q: Complex) -> Said
+fn larger(
+    b: &mut [u8],
+    s: Result<Draft, Refusal>,
+    complex: bool,
+    q: Complex,
+) -> Result<Draft, Refusal>
     requires { ReadyTo b.old s 8 }
     ensures { Spelt b.old b.new s result 8 complex (larger q) }
 {
@@ -230,7 +249,13 @@ fn larger(b: &mut [u8], s: Said, complex: bool, q: Complex) -> Said
     then_do(b, x, Primitive::Max)
 }
 
-fn full_quadratic(b: &mut [u8], complex: bool, a: Complex, q: Complex, c: Complex) -> Said
+fn full_quadratic(
+    b: &mut [u8],
+    complex: bool,
+    a: Complex,
+    q: Complex,
+    c: Complex,
+) -> Result<Draft, Refusal>
     requires { record_bytes * inverse_records ≤ length b.old }
     ensures { Told b.old b.new result (spell complex (full_quadratic a q c) end) }
 {
@@ -246,7 +271,7 @@ fn one_over(q: Complex) -> Complex
     Complex::real_div(1.0, q)
 }
 
-fn linear(b: &mut [u8], complex: bool, q: Complex, c: Complex) -> Said
+fn linear(b: &mut [u8], complex: bool, q: Complex, c: Complex) -> Result<Draft, Refusal>
     requires { record_bytes * inverse_records ≤ length b.old }
     ensures { Told b.old b.new result (spell complex (linear q c) end) }
 {
@@ -263,7 +288,7 @@ fn linear(b: &mut [u8], complex: bool, q: Complex, c: Complex) -> Said
     then_by(b, start(), complex, one_over(q), Primitive::Mul)
 }
 
-fn of_constant(b: &mut [u8], c: Complex) -> Said
+fn of_constant(b: &mut [u8], c: Complex) -> Result<Draft, Refusal>
     requires { record_bytes * inverse_records ≤ length b.old }
     ensures { Told b.old b.new result (of_constant c) }
 {
@@ -271,7 +296,13 @@ fn of_constant(b: &mut [u8], c: Complex) -> Said
     then_number(b, t, !(c.im == 0.0), c)
 }
 
-fn of_quadratic(b: &mut [u8], complex: bool, a: Complex, q: Complex, c: Complex) -> Said
+fn of_quadratic(
+    b: &mut [u8],
+    complex: bool,
+    a: Complex,
+    q: Complex,
+    c: Complex,
+) -> Result<Draft, Refusal>
     requires { record_bytes * inverse_records ≤ length b.old }
     ensures { Told b.old b.new result (of_quadratic complex a q c) }
 {
@@ -289,7 +320,14 @@ fn of_quadratic(b: &mut [u8], complex: bool, a: Complex, q: Complex, c: Complex)
 
 // ---- the whole sum
 
-fn undo(b: &mut [u8], complex: bool, a: Complex, q: Complex, c: Complex, more: Others) -> Said
+fn undo(
+    b: &mut [u8],
+    complex: bool,
+    a: Complex,
+    q: Complex,
+    c: Complex,
+    more: Others,
+) -> Result<Draft, Refusal>
     requires { record_bytes * inverse_records ≤ length b.old }
     ensures { Told b.old b.new result (by_others complex a q c more) }
 {
@@ -299,9 +337,9 @@ fn undo(b: &mut [u8], complex: bool, a: Complex, q: Complex, c: Complex, more: O
             if q.is_zero() & a.is_zero() {
                 return of_power(b, complex, k, p, c);
             }
-            Said::Refused(Refusal::TooComplex)
+            Err(Refusal::TooComplex)
         }
-        Others::TooMuch => Said::Refused(Refusal::TooComplex),
+        Others::TooMuch => Err(Refusal::TooComplex),
     }
 }
 
@@ -310,21 +348,19 @@ const INVERSE_RECORDS: usize = 8 + 8 + 2;
 
 // The list that undoes the sum of m cells from j on.
 pub fn algebraic_inverse(
-    kinds: &[u8],
-    insides: &[u8],
-    numbers: &[[u64; 3]],
+    book: &Book,
     j: usize,
     m: usize,
     complex: bool,
     out: &mut [u8],
-) -> Wrote
-    requires { Held (book kinds.now insides.now numbers.now) j (j + m) sum_levels }
-    ensures { OfOne (book kinds.now insides.now numbers.now) j (j + m) sum_levels (λ s. Answered out.old out.new result (inverse complex s)) }
+) -> Result<usize, Refusal>
+    requires { Held (seen book.now) j (j + m) sum_levels }
+    ensures { OfOne (seen book.now) j (j + m) sum_levels (λ s. Answered out.old out.new result (inverse complex s)) }
 {
-    let a = coef_of(kinds, insides, numbers, j, m, 2.0);
-    let q = coef_of(kinds, insides, numbers, j, m, 1.0);
-    let c = coef_of(kinds, insides, numbers, j, m, 0.0);
-    let more = others_of(kinds, insides, numbers, j, m);
+    let a = coef_of(book, j, m, 2.0);
+    let q = coef_of(book, j, m, 1.0);
+    let c = coef_of(book, j, m, 0.0);
+    let more = others_of(book, j, m);
     let mut b = [0u8; RECORD_BYTES * INVERSE_RECORDS];
     let s = undo(&mut b, complex, a, q, c, more);
     writing::draft::answer(&b, s, out)

@@ -1,8 +1,7 @@
 -- The refusals' numbers, as document 01's table gives them.
 use Rattle.std.specs.Prelude.{ℕ}
 use Rattle.limits.specs.declared.Refusal.{Refusal}
-use Rattle.limits.specs.declared.Refusal.TheVariants.{TooManyVariables, NotSupported, NoOutput, TooManyOutputs, NonScalar, NonReal, TooComplex, InterpreterBug, NoInverse}
-use Rattle.limits.specs.declared.Refusal.TheVariants.{NotHandled, BadRecord, NoRoom, TooDeep, NeedsMath, NotFinite, BigPower, OutputRoom, PowerNotFinite}
+use Rattle.limits.specs.declared.Refusal.TheVariants.{TooManyVariables, NotSupported, NoOutput, TooManyOutputs, NonScalar, NonReal, TooComplex, InterpreterBug, NoInverse, NotHandled, BadRecord, NoRoom, TooDeep, NeedsMath, NotFinite, BigPower, OutputRoom, PowerNotFinite}
 
 abbrev pub refusal_no : Refusal → ℕ
 refusal_no TooManyVariables = 1

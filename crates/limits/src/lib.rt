@@ -41,50 +41,31 @@ pub const HANDLED_NEEDED: usize = 2;
 pub const LAST_REPLACED: u64 = 9;
 
 // What a refusal is called; refusal_no gives its number.
-#[derive(Clone, Copy)]
+#[derive(Clone, Copy, PartialEq, Eq)]
 pub enum Refusal {
-    TooManyVariables,
-    NotSupported,
-    NoOutput,
-    TooManyOutputs,
-    NonScalar,
-    NonReal,
-    TooComplex,
-    InterpreterBug,
-    NoInverse,
-    NotHandled,
-    BadRecord,
-    NoRoom,
-    TooDeep,
-    NeedsMath,
-    NotFinite,
-    BigPower,
-    OutputRoom,
-    PowerNotFinite,
+    TooManyVariables = 1,
+    NotSupported = 2,
+    NoOutput = 3,
+    TooManyOutputs = 4,
+    NonScalar = 5,
+    NonReal = 6,
+    TooComplex = 7,
+    InterpreterBug = 8,
+    NoInverse = 9,
+    NotHandled = 10,
+    BadRecord = 11,
+    NoRoom = 12,
+    TooDeep = 13,
+    NeedsMath = 14,
+    NotFinite = 15,
+    BigPower = 16,
+    OutputRoom = 17,
+    PowerNotFinite = 18,
 }
 
 // The refusal's number in document 01's table.
 pub fn refusal_no(r: Refusal) -> u64
     ensures { result ≡ refusal_no r }
 {
-    match r {
-        Refusal::TooManyVariables => 1,
-        Refusal::NotSupported => 2,
-        Refusal::NoOutput => 3,
-        Refusal::TooManyOutputs => 4,
-        Refusal::NonScalar => 5,
-        Refusal::NonReal => 6,
-        Refusal::TooComplex => 7,
-        Refusal::InterpreterBug => 8,
-        Refusal::NoInverse => 9,
-        Refusal::NotHandled => 10,
-        Refusal::BadRecord => 11,
-        Refusal::NoRoom => 12,
-        Refusal::TooDeep => 13,
-        Refusal::NeedsMath => 14,
-        Refusal::NotFinite => 15,
-        Refusal::BigPower => 16,
-        Refusal::OutputRoom => 17,
-        Refusal::PowerNotFinite => 18,
-    }
+    r as u64
 }

@@ -13,11 +13,9 @@ use Rattle.sums.specs.Tree.Good.{Good}
 use Rattle.sums.specs.Tree.Map.{sum}
 use Rattle.arithmetic.specs.Singles.{GoodSum, single}
 use Rattle.arithmetic.proofs.Steps.{sum_is}
-use Rattle.arithmetic.proofs.Goodness.{x-head, none-good, fits_bits, good-x_to, good-one, good-alone, good-over, good-neg, good-not, good-sqrt, good-add, good-sub, good-product}
-use Rattle.arithmetic.proofs.Goodness.{good-quotient, good-pow, good-exp, good-reciprocal, good-complex, good-exp2, good-exp10, good-log, good-ln, good-log2, good-log10}
+use Rattle.arithmetic.proofs.Goodness.{x-head, none-good, fits_bits, good-x_to, good-one, good-alone, good-over, good-neg, good-not, good-sqrt, good-add, good-sub, good-product, good-quotient, good-pow, good-exp, good-reciprocal, good-complex, good-exp2, good-exp10, good-log, good-ln, good-log2, good-log10}
 use Rattle.formats.specs.declared.record.Primitive.{Primitive}
-use Rattle.formats.specs.declared.record.Primitive.TheVariants.{Identity, Pop, Dup, Flip, Neg, Not, Sqrt, Add, Sub, Mul, Div, Pow, Exp, Sin, Cos, Reciprocal, Complex, Max, SinH}
-use Rattle.formats.specs.declared.record.Primitive.TheVariants.{CosH, Exp2, Exp10, Log, Ln, Log2, Log10, Over, Root, Unlisted}
+use Rattle.formats.specs.declared.record.Primitive.TheVariants.{Identity, Pop, Dup, Flip, Neg, Not, Sqrt, Add, Sub, Mul, Div, Pow, Exp, Sin, Cos, Reciprocal, Complex, Max, SinH, CosH, Exp2, Exp10, Log, Ln, Log2, Log10, Over, Root, Unlisted}
 use Rattle.formats.specs.Tree as tree
 use Rattle.primitives.specs.Forms.{of_one, of_two}
 use Rattle.stack.specs.Steps.{constant_of}

@@ -6,6 +6,8 @@ use mathlib.Core.List.{List, [], ◌∷◌, ◌++◌}
 use lib.Dec.{leb}
 use lib.ListN.{length, take, drop}
 use native.Mathlib.Omega.{arith}
+use Rattle.formats.specs.declared.record.Kind.{Kind}
+use Rattle.std.specs.Prelude.{Option, Some, None}
 use Rattle.numbers.specs.Signs.{one64}
 use Rattle.numbers.specs.Complex.Arith as complex
 use Rattle.limits.specs.declared.Refusal.{Refusal}
@@ -19,8 +21,6 @@ use Rattle.formats.specs.declared.record.Primitive.{Primitive}
 use Rattle.formats.specs.declared.record.Modifier.{Modifier}
 use Rattle.formats.specs.declared.record.Modifier.TheVariants.{Dip, Gap, On, By, Both, Bracket, Fork, Unlisted}
 use Rattle.formats.specs.declared.record.Record.{Record}
-use Rattle.formats.specs.declared.record.KindFound.{KindFound}
-use Rattle.formats.specs.declared.record.KindFound.TheVariants.{Known, Unknown}
 use Rattle.formats.specs.declared.record.Kind.TheVariants as kind
 use Rattle.formats.specs.Names.{kind_of, modifier_of, primitive_of}
 use Rattle.formats.specs.Table.{row}
@@ -212,11 +212,11 @@ module _ (P : Bool → Sum → Type 0) (keeps : Keeping P) where
 
   -- ---- a record with nothing inside
 
-  leaf-keeps : (at : ℕ) (r : Record) (f : KindFound) → Keeps P (leaf_step at r f)
+  leaf-keeps : (at : ℕ) (r : Record) (f : Option Kind) → Keeps P (leaf_step at r f)
   unfolding leaf_step
-  leaf-keeps at r (Known kind.RealPush) h st k =
+  leaf-keeps at r (Some kind.RealPush) h st k =
       left_after P st.complex (push at h (constant_of r.re 0) st) (push-left P st.complex at h (constant_of r.re 0) st (keeps.real st.complex r.re) k)
-  leaf-keeps at r (Known kind.ComplexPush) h st k =
+  leaf-keeps at r (Some kind.ComplexPush) h st k =
       flag-after P st.complex true (λ st'. st'.handled) (push at h (constant_of r.re r.im) st)
       (push-left P (st.complex || true) at h (constant_of r.re r.im) st (λ s e. rises-one true (st.complex || true) s (λ z. set st.complex) (keeps.complex r.re r.im s e))
       (each-rises st.complex (st.complex || true) st.stack (or-rises st.complex true) k))
@@ -224,18 +224,18 @@ module _ (P : Bool → Sum → Type 0) (keeps : Keeping P) where
       set : (c : Bool) → c || true ≡ true
       set true = refl
       set false = refl
-  leaf-keeps at r (Known kind.ArrayPush) h st k = tt
-  leaf-keeps at r (Known kind.OtherPush) h st k = tt
-  leaf-keeps at r (Known kind.Primitive) h st k = primitive-keeps at (primitive_of r.code) h st k
-  leaf-keeps at r (Known kind.Modifier) h st k = tt
-  leaf-keeps at r (Known kind.Body) h st k = tt
-  leaf-keeps at r (Known kind.Run) h st k = tt
-  leaf-keeps at r (Known kind.CustomInverse) h st k = tt
-  leaf-keeps at r (Known kind.Obverse) h st k = tt
-  leaf-keeps at r (Known kind.NoNormal) h st k = tt
-  leaf-keeps at r (Known kind.UnderMarker) h st k = (λ e. e, k)
-  leaf-keeps at r (Known kind.AnythingElse) h st k = tt
-  leaf-keeps at r Unknown h st k = tt
+  leaf-keeps at r (Some kind.ArrayPush) h st k = tt
+  leaf-keeps at r (Some kind.OtherPush) h st k = tt
+  leaf-keeps at r (Some kind.Primitive) h st k = primitive-keeps at (primitive_of r.code) h st k
+  leaf-keeps at r (Some kind.Modifier) h st k = tt
+  leaf-keeps at r (Some kind.Body) h st k = tt
+  leaf-keeps at r (Some kind.Run) h st k = tt
+  leaf-keeps at r (Some kind.CustomInverse) h st k = tt
+  leaf-keeps at r (Some kind.Obverse) h st k = tt
+  leaf-keeps at r (Some kind.NoNormal) h st k = tt
+  leaf-keeps at r (Some kind.UnderMarker) h st k = (λ e. e, k)
+  leaf-keeps at r (Some kind.AnythingElse) h st k = tt
+  leaf-keeps at r None h st k = tt
 
   -- ---- modifiers
 

@@ -5,14 +5,14 @@ use mathlib.Core.Path.{◌≡◌, refl}
 use mathlib.Core.Bool.{Bool, true, false, cond}
 use mathlib.Core.List.{List, [], ◌∷◌, ◌++◌}
 use lib.Dec.{leb}
+use Rattle.formats.specs.declared.record.Kind.{Kind}
+use Rattle.std.specs.Prelude.{Option, Some, None}
 use Rattle.limits.specs.declared.Refusal.TheVariants.{NoRoom}
 use Rattle.sums.specs.Tree.Sums.{Sum}
 use Rattle.sums.specs.Tree.Map.{Outcome, sum, refused}
 use Rattle.arithmetic.specs.Singles.{GoodSum}
 use Rattle.formats.specs.declared.record.Primitive.{Primitive}
 use Rattle.formats.specs.declared.record.Record.{Record}
-use Rattle.formats.specs.declared.record.KindFound.{KindFound}
-use Rattle.formats.specs.declared.record.KindFound.TheVariants.{Known, Unknown}
 use Rattle.formats.specs.declared.record.Kind.TheVariants as kind
 use Rattle.formats.specs.Names.{primitive_of}
 use Rattle.formats.specs.Table.{row}
@@ -85,21 +85,21 @@ primitive-within at h p st f =
 
 -- ---- a record with nothing inside
 
-pub leaf-within : (at : ℕ) (r : Record) (k : KindFound) (h : ℕ) (st : State) → Fine st.stack → Within st.pairs 1 (leaf_step at r k h st)
+pub leaf-within : (at : ℕ) (r : Record) (k : Option Kind) (h : ℕ) (st : State) → Fine st.stack → Within st.pairs 1 (leaf_step at r k h st)
 unfolding leaf_step
-leaf-within at r (Known kind.RealPush) h st f = push-within st.pairs 1 at h (constant_of r.re 0) st (λ s e. constant-good r.re 0 e) f (omega arith)
-leaf-within at r (Known kind.ComplexPush) h st f =
+leaf-within at r (Some kind.RealPush) h st f = push-within st.pairs 1 at h (constant_of r.re 0) st (λ s e. constant-good r.re 0 e) f (omega arith)
+leaf-within at r (Some kind.ComplexPush) h st f =
     flag-within st.pairs 1 (push at h (constant_of r.re r.im) st) _ _
     (push-within st.pairs 1 at h (constant_of r.re r.im) st (λ s e. constant-good r.re r.im e) f (omega arith))
-leaf-within at r (Known kind.ArrayPush) h st f = tt
-leaf-within at r (Known kind.OtherPush) h st f = tt
-leaf-within at r (Known kind.Primitive) h st f = primitive-within at h (primitive_of r.code) st f
-leaf-within at r (Known kind.Modifier) h st f = tt
-leaf-within at r (Known kind.Body) h st f = tt
-leaf-within at r (Known kind.Run) h st f = tt
-leaf-within at r (Known kind.CustomInverse) h st f = tt
-leaf-within at r (Known kind.Obverse) h st f = tt
-leaf-within at r (Known kind.NoNormal) h st f = tt
-leaf-within at r (Known kind.UnderMarker) h st f = (f, omega arith)
-leaf-within at r (Known kind.AnythingElse) h st f = tt
-leaf-within at r Unknown h st f = tt
+leaf-within at r (Some kind.ArrayPush) h st f = tt
+leaf-within at r (Some kind.OtherPush) h st f = tt
+leaf-within at r (Some kind.Primitive) h st f = primitive-within at h (primitive_of r.code) st f
+leaf-within at r (Some kind.Modifier) h st f = tt
+leaf-within at r (Some kind.Body) h st f = tt
+leaf-within at r (Some kind.Run) h st f = tt
+leaf-within at r (Some kind.CustomInverse) h st f = tt
+leaf-within at r (Some kind.Obverse) h st f = tt
+leaf-within at r (Some kind.NoNormal) h st f = tt
+leaf-within at r (Some kind.UnderMarker) h st f = (f, omega arith)
+leaf-within at r (Some kind.AnythingElse) h st f = tt
+leaf-within at r None h st f = tt

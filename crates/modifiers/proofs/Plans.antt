@@ -1,9 +1,9 @@
 -- Laws of plans: what a modifier does is what its plan says. Assumes nothing.
 use mathlib.Core.Path.{◌≡◌, refl, sym, ap, ◌∙◌}
 use mathlib.Core.Bool.{Bool, true, false, cond}
-use mathlib.Core.Logic.{◌⊎◌, inl, inr, ⊎_elim}
+use mathlib.Core.Logic.{inl, inr, ⊎_elim}
 use mathlib.Core.List.{List, [], ◌∷◌, ◌++◌}
-use Prim.Native.Nat.{ℕ, suc, ◌+◌, ◌-◌, ◌≤◌, ◌<◌}
+use Prim.Native.Nat.{ℕ, suc, ◌+◌, ◌≤◌, ◌<◌}
 use native.Mathlib.Omega.{arith}
 use lib.Dec.{eqb, leb}
 use borrow.Author.Tests.{eqb-true, eqb-false}
@@ -21,11 +21,11 @@ use Rattle.formats.proofs.record.Forest.{below, forest-none, forest-more}
 use Rattle.formats.proofs.record.Walk.{stretch-next, stretch-count, stretch-after}
 use Rattle.stack.specs.Stack.{total}
 use Rattle.stack.specs.State.{State, Walked, went, stopped, and_then, stop, lend, taking, taking_if}
-use Rattle.modifiers.specs.Holding.{deepest, back_to, holding, dropping, copying}
+use Rattle.modifiers.specs.Holding.{deepest, back_to, holding, copying}
 use Rattle.modifiers.specs.Modifiers.{Runner, one_body, two_bodies, modifier}
 use Rattle.modifiers.specs.Reading.{runners}
 use Rattle.modifiers.specs.Contract.Walks.{walk_of}
-use Rattle.modifiers.specs.Contract.Plans.{way_of, held_by, lent_by, begin, plan_by, twice, planned, modified, AtMostOne, Follows, UsedAs}
+use Rattle.modifiers.specs.Contract.Plans.{way_of, begin, plan_by, planned, modified, AtMostOne, Follows, UsedAs}
 use Rattle.modifiers.specs.declared.Plan.{Plan}
 use Rattle.modifiers.specs.declared.Use.{Use}
 use Rattle.modifiers.specs.declared.Use.TheVariants.{Refused, Bodies}

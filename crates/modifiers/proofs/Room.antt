@@ -7,6 +7,8 @@ use mathlib.Core.List.{List, [], ◌∷◌, ◌++◌}
 use lib.Dec.{leb}
 use lib.ListN.{length, take, drop}
 use borrow.Author.Tests.{leb-true, le-leb}
+use Rattle.formats.specs.declared.record.Kind.{Kind}
+use Rattle.std.specs.Prelude.{Option, Some, None}
 use Rattle.limits.specs.declared.Refusal.TheVariants.{NoRoom}
 use Rattle.sums.specs.Tree.Sums.{Sum}
 use Rattle.sums.specs.Tree.Map.{Outcome, sum, refused}
@@ -15,8 +17,6 @@ use Rattle.formats.specs.declared.record.Record.{Record}
 use Rattle.formats.specs.declared.record.Primitive.{Primitive}
 use Rattle.formats.specs.declared.record.Modifier.{Modifier}
 use Rattle.formats.specs.declared.record.Modifier.TheVariants.{Dip, Gap, On, By, Both, Bracket, Fork, Unlisted}
-use Rattle.formats.specs.declared.record.KindFound.{KindFound}
-use Rattle.formats.specs.declared.record.KindFound.TheVariants.{Known, Unknown}
 use Rattle.formats.specs.declared.record.Kind.TheVariants as kind
 use Rattle.formats.specs.Names.{kind_of, modifier_of, primitive_of}
 use Rattle.formats.specs.Table.{row}
@@ -126,22 +126,22 @@ module _ (at : ℕ) where
     complex-stays : (o : Outcome) (st : State) → Stays (and_then (push at h o st) (λ st'. went (flagged true st'))) (and_then (push at h' o st) (λ st'. went (flagged true st')))
     complex-stays o st = then-stays (push at h o st) (push at h' o st) _ _ (push-stays o st) (λ st'. self _)
 
-    leaf-stays : (r : Record) (k : KindFound) (st : State) → Stays (leaf_step at r k h st) (leaf_step at r k h' st)
+    leaf-stays : (r : Record) (k : Option Kind) (st : State) → Stays (leaf_step at r k h st) (leaf_step at r k h' st)
     unfolding leaf_step
-    leaf-stays r (Known kind.RealPush) st = push-stays (constant_of r.re 0) st
-    leaf-stays r (Known kind.ComplexPush) st = complex-stays (constant_of r.re r.im) st
-    leaf-stays r (Known kind.ArrayPush) st = self _
-    leaf-stays r (Known kind.OtherPush) st = self _
-    leaf-stays r (Known kind.Primitive) st = primitive-stays (primitive_of r.code) st
-    leaf-stays r (Known kind.Modifier) st = self _
-    leaf-stays r (Known kind.Body) st = self _
-    leaf-stays r (Known kind.Run) st = self _
-    leaf-stays r (Known kind.CustomInverse) st = self _
-    leaf-stays r (Known kind.Obverse) st = self _
-    leaf-stays r (Known kind.NoNormal) st = self _
-    leaf-stays r (Known kind.UnderMarker) st = self _
-    leaf-stays r (Known kind.AnythingElse) st = self _
-    leaf-stays r Unknown st = self _
+    leaf-stays r (Some kind.RealPush) st = push-stays (constant_of r.re 0) st
+    leaf-stays r (Some kind.ComplexPush) st = complex-stays (constant_of r.re r.im) st
+    leaf-stays r (Some kind.ArrayPush) st = self _
+    leaf-stays r (Some kind.OtherPush) st = self _
+    leaf-stays r (Some kind.Primitive) st = primitive-stays (primitive_of r.code) st
+    leaf-stays r (Some kind.Modifier) st = self _
+    leaf-stays r (Some kind.Body) st = self _
+    leaf-stays r (Some kind.Run) st = self _
+    leaf-stays r (Some kind.CustomInverse) st = self _
+    leaf-stays r (Some kind.Obverse) st = self _
+    leaf-stays r (Some kind.NoNormal) st = self _
+    leaf-stays r (Some kind.UnderMarker) st = self _
+    leaf-stays r (Some kind.AnythingElse) st = self _
+    leaf-stays r None st = self _
 
     -- ---- bodies
 

@@ -1,5 +1,6 @@
 -- Reading a list: each node as a step, and what is left at the end.
-use Rattle.std.specs.Prelude.{ℕ, ◌+◌, Bool, false, List, [], ◌∷◌}
+use Rattle.formats.specs.declared.record.Kind.{Kind}
+use Rattle.std.specs.Prelude.{ℕ, ◌+◌, Bool, false, List, [], ◌∷◌, Option, Some, None}
 use Rattle.numbers.specs.Signs.{one64}
 use Rattle.numbers.specs.Complex.Arith as complex
 use Rattle.limits.specs.declared.Refusal.{Refusal}
@@ -8,8 +9,6 @@ use Rattle.sums.specs.Tree.Kinds as kinds
 use Rattle.sums.specs.Tree.Sums.{Sum, none}
 use Rattle.arithmetic.specs.Singles.{single}
 use Rattle.formats.specs.declared.record.Record.{Record}
-use Rattle.formats.specs.declared.record.KindFound.{KindFound}
-use Rattle.formats.specs.declared.record.KindFound.TheVariants.{Known, Unknown}
 use Rattle.formats.specs.declared.record.Kind.TheVariants.{RealPush, ComplexPush, ArrayPush, OtherPush, Primitive, Modifier, Body, Run, CustomInverse, Obverse, NoNormal, UnderMarker, AnythingElse}
 use Rattle.formats.specs.Names.{kind_of, modifier_of}
 use Rattle.formats.specs.Tree as tree
@@ -20,21 +19,21 @@ use Rattle.stack.specs.Steps.{leaf_step}
 use Rattle.modifiers.specs.Modifiers.{Runner, run_all, modifier}
 
 -- what a record has inside that is run: nothing, nodes that are run in turn, or a modifier's bodies
-abbrev pub inside_of : KindFound → Inside
-inside_of (Known Modifier) = Bodies
-inside_of (Known Body) = Nodes
-inside_of (Known Run) = Nodes
-inside_of (Known CustomInverse) = Nodes
-inside_of (Known RealPush) = Nothing
-inside_of (Known ComplexPush) = Nothing
-inside_of (Known ArrayPush) = Nothing
-inside_of (Known OtherPush) = Nothing
-inside_of (Known Primitive) = Nothing
-inside_of (Known Obverse) = Nothing
-inside_of (Known NoNormal) = Nothing
-inside_of (Known UnderMarker) = Nothing
-inside_of (Known AnythingElse) = Nothing
-inside_of Unknown = Nothing
+abbrev pub inside_of : Option Kind → Inside
+inside_of (Some Modifier) = Bodies
+inside_of (Some Body) = Nodes
+inside_of (Some Run) = Nodes
+inside_of (Some CustomInverse) = Nodes
+inside_of (Some RealPush) = Nothing
+inside_of (Some ComplexPush) = Nothing
+inside_of (Some ArrayPush) = Nothing
+inside_of (Some OtherPush) = Nothing
+inside_of (Some Primitive) = Nothing
+inside_of (Some Obverse) = Nothing
+inside_of (Some NoNormal) = Nothing
+inside_of (Some UnderMarker) = Nothing
+inside_of (Some AnythingElse) = Nothing
+inside_of None = Nothing
 
 -- what comes of the record at a place
 abbrev pub by_inside : Inside → ℕ → Record → List Runner → ℕ → State → Walked

@@ -3,13 +3,14 @@ ghost use Rattle.std.specs.Prelude.{◌≡◌, ◌-◌};
 ghost use Rattle.formats.specs.Names.{modifier_of};
 ghost use Rattle.modifiers.specs.Holding.{holding};
 ghost use Rattle.modifiers.specs.Contract.Plans.{held_by, lent_by, begin};
-ghost use Rattle.stack.specs.Contract.Arena.{arena, places};
+ghost use Rattle.stack.specs.Contract.Arena.{slots, places};
 ghost use Rattle.stack.specs.Contract.Agree.{Ready};
 ghost use Rattle.modifiers.specs.Contract.Begins.{Begins};
 ghost use Rattle.modifiers.specs.Contract.Manners.{manner_of};
 
 use crate::hold::Begun;
 use formats::record::Modifier;
+use stack::slots::Arena;
 use stack::state::AlgebraEnv;
 
 // What a modifier does with what it takes off the stack.
@@ -68,44 +69,24 @@ fn lent_by(m: Modifier) -> usize
 }
 
 // Holds what a modifier other than Gap and By holds.
-fn hold_for(
-    m: Modifier,
-    n: usize,
-    at: usize,
-    kinds: &mut [u8],
-    insides: &mut [u8],
-    numbers: &mut [[u64; 3]],
-    sizes: &mut [u8],
-    v: usize,
-    env: AlgebraEnv,
-) -> Begun
-    requires { Ready (arena kinds.old insides.old numbers.old sizes.old) v env }
-    ensures { Begins (arena kinds.old insides.old numbers.old sizes.old) (arena kinds.new insides.new numbers.new sizes.new) v env result (λ st f. holding at (held_by m n) (lent_by m) (places - v) st f) }
+fn hold_for(m: Modifier, n: usize, at: usize, arena: &mut Arena, v: usize, env: AlgebraEnv) -> Begun
+    requires { Ready (slots arena.old) v env }
+    ensures { Begins (slots arena.old) (slots arena.new) v env result (λ st f. holding at (held_by m n) (lent_by m) (places - v) st f) }
 {
     let k = held_by(m, n);
     let c = lent_by(m);
-    crate::lend::hold_and_lend(k, c, at, kinds, insides, numbers, sizes, v, env)
+    crate::lend::hold_and_lend(k, c, at, arena, v, env)
 }
 
 // What a modifier does before its first body runs, where the first in the list takes n arguments.
-pub fn begin(
-    code: u8,
-    n: usize,
-    at: usize,
-    kinds: &mut [u8],
-    insides: &mut [u8],
-    numbers: &mut [[u64; 3]],
-    sizes: &mut [u8],
-    v: usize,
-    env: AlgebraEnv,
-) -> Begun
-    requires { Ready (arena kinds.old insides.old numbers.old sizes.old) v env }
-    ensures { Begins (arena kinds.old insides.old numbers.old sizes.old) (arena kinds.new insides.new numbers.new sizes.new) v env result (λ st f. begin (modifier_of code) n at (places - v) st f) }
+pub fn begin(code: u8, n: usize, at: usize, arena: &mut Arena, v: usize, env: AlgebraEnv) -> Begun
+    requires { Ready (slots arena.old) v env }
+    ensures { Begins (slots arena.old) (slots arena.new) v env result (λ st f. begin (modifier_of code) n at (places - v) st f) }
 {
     let m = formats::record::modifier_of(code);
     match begins_by(m) {
-        Manner::Drops => crate::hold::drop_top(at, kinds, insides, numbers, sizes, v, env),
-        Manner::Copies => crate::hold::copy_under(n, at, kinds, insides, numbers, sizes, v, env),
-        Manner::Holds => hold_for(m, n, at, kinds, insides, numbers, sizes, v, env),
+        Manner::Drops => crate::hold::drop_top(at, arena, v, env),
+        Manner::Copies => crate::hold::copy_under(n, at, arena, v, env),
+        Manner::Holds => hold_for(m, n, at, arena, v, env),
     }
 }

@@ -2,7 +2,7 @@
 ghost use Rattle.std.specs.Prelude.{◌≡◌, ◌+◌, ◌-◌, ◌≤◌, leb};
 ghost use Rattle.limits.specs.Limits.{handled_needed};
 ghost use Rattle.limits.specs.declared.Refusal.TheVariants.{TooManyVariables};
-ghost use Rattle.stack.specs.Contract.Arena.{arena, places};
+ghost use Rattle.stack.specs.Contract.Arena.{slots, places};
 ghost use Rattle.stack.specs.State.{taking};
 ghost use Rattle.stack.specs.Contract.Agree.{Ready};
 ghost use Rattle.modifiers.specs.Holding.{dropping, copying};
@@ -10,7 +10,7 @@ ghost use Rattle.modifiers.specs.Contract.Begins.{Begins, CopiesBelow};
 ghost use Rattle.modifiers.specs.declared.hold.Begun.TheVariants.{Halted};
 
 use limits::{HANDLED_NEEDED, Refusal};
-use stack::slots::{Deep, WORKING};
+use stack::slots::{Arena, WORKING};
 use stack::state::AlgebraEnv;
 
 // The state in which a body begins, with how many cells are held for its modifier; or a refusal.
@@ -38,119 +38,65 @@ fn too_few(at: usize, env: AlgebraEnv) -> Begun
 }
 
 // The top k sums are taken off the stack and held, just below v.
-pub fn hold(
-    k: usize,
-    at: usize,
-    kinds: &mut [u8],
-    insides: &mut [u8],
-    numbers: &mut [[u64; 3]],
-    sizes: &mut [u8],
-    v: usize,
-    env: AlgebraEnv,
-) -> Begun
-    requires { Ready (arena kinds.old insides.old numbers.old sizes.old) v env }
-    ensures { Begins (arena kinds.old insides.old numbers.old sizes.old) (arena kinds.new insides.new numbers.new sizes.new) v env result (λ st f. taking at k st f) }
+pub fn hold(k: usize, at: usize, arena: &mut Arena, v: usize, env: AlgebraEnv) -> Begun
+    requires { Ready (slots arena.old) v env }
+    ensures { Begins (slots arena.old) (slots arena.new) v env result (λ st f. taking at k st f) }
 {
     let used = env.used;
-    let d = stack::slots::measure(sizes, WORKING, used, k);
-    let Deep::From(w) = d else {
+    let d = stack::slots::measure(arena, WORKING, used, k);
+    let Some(w) = d else {
         return too_few(at, env);
     };
-    stack::slots::raise(kinds, insides, numbers, sizes, w, used, v - used);
-    Begun::Held(
-        AlgebraEnv {
-            used: w,
-            handled: env.handled,
-            complex: env.complex,
-            pairs: env.pairs,
-        },
-        used - w,
-    )
+    stack::slots::raise(arena, w, used, v - used);
+    Begun::Held(AlgebraEnv { used: w, ..env }, used - w)
 }
 
 // The top is taken off, and nothing held.
-pub fn drop_top(
-    at: usize,
-    kinds: &[u8],
-    insides: &[u8],
-    numbers: &[[u64; 3]],
-    sizes: &[u8],
-    v: usize,
-    env: AlgebraEnv,
-) -> Begun
-    requires { Ready (arena kinds.now insides.now numbers.now sizes.now) v env }
-    ensures { Begins (arena kinds.now insides.now numbers.now sizes.now) (arena kinds.now insides.now numbers.now sizes.now) v env result (λ st f. dropping at st f) }
+pub fn drop_top(at: usize, arena: &Arena, v: usize, env: AlgebraEnv) -> Begun
+    requires { Ready (slots arena.now) v env }
+    ensures { Begins (slots arena.now) (slots arena.now) v env result (λ st f. dropping at st f) }
 {
     let used = env.used;
-    let d = stack::slots::measure(sizes, WORKING, used, 1);
-    let Deep::From(w) = d else {
+    let d = stack::slots::measure(arena, WORKING, used, 1);
+    let Some(w) = d else {
         return too_few(at, env);
     };
-    Begun::Held(
-        AlgebraEnv {
-            used: w,
-            handled: env.handled,
-            complex: env.complex,
-            pairs: env.pairs,
-        },
-        0,
-    )
+    Begun::Held(AlgebraEnv { used: w, ..env }, 0)
 }
 
 // The deepest of the top k, d cells from w on, is put below them once more.
-fn copy_below(
-    w: usize,
-    d: usize,
-    at: usize,
-    kinds: &mut [u8],
-    insides: &mut [u8],
-    numbers: &mut [[u64; 3]],
-    sizes: &mut [u8],
-    v: usize,
-    env: AlgebraEnv,
-) -> Begun
-    requires { Ready (arena kinds.old insides.old numbers.old sizes.old) v env × (w + d ≤ env.used) }
-    ensures { CopiesBelow (arena kinds.old insides.old numbers.old sizes.old) (arena kinds.new insides.new numbers.new sizes.new) w d at v env result }
+fn copy_below(w: usize, d: usize, at: usize, arena: &mut Arena, v: usize, env: AlgebraEnv) -> Begun
+    requires { Ready (slots arena.old) v env × (w + d ≤ env.used) }
+    ensures { CopiesBelow (slots arena.old) (slots arena.new) w d at v env result }
 {
     let used = env.used;
     if v < used + d {
         return Begun::Halted(Refusal::NoRoom, at, false);
     }
-    stack::slots::raise(kinds, insides, numbers, sizes, w, used, d);
-    stack::slots::sink(kinds, insides, numbers, sizes, w + d, w, d);
+    stack::slots::raise(arena, w, used, d);
+    stack::slots::sink(arena, w + d, w, d);
     Begun::Held(
         AlgebraEnv {
             used: used + d,
-            handled: env.handled,
-            complex: env.complex,
-            pairs: env.pairs,
+            ..env
         },
         0,
     )
 }
 
 // A copy of the deepest of the top k is put below them.
-pub fn copy_under(
-    k: usize,
-    at: usize,
-    kinds: &mut [u8],
-    insides: &mut [u8],
-    numbers: &mut [[u64; 3]],
-    sizes: &mut [u8],
-    v: usize,
-    env: AlgebraEnv,
-) -> Begun
-    requires { Ready (arena kinds.old insides.old numbers.old sizes.old) v env }
-    ensures { Begins (arena kinds.old insides.old numbers.old sizes.old) (arena kinds.new insides.new numbers.new sizes.new) v env result (λ st f. copying at k (places - v) st f) }
+pub fn copy_under(k: usize, at: usize, arena: &mut Arena, v: usize, env: AlgebraEnv) -> Begun
+    requires { Ready (slots arena.old) v env }
+    ensures { Begins (slots arena.old) (slots arena.new) v env result (λ st f. copying at k (places - v) st f) }
 {
     let used = env.used;
-    let d = stack::slots::measure(sizes, WORKING, used, k);
-    let Deep::From(w) = d else {
+    let d = stack::slots::measure(arena, WORKING, used, k);
+    let Some(w) = d else {
         return too_few(at, env);
     };
-    let e = stack::slots::measure(sizes, w, used, less(k, 1));
-    let Deep::From(u) = e else {
+    let e = stack::slots::measure(arena, w, used, less(k, 1));
+    let Some(u) = e else {
         return too_few(at, env);
     };
-    copy_below(w, u - w, at, kinds, insides, numbers, sizes, v, env)
+    copy_below(w, u - w, at, arena, v, env)
 }

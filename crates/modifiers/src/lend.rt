@@ -1,7 +1,7 @@
 // What is held is lent, as copies on the stack, and put back. The stack lies in the arena behind the working places; from v on lies what is held.
 ghost use Rattle.std.specs.Prelude.{◌≡◌, List, ◌+◌, ◌-◌, length};
 ghost use Rattle.sums.specs.Tree.Sums.{Sum};
-ghost use Rattle.stack.specs.Contract.Arena.{arena, Space, places};
+ghost use Rattle.stack.specs.Contract.Arena.{slots, Space, places};
 ghost use Rattle.stack.specs.Contract.Stacked.{Stacked};
 ghost use Rattle.stack.specs.State.{lend};
 ghost use Rattle.stack.specs.Contract.Agree.{Ready, Does};
@@ -10,7 +10,7 @@ ghost use Rattle.modifiers.specs.Contract.Begins.{Begins, PutsBack};
 
 use crate::hold::Begun;
 use limits::Refusal;
-use stack::slots::Deep;
+use stack::slots::Arena;
 use stack::state::{AlgebraEnv, Ran};
 
 // Sums of m cells, k of them, are held from v on: copies of the deepest c are put on the stack.
@@ -19,33 +19,28 @@ pub fn lend_deepest(
     k: usize,
     m: usize,
     at: usize,
-    kinds: &mut [u8],
-    insides: &mut [u8],
-    numbers: &mut [[u64; 3]],
-    sizes: &mut [u8],
+    arena: &mut Arena,
     v: usize,
     env: AlgebraEnv,
 ) -> Ran
-    requires { Ready (arena kinds.old insides.old numbers.old sizes.old) v env × Space (arena kinds.old insides.old numbers.old sizes.old) (v + m)
-        × ((ss : List Sum) × Stacked (arena kinds.old insides.old numbers.old sizes.old) v (v + m) ss × (length ss ≡ k)) }
-    ensures { (ss : List Sum) → Stacked (arena kinds.old insides.old numbers.old sizes.old) v (v + m) ss → length ss ≡ k → Does (arena kinds.old insides.old numbers.old sizes.old)
-        (arena kinds.new insides.new numbers.new sizes.new) v env result (λ st. lend at (places - v) (deepest c ss) st) }
+    requires { Ready (slots arena.old) v env × Space (slots arena.old) (v + m)
+        × ((ss : List Sum) × Stacked (slots arena.old) v (v + m) ss × (length ss ≡ k)) }
+    ensures { (ss : List Sum) → Stacked (slots arena.old) v (v + m) ss → length ss ≡ k → Does (slots arena.old)
+        (slots arena.new) v env result (λ st. lend at (places - v) (deepest c ss) st) }
 {
     let used = env.used;
-    let d = stack::slots::measure(sizes, v, v + m, crate::hold::less(k, c));
-    let Deep::From(w) = d else {
+    let d = stack::slots::measure(arena, v, v + m, crate::hold::less(k, c));
+    let Some(w) = d else {
         return Ran::Stopped(Refusal::NoRoom, at, false);
     };
     let n = w - v;
     if v < used + n {
         return Ran::Stopped(Refusal::NoRoom, at, false);
     }
-    stack::slots::sink(kinds, insides, numbers, sizes, v, used, n);
+    stack::slots::sink(arena, v, used, n);
     Ran::Went(AlgebraEnv {
         used: used + n,
-        handled: env.handled,
-        complex: env.complex,
-        pairs: env.pairs,
+        ..env
     })
 }
 
@@ -54,22 +49,19 @@ pub fn hold_and_lend(
     k: usize,
     c: usize,
     at: usize,
-    kinds: &mut [u8],
-    insides: &mut [u8],
-    numbers: &mut [[u64; 3]],
-    sizes: &mut [u8],
+    arena: &mut Arena,
     v: usize,
     env: AlgebraEnv,
 ) -> Begun
-    requires { Ready (arena kinds.old insides.old numbers.old sizes.old) v env }
-    ensures { Begins (arena kinds.old insides.old numbers.old sizes.old) (arena kinds.new insides.new numbers.new sizes.new) v env result (λ st f. holding at k c (places - v) st f) }
+    requires { Ready (slots arena.old) v env }
+    ensures { Begins (slots arena.old) (slots arena.new) v env result (λ st f. holding at k c (places - v) st f) }
 {
-    let h = crate::hold::hold(k, at, kinds, insides, numbers, sizes, v, env);
+    let h = crate::hold::hold(k, at, arena, v, env);
     let Begun::Held(e, m) = h else {
         return h;
     };
     let low = v - m;
-    let l = lend_deepest(c, k, m, at, kinds, insides, numbers, sizes, low, e);
+    let l = lend_deepest(c, k, m, at, arena, low, e);
     match l {
         Ran::Went(g) => Begun::Held(g, m),
         Ran::Stopped(q, p, b) => Begun::Halted(q, p, b),
@@ -77,24 +69,14 @@ pub fn hold_and_lend(
 }
 
 // Sums of m cells are held from v on: they are put back on the stack.
-pub fn put_back(
-    m: usize,
-    kinds: &mut [u8],
-    insides: &mut [u8],
-    numbers: &mut [[u64; 3]],
-    sizes: &mut [u8],
-    v: usize,
-    env: AlgebraEnv,
-) -> AlgebraEnv
-    requires { Ready (arena kinds.old insides.old numbers.old sizes.old) v env × Space (arena kinds.old insides.old numbers.old sizes.old) (v + m) × ((ss : List Sum) × Stacked (arena kinds.old insides.old numbers.old sizes.old) v (v + m) ss) }
-    ensures { PutsBack (arena kinds.old insides.old numbers.old sizes.old) (arena kinds.new insides.new numbers.new sizes.new) v m env result }
+pub fn put_back(m: usize, arena: &mut Arena, v: usize, env: AlgebraEnv) -> AlgebraEnv
+    requires { Ready (slots arena.old) v env × Space (slots arena.old) (v + m) × ((ss : List Sum) × Stacked (slots arena.old) v (v + m) ss) }
+    ensures { PutsBack (slots arena.old) (slots arena.new) v m env result }
 {
     let used = env.used;
-    stack::slots::sink(kinds, insides, numbers, sizes, v, used, m);
+    stack::slots::sink(arena, v, used, m);
     AlgebraEnv {
         used: used + m,
-        handled: env.handled,
-        complex: env.complex,
-        pairs: env.pairs,
+        ..env
     }
 }

@@ -6,11 +6,10 @@ pub mod begin;
 pub mod hold;
 pub mod lend;
 
-ghost use Rattle.std.specs.Prelude.{ℕ, ◌+◌, ◌≤◌, max, eqb, true, cond, ◌≡◌};
+ghost use Rattle.std.specs.Prelude.{ℕ, ◌+◌, ◌≤◌, max, eqb, true, cond, ◌≡◌, Some, None};
 ghost use Rattle.formats.specs.Contract.Walk.{Stretch, Walkable};
 ghost use Rattle.formats.specs.Names.{kind_of};
 ghost use Rattle.formats.specs.Tree.{forest, count};
-ghost use Rattle.formats.specs.declared.record.KindFound.TheVariants.{Known};
 ghost use Rattle.limits.specs.declared.Refusal.TheVariants.{InterpreterBug};
 ghost use Rattle.modifiers.specs.Contract.Plans.{way_of, once, plan_by, Follows, UsedAs};
 ghost use Rattle.modifiers.specs.Contract.Walks.{place_of};
@@ -18,7 +17,7 @@ ghost use Rattle.modifiers.specs.Modifiers.{most};
 ghost use Rattle.modifiers.specs.Reading.{runners, inside_of};
 ghost use Rattle.modifiers.specs.declared.Use.TheVariants.{Refused, Bodies};
 
-use formats::record::{Kind, KindFound, Modifier, Record};
+use formats::record::{Kind, Modifier, Record};
 use limits::Refusal;
 
 // What a record has inside that is run: nothing, nodes that are run in turn, or a modifier's bodies.
@@ -30,7 +29,7 @@ pub enum Inside {
 }
 
 fn kind_inside(k: Kind) -> Inside
-    ensures { result ≡ inside_of (Known k) }
+    ensures { result ≡ inside_of (Some k) }
 {
     match k {
         Kind::Modifier => Inside::Bodies,
@@ -53,8 +52,8 @@ pub fn inside_of(kind: u8) -> Inside
     ensures { result ≡ inside_of (kind_of kind) }
 {
     match formats::record::kind_of(kind) {
-        KindFound::Known(k) => kind_inside(k),
-        KindFound::Unknown => Inside::Nothing,
+        Some(k) => kind_inside(k),
+        None => Inside::Nothing,
     }
 }
 
@@ -91,11 +90,9 @@ pub fn place_of(list: &[u8], from: usize, to: usize, i: usize) -> usize
     ensures { result ≡ place_of list.now from i }
 {
     let mut at = from;
-    let mut j = 0usize;
-    while j < i {
+    for _j in 0..i {
         let r = formats::record::record_at(list, at);
         at = at + 1 + r.inside as usize;
-        j = j + 1;
     }
     at
 }

@@ -1,20 +1,17 @@
 -- 2^52 added and taken away again gives a number below 2^52 back exactly when it is whole; from 2^52 up every number of the format is whole.
 -- Assumes nothing.
 use Prim.Native.Nat.compare
-use Prim.Native.Nat.{Ordering}
-use Prim.Native.Nat.{ℕ, zero, suc, ◌+◌, ◌-◌, ◌*◌, ◌/◌, ◌%◌, ◌^◌, ◌≤◌, ◌<◌, compare}
-use mathlib.Core.Path.{◌≡◌, refl, sym, ap, ap₂, subst, ◌∙◌}
+use Prim.Native.Nat.{Ordering, ℕ, zero, suc, ◌+◌, ◌-◌, ◌*◌, ◌/◌, ◌%◌, ◌^◌, ◌≤◌, ◌<◌, compare}
+use mathlib.Core.Path.{◌≡◌, refl, sym, ap, subst, ◌∙◌}
 use mathlib.Core.Logic.{◌⊎◌, inl, inr}
-use mathlib.Core.Bool.{Bool, true, false, not, ◌&&◌, ◌||◌, beq, cond, true≢false, false≢true}
+use mathlib.Core.Bool.{Bool, true, false, not, ◌&&◌, ◌||◌, beq, true≢false, false≢true}
 use native.Mathlib.Omega.{arith}
-use native.Mathlib.Nat.{mul_assoc, mul_comm, mul_right_comm, mul-one, one-mul, mul-pos, add-mul, mul-le-mul_right, mul-lt-mul_of_pos_right, le_of_mul-le-mul_right}
-use native.Mathlib.Nat.{le-div_iff_mul-le, div-lt_iff_lt-mul, mul-div_cancel, mul-mod_left, eq_of_mul-eq-mul_right, div-add-mod', lt_of_lt_of_le, le_trans, lt_of_not-le}
-use native.Mathlib.Nat.{not-le_of_lt, lt_of_le_of_lt, le_of_eq, le_antisymm, mul-sub, lt_irrefl, add-sub_cancel, zero-mul, mod-one, eq-or-lt_of_le}
+use native.Mathlib.Nat.{mul_assoc, mul_comm, mul_right_comm, mul-one, mul-pos, add-mul, mul-le-mul_right, mul-lt-mul_of_pos_right, le_of_mul-le-mul_right, le-div_iff_mul-le, div-lt_iff_lt-mul, mul-div_cancel, mul-mod_left, eq_of_mul-eq-mul_right, div-add-mod', lt_of_lt_of_le, le_trans, lt_of_not-le, not-le_of_lt, lt_of_le_of_lt, le_of_eq, le_antisymm, mul-sub, lt_irrefl, add-sub_cancel, zero-mul, mod-one, eq-or-lt_of_le}
 use borrow.Author.Tests.{le-ltb, lt-ltb, ltb-false, ltb-true, leb-true, leb-false, le-leb, lt-leb, eq-eqb, ne_eqb}
-use lib.Dec.{T, leb, ltb, eqb, ltb→lt, lt→ltb, eqb→eq, lit<, lit≤}
-use lib.Pow.{pow-add, pow_pos, pow_mono, shl_lt}
+use lib.Dec.{T, leb, ltb, eqb, ltb→lt, eqb→eq, lit<}
+use lib.Pow.{pow-add, pow_pos, pow_mono}
 use lib.IntN.{ℤ, pos, negsuc}
-use lib.Ieee.{Float, nan, inf, fin, Format, binary64, prec, emax, low, up, down, size, nearest, units, round, add, sub, neg, sum, lt, le, eq, below, level, fits, of_bits}
+use lib.Ieee.{Float, nan, inf, fin, binary64, low, up, down, size, units, round, add, sub, neg, sum, lt, le, eq, below, level, fits, of_bits}
 use lib.Ieee.Digits.{size-lt, size-le}
 use lib.Ieee.Exact.{HasValue, units_val}
 use lib.Ieee.Fits.{core, round_is, nearest-le, down_pos, eq→eqb, and_l, and_r, and_i}

@@ -14,8 +14,8 @@ use lib.Ieee.Bits.{is_true, is_false}
 use lib.Ieee.Positive.{num, den, den_pos}
 use lib.Ieee.Scale.{finite}
 use borrow.Author.Tests.{ltb-true, ltb-false, eqb-true, le-ltb, eq-eqb, ne_eqb}
-use Rattle.numbers.specs.declared.Ordering.{Ordering}
-use Rattle.numbers.specs.declared.Ordering.TheVariants.{Less, Equal, Greater}
+use Rattle.std.specs.declared.cmp.Ordering.{Ordering}
+use Rattle.std.specs.declared.cmp.Ordering.TheVariants.{Less, Equal, Greater}
 use Rattle.numbers.specs.Order.{cmp_num, and_then, flipped}
 use Rattle.numbers.specs.Signs.{sign, Zero}
 use Rattle.numbers.proofs.Bools.{bool-ext, ltb-by, eqb-by, T_of, like, no_part}

@@ -2,19 +2,18 @@
 use Prim.Native.Nat.{ℕ, zero, suc, ◌+◌, ◌*◌, ◌/◌, ◌%◌, ◌^◌, ◌≤◌, ◌<◌}
 use mathlib.Core.Path.{◌≡◌, refl, sym, ap, ◌∙◌}
 use mathlib.Core.Logic.{inl, inr}
-use mathlib.Core.Bool.{Bool, true, false, not, ◌&&◌, ◌||◌, beq, cond, true≢false, false≢true}
+use mathlib.Core.Bool.{Bool, true, false, not, ◌&&◌, ◌||◌, beq, cond, false≢true}
 use native.Mathlib.Omega.{arith}
 use native.Mathlib.Nat.{le_trans, le_of_eq, le_of_mul-le-mul_right, div-mul-le_self, div-add-mod', mul-le-mul_right, mul-one, zero-mul, zero-div, zero-mod, le_of_lt, eq-or-lt_of_le, lt_of_le_of_lt}
-use borrow.Author.Tests.{lt-ltb, le-ltb, eq-eqb, eqb-true, eqb-false, ltb-true, le-leb}
+use borrow.Author.Tests.{lt-ltb, eq-eqb, eqb-true, eqb-false, le-leb}
 use lib.Dec.{T, leb, ltb, eqb, leb→le, le→leb, ltb→lt, lt→ltb, eqb→eq, lit<, lit≤}
-use lib.IntN.{ℤ, pos}
+use lib.IntN.{ℤ}
 use lib.Ieee.{Float, nan, inf, fin, binary64, up, down, lt, le, eq, neg, below, level, of_bits, in_unsigned, to_unsigned, whole}
 use lib.Ieee.Fits.{down_pos, eq→eqb, and_i, and_l, and_r}
 use lib.Ieee.Casts.{to_unsigned_cut}
-use Rattle.numbers.specs.declared.SmallWhole.{SmallWhole}
-use Rattle.numbers.specs.declared.SmallWhole.TheVariants.{Is, Other}
+use Rattle.std.specs.Prelude.{Option, Some, None}
 use Rattle.numbers.specs.Constants.{epsilon}
-use Rattle.numbers.specs.Numbers.{is_whole, small_whole, below_epsilon, abs}
+use Rattle.numbers.specs.Numbers.{is_whole, small_whole, below_epsilon}
 use Rattle.numbers.proofs.Bools.{bool-ext, and-true, and-false, or_cases, or_left, or_right}
 
 abbrev zero64 : Float
@@ -39,14 +38,14 @@ no-digits s m e = bool-ext _ _ (λ t. eq→eqb {a = m * up e} {b = 0} (digits t)
     back z = rw (z, zero-mul (down e)) (either (beq s false))
 
 -- both zeros are the whole number 0
-pub small-zero : (x : Float) → eq x zero64 ≡ true → small_whole x ≡ Is 0
+pub small-zero : (x : Float) → eq x zero64 ≡ true → small_whole x ≡ Some 0
 unfolding eq small_whole of_bits
 small-zero nan h = absurd (false≢true h)
 small-zero (inf s) h = absurd (false≢true h)
 small-zero (fin s m e) h =
     rw (eqb-true (m * up e) 0 (sym (no-digits s m e) ∙ h), zero-mod (down e), zero-div (down e)) (either s)
   where
-    either : (s : Bool) → cond (not s || true) (Is 0) Other ≡ Is 0
+    either : (s : Bool) → cond {A = Option ℕ} (not s || true) (Some 0) None ≡ Some 0
     either true = refl
     either false = refl
 
@@ -115,7 +114,7 @@ small_same false m e z =
     pos-of-ne zero h = absurd (h refl)
     pos-of-ne (suc n) h = omega arith
 
-pub small-other : (x : Float) → eq x zero64 ≡ false → tested x ≡ false → Other ≡ small_whole x
+pub small-other : (x : Float) → eq x zero64 ≡ false → tested x ≡ false → None ≡ small_whole x
 unfolding small_whole
 small-other nan z h = refl
 small-other (inf s) z h = refl
@@ -131,11 +130,11 @@ small-cast (fin false m e) h =
     rw (eq-eqb (m * up e % down e) 0 p.whole_part, le-leb (m * up e / down e) (2 ^ 53) (le_trans p.most (lit≤ tt)))
     (lt→ltb (m * up e / down e) (2 ^ 64) (lt_of_le_of_lt p.most (lit< tt)))
 
-pub small_is : (x : Float) → eq x zero64 ≡ false → tested x ≡ true → Is (to_unsigned 64 x) ≡ small_whole x
+pub small_is : (x : Float) → eq x zero64 ≡ false → tested x ≡ true → Some (to_unsigned 64 x) ≡ small_whole x
 unfolding small_whole
 small_is nan z h = absurd (false≢true h)
 small_is (inf s) z h = absurd (false≢true h)
-small_is (fin s m e) z h = rw (sym (small_same s m e z) ∙ h) (ap Is (to_unsigned_cut binary64 64 s m e (small-cast (fin s m e) h)))
+small_is (fin s m e) z h = rw (sym (small_same s m e z) ∙ h) (ap Some (to_unsigned_cut binary64 64 s m e (small-cast (fin s m e) h)))
 
 -- |x| < 2^-52, asked on both sides of 0
 pub epsilon-test : (x : Float) → lt (neg epsilon) x && lt x epsilon ≡ below_epsilon x

@@ -1,7 +1,6 @@
 -- 1 more and 1 less: no finite number lies so near the largest that 1 would take it beyond, so both are finite. Assumes nothing.
 use Prim.Native.Nat.{ℕ, zero, suc, ◌+◌, ◌-◌, ◌*◌, ◌%◌, ◌^◌, ◌≤◌, ◌<◌, zero-le}
-use native.Mathlib.Nat.{add_comm, add-le-add, le_of_eq, le_of_lt, le_refl, le_trans, lt_of_lt_of_le}
-use native.Mathlib.Nat.{lt_of_mul-lt-mul_right, mul_assoc, mul-le-mul, mul-le-mul_right, mul-one, mul-pos, one-mul, suc-mul, zero-mul}
+use native.Mathlib.Nat.{add_comm, add-le-add, le_of_eq, le_of_lt, le_refl, le_trans, lt_of_lt_of_le, lt_of_mul-lt-mul_right, mul_assoc, mul-le-mul, mul-le-mul_right, mul-one, mul-pos, one-mul, suc-mul, zero-mul}
 use native.Mathlib.Omega.{arith}
 use mathlib.Core.Path.{◌≡◌, sym, ap, subst, ◌∙◌}
 use mathlib.Core.Bool.{Bool, true, false, not, ◌&&◌, beq, cond}

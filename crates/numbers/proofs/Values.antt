@@ -1,8 +1,7 @@
 -- Values: two numbers that fit a format and have one value are the same, a fraction that is a fitting number's value rounds to that number,
 -- and each operation sees only the values of its operands. Assumes nothing.
 use Prim.Native.Nat.{ℕ, zero, suc, ◌+◌, ◌-◌, ◌*◌, ◌/◌, ◌%◌, ◌^◌, ◌≤◌, ◌<◌}
-use native.Mathlib.Nat.{mul_comm, mul_assoc, mul_right_comm, mul-one, mul-pos, mul-mul-mul_comm, add-mul, mul-sub, add_comm, zero-mul, zero-lt-suc, eq_of_mul-eq-mul_right}
-use native.Mathlib.Nat.{lt_of_mul-lt-mul_right, mul-lt-mul_of_pos_right, lt_of_not-le, not-le_of_lt, le_of_suc-le-suc}
+use native.Mathlib.Nat.{mul_comm, mul_assoc, mul_right_comm, mul-one, mul-pos, mul-mul-mul_comm, add-mul, mul-sub, add_comm, zero-mul, zero-lt-suc, eq_of_mul-eq-mul_right, lt_of_mul-lt-mul_right, mul-lt-mul_of_pos_right, lt_of_not-le, not-le_of_lt, le_of_suc-le-suc}
 use native.Mathlib.Omega.{arith}
 use mathlib.Core.Path.{◌≡◌, refl, sym, ap, ap₂, ◌∙◌}
 use mathlib.Core.Bool.{Bool, true, false, not, ◌&&◌, ◌||◌, cond, beq}

@@ -15,8 +15,8 @@ use lib.Ieee.Back.{round_whole}
 use lib.Ieee.Fits.{down_pos, and_l, and_r, eq→eqb}
 use lib.Ieee.Scale.{finite}
 use borrow.Author.Tests.{eqb-true, ltb-true, ltb-false, lt-ltb, le-ltb, eq-eqb, le-leb}
-use Rattle.numbers.specs.declared.Ordering.TheVariants.{Less, Equal, Greater}
-use Rattle.numbers.specs.declared.SmallWhole.TheVariants.{Is, Other}
+use Rattle.std.specs.Prelude.{Some, None}
+use Rattle.std.specs.declared.cmp.Ordering.TheVariants.{Less, Equal, Greater}
 use Rattle.numbers.specs.Numbers.{is_whole, small_whole}
 use Rattle.numbers.specs.Order.{cmp_num}
 use Rattle.numbers.specs.Ops.{◌⊕◌, ◌⊖◌}
@@ -281,11 +281,11 @@ means-whole {x = inf s} m = absurd m.value
 means-whole {x = fin s k e} m = eq-eqb (k * up e % down e) 0 (cut k e m.size m.value.1).0
 
 -- the answer of `small_whole`, taken apart
-small-says : (b : Bool) (q n : ℕ) → cond b (Is q) Other ≡ Is n → T b × (q ≡ n)
+small-says : (b : Bool) (q n : ℕ) → cond b (Some q) None ≡ Some n → T b × (q ≡ n)
 small-says true q n e = (tt, cc)
 small-says false q n e = absurd (let z : ◌≡◌ {A = ℕ} 0 1 = cc in omega arith)
 
-small_is : (r q : ℕ) (c : Bool) (n : ℕ) → r ≡ 0 → q ≡ n → T c → n ≤ 64 → cond (eqb r 0 && leb q 64 && c) (Is q) Other ≡ Is n
+small_is : (r q : ℕ) (c : Bool) (n : ℕ) → r ≡ 0 → q ≡ n → T c → n ≤ 64 → cond (eqb r 0 && leb q 64 && c) (Some q) None ≡ Some n
 small_is r q true n z e t h = rw (z, e, le-leb n 64 h)
 small_is r q false n z e t h = elim t [ ]
 
@@ -304,11 +304,11 @@ not-below false M d n a h k = tt
 not-below true M d n a h k = eq→eqb (no_part M 1 (zero-lt-suc 0) (h ∙ ap (λ (b : ℕ). b * d) (no-negative a n k) ∙ zero-mul d))
 
 -- `small_whole` finds n exactly where the number is n, for an n up to 64
-pub small-whole : (x : Float) (n : ℕ) → (small_whole x ≡ Is n) ↔ ((n ≤ 64) × Means x (pos n))
+pub small-whole : (x : Float) (n : ℕ) → (small_whole x ≡ Some n) ↔ ((n ≤ 64) × Means x (pos n))
 unfolding small_whole
 small-whole x n = (found x, λ h. is x h.0 h.1)
   where
-    found : (x : Float) → small_whole x ≡ Is n → (n ≤ 64) × Means x (pos n)
+    found : (x : Float) → small_whole x ≡ Some n → (n ≤ 64) × Means x (pos n)
     found nan e = absurd (small-says false 0 n e).0
     found (inf s) e = absurd (small-says false 0 n e).0
     found (fin s m d) e =
@@ -322,7 +322,7 @@ small-whole x n = (found x, λ h. is x h.0 h.1)
           record { sign = s; size = q; value = whole-value s m d (eqb→eq (m * up d % down d) 0 (and_l A B ab)); is = unsigned s (m * up d) (down d) (and_r (A && B) C h.0) ∙ ap pos h.1 },
         )
 
-    is : (x : Float) → n ≤ 64 → Means x (pos n) → small_whole x ≡ Is n
+    is : (x : Float) → n ≤ 64 → Means x (pos n) → small_whole x ≡ Some n
     is nan h k = absurd k.value
     is (inf s) h k = absurd k.value
     is (fin s m d) h k =

@@ -2,10 +2,10 @@
 ghost use Rattle.std.specs.Prelude.{◌≡◌};
 ghost use Rattle.numbers.specs.Complex.Arith.{complex, zero, one, imaginary, plus, minus, negated, times, times_real, over, over_real, real_over, same, cmp_complex, is_real, all_finite, abs_above_one};
 
-use crate::Ordering;
+use std::cmp::Ordering;
 
-// A coefficient: re + im * i.
-#[derive(Clone, Copy)]
+// A coefficient: re + im * i. The Rust's ==: -0 is equal to 0.
+#[derive(Clone, Copy, PartialEq)]
 pub struct Complex {
     pub re: f64,
     pub im: f64,
@@ -21,7 +21,7 @@ impl Complex {
     pub fn new(re: f64, im: f64) -> Complex
         ensures { result ≡ complex re im }
     {
-        Complex { re: re, im: im }
+        Complex { re, im }
     }
 
     pub fn add(self, rhs: Complex) -> Complex
@@ -101,23 +101,16 @@ impl Complex {
         }
     }
 
-    // The Rust's ==: -0 is equal to 0.
-    pub fn eq(self, rhs: Complex) -> bool
-        ensures { result ≡ same self rhs }
-    {
-        (self.re == rhs.re) & (self.im == rhs.im)
-    }
-
     pub fn is_zero(self) -> bool
         ensures { result ≡ same self zero }
     {
-        self.eq(Complex::ZERO)
+        self == Complex::ZERO
     }
 
     pub fn is_one(self) -> bool
         ensures { result ≡ same self one }
     {
-        self.eq(Complex::ONE)
+        self == Complex::ONE
     }
 
     pub fn mul_i(self) -> Complex
@@ -130,7 +123,7 @@ impl Complex {
     pub fn cmp(self, rhs: Complex) -> Ordering
         ensures { result ≡ cmp_complex self rhs }
     {
-        crate::and_then(crate::cmp(self.re, rhs.re), crate::cmp(self.im, rhs.im))
+        crate::cmp(self.re, rhs.re).then(crate::cmp(self.im, rhs.im))
     }
 
     // |im| < 2^-52, as the Rust's into_real asks.

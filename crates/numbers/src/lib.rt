@@ -6,28 +6,14 @@ pub mod radical;
 
 ghost use Rattle.numbers.specs.Constants.{euler, ln2, ln10, epsilon};
 ghost use Rattle.numbers.specs.Numbers.{is_whole, small_whole, below_epsilon};
-ghost use Rattle.numbers.specs.Order.{cmp_num, and_then};
+ghost use Rattle.numbers.specs.Order.{cmp_num};
 ghost use Rattle.std.specs.Float.Ieee.Scale.{finite};
 ghost use Rattle.std.specs.Float.{binary64};
 ghost use Rattle.std.specs.Float.Ieee.{of_bits};
 ghost use Rattle.std.specs.Prelude.{◌≡◌};
 
 use limits::HIGHEST_POWER;
-
-// How one value lies to another.
-#[derive(Clone, Copy)]
-pub enum Ordering {
-    Less,
-    Equal,
-    Greater,
-}
-
-// The whole number from 0 to HIGHEST_POWER that a number is, if it is one.
-#[derive(Clone, Copy)]
-pub enum SmallWhole {
-    Is(u64),
-    Other,
-}
+use std::cmp::Ordering;
 
 // The binary64 number nearest to e.
 pub fn e() -> f64
@@ -86,17 +72,17 @@ pub fn is_whole(x: f64) -> bool
     (x + far) - far == x
 }
 
-// The whole number from 0 to HIGHEST_POWER that x is; -0 is 0.
-pub fn small_whole(x: f64) -> SmallWhole
+// The whole number from 0 to HIGHEST_POWER that x is, if it is one; -0 is 0.
+pub fn small_whole(x: f64) -> Option<u64>
     ensures { result ≡ small_whole x }
 {
     if x == 0.0 {
-        return SmallWhole::Is(0);
+        return Some(0);
     }
     if is_whole(x) & (0.0 < x) & (x <= HIGHEST_POWER) {
-        SmallWhole::Is(x as u64)
+        Some(x as u64)
     } else {
-        SmallWhole::Other
+        None
     }
 }
 
@@ -112,22 +98,10 @@ pub fn cmp(a: f64, b: f64) -> Ordering
     ensures { result ≡ cmp_num a b }
 {
     if a < b {
-        return Ordering::Less;
-    }
-    if b < a {
+        Ordering::Less
+    } else if b < a {
         Ordering::Greater
     } else {
         Ordering::Equal
-    }
-}
-
-// The first of two orders that is not Equal.
-pub fn and_then(a: Ordering, b: Ordering) -> Ordering
-    ensures { result ≡ and_then a b }
-{
-    match a {
-        Ordering::Less => Ordering::Less,
-        Ordering::Equal => b,
-        Ordering::Greater => Ordering::Greater,
     }
 }

@@ -47,11 +47,9 @@ pub fn root_by_digits(m: u64) -> Rooted
 {
     let mut a = m;
     let mut d = Rooted { root: 0, rem: 0 };
-    let mut left = ROOT_DIGITS;
-    while 0 < left {
+    for _ in 0..ROOT_DIGITS {
         d = digit(d, a / LEADING);
         a = a % LEADING * 4;
-        left = left - 1;
     }
     d
 }
@@ -94,13 +92,6 @@ fn guess(digits: u64, odd: u64) -> u64
     }
 }
 
-// What comes of trying a guess.
-#[derive(Clone, Copy)]
-pub enum Trial {
-    Found(Rooted),
-    Wrong,
-}
-
 // 2^27 and 2^25, together 2^52: a guess is cut in two halves by the first.
 const HALF: u64 = 0x8000000;
 
@@ -110,36 +101,22 @@ const REST: u64 = 0x2000000;
 const LITTLE: u64 = 0x1000000000;
 
 // What is left of m times 2^52 when the square of q is taken away, if it is little: part by part, from the leading digits down.
-fn left_by(m: u64, q: u64) -> Trial
+fn left_by(m: u64, q: u64) -> Option<Rooted>
     requires { (m < 2 ^ 54) × (q < 2 ^ 54) }
     ensures { SquareFound m q result }
 {
     let high = q / HALF;
     let low = q % HALF;
-    let first = high * high * 4;
-    if m < first {
-        return Trial::Wrong;
+    let first = m.checked_sub(high * high * 4)?;
+    if LITTLE <= first {
+        return None;
     }
-    if LITTLE <= m - first {
-        return Trial::Wrong;
+    let second = (first * REST).checked_sub(high * low * 2)?;
+    if LITTLE <= second {
+        return None;
     }
-    let after_first = (m - first) * REST;
-    let second = high * low * 2;
-    if after_first < second {
-        return Trial::Wrong;
-    }
-    if LITTLE <= after_first - second {
-        return Trial::Wrong;
-    }
-    let after_second = (after_first - second) * HALF;
-    let third = low * low;
-    if after_second < third {
-        return Trial::Wrong;
-    }
-    Trial::Found(Rooted {
-        root: q,
-        rem: after_second - third,
-    })
+    let rem = (second * HALF).checked_sub(low * low)?;
+    Some(Rooted { root: q, rem })
 }
 
 // The next number up, where the square of that is not too large either.
@@ -158,21 +135,12 @@ fn up_if_left(d: Rooted) -> Rooted
 }
 
 // The root of m times 2^52 in whole numbers, if q or one of its two neighbours is it.
-fn checked(m: u64, q: u64) -> Trial
+fn checked(m: u64, q: u64) -> Option<Rooted>
     requires { (m < 2 ^ 54) × (0 < q) × (q < 2 ^ 53) }
     ensures { RootFound m result }
 {
-    match left_by(m, q - 1) {
-        Trial::Found(d) => {
-            let r = up_if_left(up_if_left(d));
-            if r.rem <= r.root * 2 {
-                Trial::Found(r)
-            } else {
-                Trial::Wrong
-            }
-        }
-        Trial::Wrong => Trial::Wrong,
-    }
+    let r = up_if_left(up_if_left(left_by(m, q - 1)?));
+    if r.rem <= r.root * 2 { Some(r) } else { None }
 }
 
 // The root of digits times 2^52, or of twice that where odd is 1, in whole numbers.
@@ -181,10 +149,7 @@ fn whole_root(digits: u64, odd: u64) -> Rooted
     ensures { WholeRoot (digits * (odd + 1)) result }
 {
     let m = digits * (odd + 1);
-    match checked(m, guess(digits, odd)) {
-        Trial::Found(d) => d,
-        Trial::Wrong => root_by_digits(m),
-    }
+    checked(m, guess(digits, odd)).unwrap_or_else(|| root_by_digits(m))
 }
 
 // A number as 53 digits times a power of two.
@@ -204,9 +169,10 @@ fn moved_up(m: u64) -> Scaled
 {
     let mut digits = m;
     let mut power = ONE_POWER;
+    // A `while`, since how many turns it takes depends on the digits.
     while digits < LEADING {
-        digits = digits * 2;
-        power = power - 1;
+        digits *= 2;
+        power -= 1;
     }
     Scaled { digits, power }
 }

@@ -15,8 +15,7 @@ use Rattle.sums.specs.Tree.Sums.{Sum, entry}
 use Rattle.sums.specs.Tree.Map.{sum}
 use Rattle.sums.specs.Contract.Heads.{GoodHead}
 use Rattle.formats.specs.declared.record.Primitive.{Primitive}
-use Rattle.formats.specs.declared.record.Primitive.TheVariants.{Identity, Pop, Dup, Flip, Neg, Not, Sqrt, Add, Sub, Mul, Div, Pow, Exp, Sin, Cos, Reciprocal, Complex, Max, SinH}
-use Rattle.formats.specs.declared.record.Primitive.TheVariants.{CosH, Exp2, Exp10, Log, Ln, Log2, Log10, Over, Root, Unlisted}
+use Rattle.formats.specs.declared.record.Primitive.TheVariants.{Identity, Pop, Dup, Flip, Neg, Not, Sqrt, Add, Sub, Mul, Div, Pow, Exp, Sin, Cos, Reciprocal, Complex, Max, SinH, CosH, Exp2, Exp10, Log, Ln, Log2, Log10, Over, Root, Unlisted}
 use Rattle.formats.specs.Names.{primitive_no, primitive_of}
 use Rattle.formats.proofs.record.Names.{primitive-back}
 use Rattle.formats.specs.contracts.record.Primitive.{the_type}

@@ -9,7 +9,7 @@ ghost use Rattle.arithmetic.specs.Pairs.{pairs};
 ghost use Rattle.arithmetic.specs.Power.{not_sum, complex_sum};
 ghost use Rattle.arithmetic.specs.Product.{product};
 ghost use Rattle.arithmetic.specs.Singles.{constant};
-ghost use Rattle.cells.specs.Contract.Book.{book, Room};
+ghost use Rattle.cells.specs.Contract.Book.{seen, Room};
 ghost use Rattle.cells.specs.Contract.Moves.{Kept};
 ghost use Rattle.limits.specs.Limits.{sum_entries, sum_levels};
 ghost use Rattle.numbers.specs.Complex.Arith.{imaginary};
@@ -20,60 +20,37 @@ ghost use Rattle.sums.specs.Contract.Lies.{OfOne, OfTwo, Agrees};
 ghost use Rattle.sums.specs.Tree.Map.{sum, and_then_sum};
 
 use arithmetic::Change;
-use arithmetic::add::Constant;
-use cells::Entry;
+use cells::{Book, Entry};
 use formats::record::Primitive;
-use limits::SUM_ENTRIES;
+use limits::{Refusal, SUM_ENTRIES};
 use numbers::complex::Complex;
 use powers::raise::Raised;
-use sums::order::Formed;
 
 // The sum as it is.
-fn copied(
-    kinds: &mut [u8],
-    insides: &mut [u8],
-    numbers: &mut [[u64; 3]],
-    i: usize,
-    n: usize,
-    p: usize,
-) -> Formed
-    requires { Operand (book kinds.old insides.old numbers.old) i n p × Room (book kinds.old insides.old numbers.old) (p + sum_entries) }
-    ensures kept { Kept (book kinds.old insides.old numbers.old) (book kinds.new insides.new numbers.new) p (p + sum_entries) }
-    ensures of_one { OfOne (book kinds.old insides.old numbers.old) i (i + n) sum_levels (λ s. Agrees result (book kinds.new insides.new numbers.new) p (sum s)) }
+fn copied(book: &mut Book, i: usize, n: usize, p: usize) -> Result<usize, Refusal>
+    requires { Operand (seen book.old) i n p × Room (seen book.old) (p + sum_entries) }
+    ensures kept { Kept (seen book.old) (seen book.new) p (p + sum_entries) }
+    ensures of_one { OfOne (seen book.old) i (i + n) sum_levels (λ s. Agrees result (seen book.new) p (sum s)) }
 {
-    cells::copy_within(kinds, insides, numbers, i, n, p);
-    Formed::Done(n)
+    book.copy_within(i, n, p);
+    Ok(n)
 }
 
 // The sum negated.
-fn negated(
-    kinds: &mut [u8],
-    insides: &mut [u8],
-    numbers: &mut [[u64; 3]],
-    i: usize,
-    n: usize,
-    p: usize,
-) -> Formed
-    requires { Operand (book kinds.old insides.old numbers.old) i n p × Room (book kinds.old insides.old numbers.old) (p + sum_entries) }
-    ensures kept { Kept (book kinds.old insides.old numbers.old) (book kinds.new insides.new numbers.new) p (p + sum_entries) }
-    ensures of_one { OfOne (book kinds.old insides.old numbers.old) i (i + n) sum_levels (λ s. Agrees result (book kinds.new insides.new numbers.new) p (sum (neg_sum s))) }
+fn negated(book: &mut Book, i: usize, n: usize, p: usize) -> Result<usize, Refusal>
+    requires { Operand (seen book.old) i n p × Room (seen book.old) (p + sum_entries) }
+    ensures kept { Kept (seen book.old) (seen book.new) p (p + sum_entries) }
+    ensures of_one { OfOne (seen book.old) i (i + n) sum_levels (λ s. Agrees result (seen book.new) p (sum (neg_sum s))) }
 {
-    arithmetic::add::expr_neg(kinds, insides, numbers, i, n, p);
-    Formed::Done(n)
+    arithmetic::add::expr_neg(book, i, n, p);
+    Ok(n)
 }
 
 // 1 less the sum: it is taken from a 1 that lies where the result is formed.
-fn not(
-    kinds: &mut [u8],
-    insides: &mut [u8],
-    numbers: &mut [[u64; 3]],
-    i: usize,
-    n: usize,
-    p: usize,
-) -> Formed
-    requires { Operand (book kinds.old insides.old numbers.old) i n p × Room (book kinds.old insides.old numbers.old) (p + sum_entries) }
-    ensures kept { Kept (book kinds.old insides.old numbers.old) (book kinds.new insides.new numbers.new) p (p + sum_entries) }
-    ensures of_one { OfOne (book kinds.old insides.old numbers.old) i (i + n) sum_levels (λ s. Agrees result (book kinds.new insides.new numbers.new) p (not_sum s)) }
+fn not(book: &mut Book, i: usize, n: usize, p: usize) -> Result<usize, Refusal>
+    requires { Operand (seen book.old) i n p × Room (seen book.old) (p + sum_entries) }
+    ensures kept { Kept (seen book.old) (seen book.new) p (p + sum_entries) }
+    ensures of_one { OfOne (seen book.old) i (i + n) sum_levels (λ s. Agrees result (seen book.new) p (not_sum s)) }
 {
     let x = Entry {
         kind: sums::tree::X,
@@ -81,24 +58,22 @@ fn not(
         num: 0.0,
         coef: Complex::ONE,
     };
-    cells::store(kinds, insides, numbers, p, x);
-    arithmetic::add::add_each(kinds, insides, numbers, Change::Negate, i, n, p, 1)
+    book.store(p, x);
+    arithmetic::add::add_each(book, Change::Negate, i, n, p, 1)
 }
 
 // The sum of n cells from i on, plus that of m cells from j on times i, by a product and a sum: i lies where the result is then formed, and the product behind it.
 fn add_times_i(
-    kinds: &mut [u8],
-    insides: &mut [u8],
-    numbers: &mut [[u64; 3]],
+    book: &mut Book,
     i: usize,
     n: usize,
     j: usize,
     m: usize,
     w: usize,
-) -> Formed
-    requires { Source (book kinds.old insides.old numbers.old) i n w × Source (book kinds.old insides.old numbers.old) j m w × Room (book kinds.old insides.old numbers.old) (w + (sum_entries + sum_entries)) }
-    ensures kept { Kept (book kinds.old insides.old numbers.old) (book kinds.new insides.new numbers.new) w (w + (sum_entries + sum_entries)) }
-    ensures of_two { OfTwo (book kinds.old insides.old numbers.old) i (i + n) j (j + m) sum_levels (λ b a. Agrees result (book kinds.new insides.new numbers.new) w
+) -> Result<usize, Refusal>
+    requires { Source (seen book.old) i n w × Source (seen book.old) j m w × Room (seen book.old) (w + (sum_entries + sum_entries)) }
+    ensures kept { Kept (seen book.old) (seen book.new) w (w + (sum_entries + sum_entries)) }
+    ensures of_two { OfTwo (seen book.old) i (i + n) j (j + m) sum_levels (λ b a. Agrees result (seen book.new) w
         (and_then_sum (product a (constant imaginary)) (add_sums b))) }
 {
     let x = Entry {
@@ -107,110 +82,75 @@ fn add_times_i(
         num: 0.0,
         coef: Complex::I,
     };
-    cells::store(kinds, insides, numbers, w, x);
+    book.store(w, x);
     let p = w + SUM_ENTRIES;
-    match arithmetic::multiply::mul(kinds, insides, numbers, j, m, w, 1, p) {
-        Formed::Done(k) => {
-            arithmetic::add::expr_add(kinds, insides, numbers, Change::Keep, i, n, p, k, w)
-        }
-        Formed::Refused(r) => Formed::Refused(r),
-    }
+    let k = arithmetic::multiply::mul(book, j, m, w, 1, p)?;
+    arithmetic::add::expr_add(book, Change::Keep, i, n, p, k, w)
 }
 
 // The sum of n cells from i on, plus that of m cells from j on times i: of two constants by one operation each.
 fn complex(
-    kinds: &mut [u8],
-    insides: &mut [u8],
-    numbers: &mut [[u64; 3]],
+    book: &mut Book,
     i: usize,
     n: usize,
     j: usize,
     m: usize,
     w: usize,
-) -> Formed
-    requires { Source (book kinds.old insides.old numbers.old) i n w × Source (book kinds.old insides.old numbers.old) j m w × Room (book kinds.old insides.old numbers.old) (w + (sum_entries + sum_entries)) }
-    ensures kept { Kept (book kinds.old insides.old numbers.old) (book kinds.new insides.new numbers.new) w (w + (sum_entries + sum_entries)) }
-    ensures of_two { OfTwo (book kinds.old insides.old numbers.old) i (i + n) j (j + m) sum_levels (λ b a. Agrees result (book kinds.new insides.new numbers.new) w (complex_sum a b)) }
+) -> Result<usize, Refusal>
+    requires { Source (seen book.old) i n w × Source (seen book.old) j m w × Room (seen book.old) (w + (sum_entries + sum_entries)) }
+    ensures kept { Kept (seen book.old) (seen book.new) w (w + (sum_entries + sum_entries)) }
+    ensures of_two { OfTwo (seen book.old) i (i + n) j (j + m) sum_levels (λ b a. Agrees result (seen book.new) w (complex_sum a b)) }
 {
-    let first = arithmetic::add::as_constant(kinds, insides, numbers, i, n);
-    let second = arithmetic::add::as_constant(kinds, insides, numbers, j, m);
-    let Constant::Is(c) = second else {
-        return add_times_i(kinds, insides, numbers, i, n, j, m, w);
+    let first = arithmetic::add::as_constant(book, i, n);
+    let second = arithmetic::add::as_constant(book, j, m);
+    let Some(c) = second else {
+        return add_times_i(book, i, n, j, m, w);
     };
-    let Constant::Is(d) = first else {
-        return add_times_i(kinds, insides, numbers, i, n, j, m, w);
+    let Some(d) = first else {
+        return add_times_i(book, i, n, j, m, w);
     };
-    arithmetic::add::constant_sum(kinds, insides, numbers, c.mul_i().add(d), w)
+    arithmetic::add::constant_sum(book, c.mul_i().add(d), w)
 }
 
 // What the primitive forms of the sum of n cells from i on.
 pub fn form_one(
-    kinds: &mut [u8],
-    insides: &mut [u8],
-    numbers: &mut [[u64; 3]],
+    book: &mut Book,
     p: Primitive,
     i: usize,
     n: usize,
     w: usize,
-) -> Formed
-    requires { (1 ≤ n) × Source (book kinds.old insides.old numbers.old) i n w × Room (book kinds.old insides.old numbers.old) (w + (sum_entries + sum_entries)) }
-    ensures kept { Kept (book kinds.old insides.old numbers.old) (book kinds.new insides.new numbers.new) w (w + (sum_entries + sum_entries)) }
-    ensures of_one { OfOne (book kinds.old insides.old numbers.old) i (i + n) sum_levels (λ s. Agrees result (book kinds.new insides.new numbers.new) w (of_one p s)) }
+) -> Result<usize, Refusal>
+    requires { (1 ≤ n) × Source (seen book.old) i n w × Room (seen book.old) (w + (sum_entries + sum_entries)) }
+    ensures kept { Kept (seen book.old) (seen book.new) w (w + (sum_entries + sum_entries)) }
+    ensures of_one { OfOne (seen book.old) i (i + n) sum_levels (λ s. Agrees result (seen book.new) w (of_one p s)) }
 {
     let e = numbers::e();
     match p {
-        Primitive::Neg => negated(kinds, insides, numbers, i, n, w),
-        Primitive::Not => not(kinds, insides, numbers, i, n, w),
-        Primitive::Reciprocal => powers::divide::recip(kinds, insides, numbers, i, n, w),
-        Primitive::Sqrt => powers::raise::power_by(kinds, insides, numbers, 0.5, i, n, w).formed,
-        Primitive::Sin => powers::raise::over(
-            kinds,
-            insides,
-            numbers,
-            sums::tree::SIN,
-            0.0,
-            i,
-            n,
-            w,
-        ),
-        Primitive::Cos => powers::raise::over(
-            kinds,
-            insides,
-            numbers,
-            sums::tree::COS,
-            0.0,
-            i,
-            n,
-            w,
-        ),
-        Primitive::Exp => powers::raise::pow_of(kinds, insides, numbers, e, i, n, w),
-        Primitive::Exp2 => powers::raise::pow_of(kinds, insides, numbers, 2.0, i, n, w),
-        Primitive::Exp10 => powers::raise::pow_of(kinds, insides, numbers, 10.0, i, n, w),
-        Primitive::Ln => powers::raise::log_of(kinds, insides, numbers, e, i, n, w),
-        Primitive::Log2 => powers::raise::log_of(kinds, insides, numbers, 2.0, i, n, w),
-        Primitive::Log10 => powers::raise::log_of(kinds, insides, numbers, 10.0, i, n, w),
-        _ => copied(kinds, insides, numbers, i, n, w),
+        Primitive::Neg => negated(book, i, n, w),
+        Primitive::Not => not(book, i, n, w),
+        Primitive::Reciprocal => powers::divide::recip(book, i, n, w),
+        Primitive::Sqrt => powers::raise::power_by(book, 0.5, i, n, w).formed,
+        Primitive::Sin => powers::raise::over(book, sums::tree::SIN, 0.0, i, n, w),
+        Primitive::Cos => powers::raise::over(book, sums::tree::COS, 0.0, i, n, w),
+        Primitive::Exp => powers::raise::pow_of(book, e, i, n, w),
+        Primitive::Exp2 => powers::raise::pow_of(book, 2.0, i, n, w),
+        Primitive::Exp10 => powers::raise::pow_of(book, 10.0, i, n, w),
+        Primitive::Ln => powers::raise::log_of(book, e, i, n, w),
+        Primitive::Log2 => powers::raise::log_of(book, 2.0, i, n, w),
+        Primitive::Log10 => powers::raise::log_of(book, 10.0, i, n, w),
+        _ => copied(book, i, n, w),
     }
 }
 
 // The product of the sum of n cells from i on with that of m cells from j on, and how many pairs of outermost terms it has.
-fn multiplied(
-    kinds: &mut [u8],
-    insides: &mut [u8],
-    numbers: &mut [[u64; 3]],
-    i: usize,
-    n: usize,
-    j: usize,
-    m: usize,
-    w: usize,
-) -> Raised
-    requires { Source (book kinds.old insides.old numbers.old) i n w × Source (book kinds.old insides.old numbers.old) j m w × Room (book kinds.old insides.old numbers.old) (w + (sum_entries + sum_entries)) }
-    ensures kept { Kept (book kinds.old insides.old numbers.old) (book kinds.new insides.new numbers.new) w (w + (sum_entries + sum_entries)) }
-    ensures of_two { OfTwo (book kinds.old insides.old numbers.old) i (i + n) j (j + m) sum_levels (λ b a. Agrees result.formed (book kinds.new insides.new numbers.new) w (product b a)) }
-    ensures of_two_2 { OfTwo (book kinds.old insides.old numbers.old) i (i + n) j (j + m) sum_levels (λ b a. Counted result (pairs b a)) }
+fn multiplied(book: &mut Book, i: usize, n: usize, j: usize, m: usize, w: usize) -> Raised
+    requires { Source (seen book.old) i n w × Source (seen book.old) j m w × Room (seen book.old) (w + (sum_entries + sum_entries)) }
+    ensures kept { Kept (seen book.old) (seen book.new) w (w + (sum_entries + sum_entries)) }
+    ensures of_two { OfTwo (seen book.old) i (i + n) j (j + m) sum_levels (λ b a. Agrees result.formed (seen book.new) w (product b a)) }
+    ensures of_two_2 { OfTwo (seen book.old) i (i + n) j (j + m) sum_levels (λ b a. Counted result (pairs b a)) }
 {
-    let pairs = sums::order::count(insides, i, n) * sums::order::count(insides, j, m);
-    let formed = arithmetic::multiply::mul(kinds, insides, numbers, i, n, j, m, w);
+    let pairs = sums::order::count(book, i, n) * sums::order::count(book, j, m);
+    let formed = arithmetic::multiply::mul(book, i, n, j, m, w);
     Raised {
         formed,
         pairs: pairs as u64,
@@ -219,40 +159,32 @@ fn multiplied(
 
 // What a primitive whose pairs aren't counted forms of two sums.
 fn form_uncounted(
-    kinds: &mut [u8],
-    insides: &mut [u8],
-    numbers: &mut [[u64; 3]],
+    book: &mut Book,
     p: Primitive,
     i: usize,
     n: usize,
     j: usize,
     m: usize,
     w: usize,
-) -> Formed
-    requires { Uncounted p × (1 ≤ n) × (1 ≤ m) × Source (book kinds.old insides.old numbers.old) i n w × Source (book kinds.old insides.old numbers.old) j m w
-        × Room (book kinds.old insides.old numbers.old) (w + (sum_entries + sum_entries)) }
-    ensures kept { Kept (book kinds.old insides.old numbers.old) (book kinds.new insides.new numbers.new) w (w + (sum_entries + sum_entries)) }
-    ensures of_two { OfTwo (book kinds.old insides.old numbers.old) i (i + n) j (j + m) sum_levels (λ b a. Agrees result (book kinds.new insides.new numbers.new) w (of_two p b a)) }
+) -> Result<usize, Refusal>
+    requires { Uncounted p × (1 ≤ n) × (1 ≤ m) × Source (seen book.old) i n w × Source (seen book.old) j m w
+        × Room (seen book.old) (w + (sum_entries + sum_entries)) }
+    ensures kept { Kept (seen book.old) (seen book.new) w (w + (sum_entries + sum_entries)) }
+    ensures of_two { OfTwo (seen book.old) i (i + n) j (j + m) sum_levels (λ b a. Agrees result (seen book.new) w (of_two p b a)) }
 {
     match p {
-        Primitive::Add => {
-            arithmetic::add::expr_add(kinds, insides, numbers, Change::Keep, i, n, j, m, w)
-        }
-        Primitive::Sub => {
-            arithmetic::add::expr_add(kinds, insides, numbers, Change::Negate, i, n, j, m, w)
-        }
-        Primitive::Div => powers::divide::div(kinds, insides, numbers, i, n, j, m, w),
-        Primitive::Log => powers::raise::log(kinds, insides, numbers, i, n, j, m, w),
-        Primitive::Complex => complex(kinds, insides, numbers, i, n, j, m, w),
-        _ => copied(kinds, insides, numbers, i, n, w),
+        Primitive::Add => { arithmetic::add::expr_add(book, Change::Keep, i, n, j, m, w) }
+        Primitive::Sub => { arithmetic::add::expr_add(book, Change::Negate, i, n, j, m, w) }
+        Primitive::Div => powers::divide::div(book, i, n, j, m, w),
+        Primitive::Log => powers::raise::log(book, i, n, j, m, w),
+        Primitive::Complex => complex(book, i, n, j, m, w),
+        _ => copied(book, i, n, w),
     }
 }
 
 // What the primitive forms of the sum of n cells from i on, and of that of m cells from j on, which was on top of it; and the pairs that count.
 pub fn form_two(
-    kinds: &mut [u8],
-    insides: &mut [u8],
-    numbers: &mut [[u64; 3]],
+    book: &mut Book,
     p: Primitive,
     i: usize,
     n: usize,
@@ -260,16 +192,16 @@ pub fn form_two(
     m: usize,
     w: usize,
 ) -> Raised
-    requires { (1 ≤ n) × (1 ≤ m) × Source (book kinds.old insides.old numbers.old) i n w × Source (book kinds.old insides.old numbers.old) j m w × Room (book kinds.old insides.old numbers.old) (w + (sum_entries + sum_entries)) }
-    ensures kept { Kept (book kinds.old insides.old numbers.old) (book kinds.new insides.new numbers.new) w (w + (sum_entries + sum_entries)) }
-    ensures of_two { OfTwo (book kinds.old insides.old numbers.old) i (i + n) j (j + m) sum_levels (λ b a. Agrees result.formed (book kinds.new insides.new numbers.new) w (of_two p b a)) }
-    ensures of_two_2 { OfTwo (book kinds.old insides.old numbers.old) i (i + n) j (j + m) sum_levels (λ b a. Counted result (pairs_of p b a)) }
+    requires { (1 ≤ n) × (1 ≤ m) × Source (seen book.old) i n w × Source (seen book.old) j m w × Room (seen book.old) (w + (sum_entries + sum_entries)) }
+    ensures kept { Kept (seen book.old) (seen book.new) w (w + (sum_entries + sum_entries)) }
+    ensures of_two { OfTwo (seen book.old) i (i + n) j (j + m) sum_levels (λ b a. Agrees result.formed (seen book.new) w (of_two p b a)) }
+    ensures of_two_2 { OfTwo (seen book.old) i (i + n) j (j + m) sum_levels (λ b a. Counted result (pairs_of p b a)) }
 {
     match p {
-        Primitive::Mul => multiplied(kinds, insides, numbers, i, n, j, m, w),
-        Primitive::Pow => powers::raise::pow(kinds, insides, numbers, i, n, j, m, w),
+        Primitive::Mul => multiplied(book, i, n, j, m, w),
+        Primitive::Pow => powers::raise::pow(book, i, n, j, m, w),
         _ => Raised {
-            formed: form_uncounted(kinds, insides, numbers, p, i, n, j, m, w),
+            formed: form_uncounted(book, p, i, n, j, m, w),
             pairs: 0,
         },
     }

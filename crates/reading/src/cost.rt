@@ -1,6 +1,5 @@
 // What reading a list costs: how many records it runs, known before it is read.
-ghost use Rattle.std.specs.Prelude.{◌≡◌, Bool, cond, ◌+◌, ◌*◌, ◌≤◌, suc, min, eqb};
-ghost use Rattle.formats.specs.declared.record.Verdict.TheVariants.{Good};
+ghost use Rattle.std.specs.Prelude.{◌≡◌, Bool, cond, ◌+◌, ◌*◌, ◌≤◌, suc, min, eqb, Ok, Err};
 ghost use Rattle.formats.specs.Tree.{forest, parse, count};
 ghost use Rattle.formats.specs.Names.{kind_of};
 ghost use Rattle.formats.specs.Rules.{verdict};
@@ -8,16 +7,9 @@ ghost use Rattle.formats.specs.Contract.Walk.{Stretch, Walkable};
 ghost use Rattle.modifiers.specs.Reading.{inside_of};
 ghost use Rattle.reading.specs.Cost.Cost.{most_steps, where_asked, times_of, inside_times, cost_of, cost_list, cost_numbers};
 
-use formats::record::{Modifier, Record, Verdict};
+use formats::record::{Modifier, Record};
 use limits::{LIST_LEVELS, Refusal};
 use modifiers::Inside;
-
-// So many steps, or a refusal, which is at place 0.
-#[derive(Clone, Copy)]
-pub enum CostAnswer {
-    Steps(u64),
-    Refused(Refusal),
-}
 
 #[derive(Clone, Copy)]
 pub struct CostNumbers {
@@ -27,16 +19,16 @@ pub struct CostNumbers {
 }
 
 // The numbers of an answer: a refusal has no steps.
-pub fn cost_numbers(r: CostAnswer) -> CostNumbers
+pub fn cost_numbers(r: Result<u64, Refusal>) -> CostNumbers
     ensures { result ≡ cost_numbers r }
 {
     match r {
-        CostAnswer::Steps(steps) => CostNumbers {
+        Ok(steps) => CostNumbers {
             number: 0,
             place: 0,
             steps,
         },
-        CostAnswer::Refused(q) => CostNumbers {
+        Err(q) => CostNumbers {
             number: limits::refusal_no(q),
             place: 0,
             steps: 0,
@@ -115,14 +107,14 @@ fn stretch_steps(list: &[u8], from: usize, to: usize, left: usize) -> u64
 }
 
 // What reading a list costs: 11 and 13 come first, over the whole list.
-pub fn cost(list: &[u8]) -> CostAnswer
+pub fn cost(list: &[u8]) -> Result<u64, Refusal>
     ensures { result ≡ cost_list list.now }
 {
     match formats::rules::check(list) {
-        Verdict::Refused(q) => CostAnswer::Refused(q),
-        Verdict::Good => {
+        Err(q) => Err(q),
+        Ok(()) => {
             let n = formats::record::count_records(list);
-            CostAnswer::Steps(stretch_steps(list, 0, n, LIST_LEVELS))
+            Ok(stretch_steps(list, 0, n, LIST_LEVELS))
         }
     }
 }

@@ -1,22 +1,22 @@
 // A record that has no inside, with what is counted of it, and a record that is refused as it is.
-ghost use Rattle.std.specs.Prelude.{◌≡◌, ◌||◌, cond, List, suc, ◌-◌, ◌≤◌, min, leb, length};
+ghost use Rattle.std.specs.Prelude.{◌≡◌, ◌||◌, cond, List, suc, ◌-◌, ◌≤◌, min, leb, length, Some, None};
 ghost use Rattle.limits.specs.Limits.{handled_needed};
 ghost use Rattle.sums.specs.Tree.Sums.{Sum};
 ghost use Rattle.formats.specs.Names.{kind_of};
-ghost use Rattle.formats.specs.declared.record.KindFound.TheVariants.{Known};
 ghost use Rattle.stack.specs.Stack.{any_complex};
 ghost use Rattle.modifiers.specs.Reading.{inside_of};
 ghost use Rattle.stack.specs.Steps.{leaf_step};
-ghost use Rattle.stack.specs.Contract.Arena.{arena, working, places};
+ghost use Rattle.stack.specs.Contract.Arena.{slots, working, places};
 ghost use Rattle.stack.specs.Contract.Stacked.{Stacked};
 ghost use Rattle.stack.specs.Contract.Agree.{Ready, Does, env_of};
 ghost use Rattle.stack.specs.Contract.Acting.{handled_by};
 ghost use Rattle.reading.specs.Contract.After.{after};
 ghost use Rattle.reading.specs.Contract.Quick.{is_quick, has_nodes};
 
-use formats::record::{Kind, KindFound, Record};
+use formats::record::{Kind, Record};
 use limits::{HANDLED_NEEDED, Refusal};
 use modifiers::Inside;
+use stack::slots::Arena;
 use stack::state::{AlgebraEnv, Ran, Stepped};
 
 // Whether a record is a push of a number or a primitive: most are, and their step needs no state but the stack's end and what was handled.
@@ -24,8 +24,8 @@ pub fn is_quick(kind: u8) -> bool
     ensures { result ≡ is_quick (kind_of kind) }
 {
     match formats::record::kind_of(kind) {
-        KindFound::Known(k) => quick_kind(k),
-        KindFound::Unknown => false,
+        Some(k) => quick_kind(k),
+        None => false,
     }
 }
 
@@ -41,7 +41,7 @@ pub fn has_nodes(kind: u8) -> bool
 }
 
 fn quick_kind(k: Kind) -> bool
-    ensures { result ≡ is_quick (Known k) }
+    ensures { result ≡ is_quick (Some k) }
 {
     match k {
         Kind::RealPush => true,
@@ -83,19 +83,11 @@ pub fn env_of(used: usize, handled: usize, complex: bool, pairs: u64) -> Algebra
 }
 
 // A refusal at a place.
-pub fn refuse(
-    q: Refusal,
-    at: usize,
-    kinds: &[u8],
-    insides: &[u8],
-    numbers: &[[u64; 3]],
-    sizes: &[u8],
-    env: AlgebraEnv,
-) -> Ran
-    requires { (env.used ≤ length sizes.now) × ((ss : List Sum) × Stacked (arena kinds.now insides.now numbers.now sizes.now) working env.used ss) }
-    ensures { (ss : List Sum) → Stacked (arena kinds.now insides.now numbers.now sizes.now) working env.used ss → result ≡ Ran.Stopped q at (leb handled_needed env.handled || any_complex ss) }
+pub fn refuse(q: Refusal, at: usize, arena: &Arena, env: AlgebraEnv) -> Ran
+    requires { (env.used ≤ length (slots arena.now).sizes) × ((ss : List Sum) × Stacked (slots arena.now) working env.used ss) }
+    ensures { (ss : List Sum) → Stacked (slots arena.now) working env.used ss → result ≡ Ran.Stopped q at (leb handled_needed env.handled || any_complex ss) }
 {
-    match stack::state::halt(q, kinds, insides, numbers, sizes, env.used, env.handled) {
+    match stack::state::halt(q, arena, env.used, env.handled) {
         Stepped::Went(_, _) => Ran::Went(env),
         Stepped::Stopped(r, b) => Ran::Stopped(r, at, b),
     }
@@ -117,21 +109,12 @@ pub fn finish(r: Record, at: usize, stepped: Stepped, env: AlgebraEnv) -> Ran
 }
 
 // A record that has no inside.
-pub fn read_leaf(
-    r: Record,
-    at: usize,
-    kinds: &mut [u8],
-    insides: &mut [u8],
-    numbers: &mut [[u64; 3]],
-    sizes: &mut [u8],
-    v: usize,
-    env: AlgebraEnv,
-) -> Ran
-    requires { Ready (arena kinds.old insides.old numbers.old sizes.old) v env }
-    ensures { Does (arena kinds.old insides.old numbers.old sizes.old) (arena kinds.new insides.new numbers.new sizes.new) v env result (λ st. leaf_step at r (kind_of r.kind) (places - v) st) }
+pub fn read_leaf(r: Record, at: usize, arena: &mut Arena, v: usize, env: AlgebraEnv) -> Ran
+    requires { Ready (slots arena.old) v env }
+    ensures { Does (slots arena.old) (slots arena.new) v env result (λ st. leaf_step at r (kind_of r.kind) (places - v) st) }
 {
     let used = env.used;
     let handled = env.handled;
-    let stepped = stack::leaf::leaf(r, kinds, insides, numbers, sizes, v, used, handled);
+    let stepped = stack::leaf::leaf(r, arena, v, used, handled);
     finish(r, at, stepped, env)
 }

@@ -7,7 +7,7 @@ ghost use Rattle.modifiers.specs.declared.Use.TheVariants.{Bodies};
 ghost use Rattle.modifiers.specs.Reading.{runners, inside_of, step_of};
 ghost use Rattle.modifiers.specs.Contract.Walks.{walk_of};
 ghost use Rattle.modifiers.specs.Contract.Plans.{modified, UsedAs};
-ghost use Rattle.stack.specs.Contract.Arena.{arena, places};
+ghost use Rattle.stack.specs.Contract.Arena.{slots, places};
 ghost use Rattle.stack.specs.Contract.Agree.{Ready, Does};
 ghost use Rattle.reading.specs.Contract.Quick.{has_nodes};
 ghost use Rattle.reading.specs.Contract.Runs.{Keeps, OneBody, Inner, Bodily, Planned, Round, Rounds, Many, Forks};
@@ -15,6 +15,7 @@ ghost use Rattle.reading.specs.Contract.Runs.{Keeps, OneBody, Inner, Bodily, Pla
 use formats::record::{Kind, Record};
 use modifiers::hold::Begun;
 use modifiers::{Plan, Use};
+use stack::slots::Arena;
 use stack::state::{AlgebraEnv, Ran, Stepped};
 
 fn wide(x: u8) -> usize
@@ -29,15 +30,12 @@ pub fn walk(
     list: &[u8],
     from: usize,
     to: usize,
-    kinds: &mut [u8],
-    insides: &mut [u8],
-    numbers: &mut [[u64; 3]],
-    sizes: &mut [u8],
+    arena: &mut Arena,
     v: usize,
     env: AlgebraEnv,
 ) -> Ran
-    requires { Ready (arena kinds.old insides.old numbers.old sizes.old) v env × ((b : Bool) × Keeps list.now from to b × OneBody list.now from to b) }
-    ensures { Does (arena kinds.old insides.old numbers.old sizes.old) (arena kinds.new insides.new numbers.new sizes.new) v env result (λ st. walk_of list.now from to (places - v) st) }
+    requires { Ready (slots arena.old) v env × ((b : Bool) × Keeps list.now from to b × OneBody list.now from to b) }
+    ensures { Does (slots arena.old) (slots arena.new) v env result (λ st. walk_of list.now from to (places - v) st) }
 {
     let mut at = from;
     let mut used = env.used;
@@ -48,7 +46,7 @@ pub fn walk(
         let r = formats::record::record_at(list, at);
         let next = at + 1 + r.inside as usize;
         if crate::turn::is_quick(r.kind) {
-            match stack::leaf::leaf(r, kinds, insides, numbers, sizes, v, used, handled) {
+            match stack::leaf::leaf(r, arena, v, used, handled) {
                 Stepped::Stopped(q, b) => return Ran::Stopped(q, at, b),
                 Stepped::Went(then, more) => {
                     used = then;
@@ -65,7 +63,7 @@ pub fn walk(
             continue;
         }
         let cur = crate::turn::env_of(used, handled, complex, pairs);
-        match step(list, at, r, kinds, insides, numbers, sizes, v, cur) {
+        match step(list, at, r, arena, v, cur) {
             Ran::Stopped(q, place, b) => return Ran::Stopped(q, place, b),
             Ran::Went(then) => {
                 used = then.used;
@@ -81,47 +79,27 @@ pub fn walk(
 
 // Runs one record that has no nodes inside.
 #[cycle(around_fork_fork_each_modify_step_walk_with_bodies)]
-fn step(
-    list: &[u8],
-    at: usize,
-    r: Record,
-    kinds: &mut [u8],
-    insides: &mut [u8],
-    numbers: &mut [[u64; 3]],
-    sizes: &mut [u8],
-    v: usize,
-    env: AlgebraEnv,
-) -> Ran
-    requires { Ready (arena kinds.old insides.old numbers.old sizes.old) v env × Inner list.now at r × (has_nodes (inside_of (kind_of r.kind)) ≡ false) }
-    ensures { Does (arena kinds.old insides.old numbers.old sizes.old) (arena kinds.new insides.new numbers.new sizes.new) v env result
+fn step(list: &[u8], at: usize, r: Record, arena: &mut Arena, v: usize, env: AlgebraEnv) -> Ran
+    requires { Ready (slots arena.old) v env × Inner list.now at r × (has_nodes (inside_of (kind_of r.kind)) ≡ false) }
+    ensures { Does (slots arena.old) (slots arena.new) v env result
         (λ st. step_of at r (runners (at + 1) (forest list.now (at + 1) (at + 1 + r.inside))) (places - v) st) }
 {
     if formats::record::is_a(r.kind, Kind::Modifier) {
-        return modify(list, at, r, kinds, insides, numbers, sizes, v, env);
+        return modify(list, at, r, arena, v, env);
     }
-    crate::turn::read_leaf(r, at, kinds, insides, numbers, sizes, v, env)
+    crate::turn::read_leaf(r, at, arena, v, env)
 }
 
 // Runs a modifier.
 #[cycle(around_fork_fork_each_modify_step_walk_with_bodies)]
-fn modify(
-    list: &[u8],
-    at: usize,
-    r: Record,
-    kinds: &mut [u8],
-    insides: &mut [u8],
-    numbers: &mut [[u64; 3]],
-    sizes: &mut [u8],
-    v: usize,
-    env: AlgebraEnv,
-) -> Ran
-    requires { Ready (arena kinds.old insides.old numbers.old sizes.old) v env × Bodily list.now (at + 1) (at + 1 + r.inside) }
-    ensures { Does (arena kinds.old insides.old numbers.old sizes.old) (arena kinds.new insides.new numbers.new sizes.new) v env result (λ st. modified list.now at r (places - v) st) }
+fn modify(list: &[u8], at: usize, r: Record, arena: &mut Arena, v: usize, env: AlgebraEnv) -> Ran
+    requires { Ready (slots arena.old) v env × Bodily list.now (at + 1) (at + 1 + r.inside) }
+    ensures { Does (slots arena.old) (slots arena.new) v env result (λ st. modified list.now at r (places - v) st) }
 {
     match modifiers::use_of(list, at, r) {
-        Use::Refused(q) => crate::turn::refuse(q, at, kinds, insides, numbers, sizes, env),
-        Use::Bodies => with_bodies(list, at, r, kinds, insides, numbers, sizes, v, env),
-        Use::Forks => fork(list, at, r, kinds, insides, numbers, sizes, v, env),
+        Use::Refused(q) => crate::turn::refuse(q, at, arena, env),
+        Use::Bodies => with_bodies(list, at, r, arena, v, env),
+        Use::Forks => fork(list, at, r, arena, v, env),
     }
 }
 
@@ -131,88 +109,51 @@ fn with_bodies(
     list: &[u8],
     at: usize,
     r: Record,
-    kinds: &mut [u8],
-    insides: &mut [u8],
-    numbers: &mut [[u64; 3]],
-    sizes: &mut [u8],
+    arena: &mut Arena,
     v: usize,
     env: AlgebraEnv,
 ) -> Ran
-    requires { Ready (arena kinds.old insides.old numbers.old sizes.old) v env × Bodily list.now (at + 1) (at + 1 + r.inside) × UsedAs Bodies list.now at r }
-    ensures { Does (arena kinds.old insides.old numbers.old sizes.old) (arena kinds.new insides.new numbers.new sizes.new) v env result (λ st. modified list.now at r (places - v) st) }
+    requires { Ready (slots arena.old) v env × Bodily list.now (at + 1) (at + 1 + r.inside) × UsedAs Bodies list.now at r }
+    ensures { Does (slots arena.old) (slots arena.new) v env result (λ st. modified list.now at r (places - v) st) }
 {
     let p = modifiers::plan_of(list, at, r);
-    let begun = modifiers::begin::begin(r.code, p.args, at, kinds, insides, numbers, sizes, v, env);
+    let begun = modifiers::begin::begin(r.code, p.args, at, arena, v, env);
     match begun {
         Begun::Halted(q, place, b) => Ran::Stopped(q, place, b),
-        Begun::Held(cur, held) => around(list, p, held, kinds, insides, numbers, sizes, v, cur),
+        Begun::Held(cur, held) => around(list, p, held, arena, v, cur),
     }
 }
 
 // One stretch is run while sums of `held` cells are held; these are put back, and the other is run.
 #[cycle(around_fork_fork_each_modify_step_walk_with_bodies)]
-fn around(
-    list: &[u8],
-    p: Plan,
-    held: usize,
-    kinds: &mut [u8],
-    insides: &mut [u8],
-    numbers: &mut [[u64; 3]],
-    sizes: &mut [u8],
-    v: usize,
-    env: AlgebraEnv,
-) -> Ran
-    requires { Round (arena kinds.old insides.old numbers.old sizes.old) v held env × Planned list.now p }
-    ensures { Rounds (arena kinds.old insides.old numbers.old sizes.old) (arena kinds.new insides.new numbers.new sizes.new) v held env result list.now p }
+fn around(list: &[u8], p: Plan, held: usize, arena: &mut Arena, v: usize, env: AlgebraEnv) -> Ran
+    requires { Round (slots arena.old) v held env × Planned list.now p }
+    ensures { Rounds (slots arena.old) (slots arena.new) v held env result list.now p }
 {
     let low = v - held;
-    let ran = walk(list, p.from, p.to, kinds, insides, numbers, sizes, low, env);
+    let ran = walk(list, p.from, p.to, arena, low, env);
     match ran {
         Ran::Stopped(q, place, b) => Ran::Stopped(q, place, b),
         Ran::Went(cur) => {
-            let back = modifiers::lend::put_back(held, kinds, insides, numbers, sizes, low, cur);
-            walk(
-                list, p.again, p.until, kinds, insides, numbers, sizes, v, back,
-            )
+            let back = modifiers::lend::put_back(held, arena, low, cur);
+            walk(list, p.again, p.until, arena, v, back)
         }
     }
 }
 
 // Fork: as many sums as the body that takes most asks for are held to the end.
 #[cycle(around_fork_fork_each_modify_step_walk_with_bodies)]
-fn fork(
-    list: &[u8],
-    at: usize,
-    r: Record,
-    kinds: &mut [u8],
-    insides: &mut [u8],
-    numbers: &mut [[u64; 3]],
-    sizes: &mut [u8],
-    v: usize,
-    env: AlgebraEnv,
-) -> Ran
-    requires { Ready (arena kinds.old insides.old numbers.old sizes.old) v env × Bodily list.now (at + 1) (at + 1 + r.inside) × (modifier_of r.code ≡ Fork) }
-    ensures { Does (arena kinds.old insides.old numbers.old sizes.old) (arena kinds.new insides.new numbers.new sizes.new) v env result (λ st. modified list.now at r (places - v) st) }
+fn fork(list: &[u8], at: usize, r: Record, arena: &mut Arena, v: usize, env: AlgebraEnv) -> Ran
+    requires { Ready (slots arena.old) v env × Bodily list.now (at + 1) (at + 1 + r.inside) × (modifier_of r.code ≡ Fork) }
+    ensures { Does (slots arena.old) (slots arena.new) v env result (λ st. modified list.now at r (places - v) st) }
 {
     let from = at + 1;
     let to = from + r.inside as usize;
     let k = modifiers::most_args(list, from, to);
-    let begun = modifiers::hold::hold(k, at, kinds, insides, numbers, sizes, v, env);
+    let begun = modifiers::hold::hold(k, at, arena, v, env);
     match begun {
         Begun::Halted(q, place, b) => Ran::Stopped(q, place, b),
-        Begun::Held(cur, held) => fork_each(
-            list,
-            at,
-            to,
-            k,
-            held,
-            kinds,
-            insides,
-            numbers,
-            sizes,
-            v - held,
-            cur,
-        ),
+        Begun::Held(cur, held) => fork_each(list, at, to, k, held, arena, v - held, cur),
     }
 }
 
@@ -224,49 +165,24 @@ fn fork_each(
     to: usize,
     k: usize,
     m: usize,
-    kinds: &mut [u8],
-    insides: &mut [u8],
-    numbers: &mut [[u64; 3]],
-    sizes: &mut [u8],
+    arena: &mut Arena,
     v: usize,
     env: AlgebraEnv,
 ) -> Ran
-    requires { Ready (arena kinds.old insides.old numbers.old sizes.old) v env × Bodily list.now (at + 1) to × Many (arena kinds.old insides.old numbers.old sizes.old) v m k }
-    ensures { Forks (arena kinds.old insides.old numbers.old sizes.old) (arena kinds.new insides.new numbers.new sizes.new) v m k env result list.now at (at + 1) to }
+    requires { Ready (slots arena.old) v env × Bodily list.now (at + 1) to × Many (slots arena.old) v m k }
+    ensures { Forks (slots arena.old) (slots arena.new) v m k env result list.now at (at + 1) to }
 {
     let from = at + 1;
-    let mut i = formats::record::count_nodes(list, from, to);
+    let n = formats::record::count_nodes(list, from, to);
     let mut cur = env;
-    while 0 < i {
-        i = i - 1;
+    for i in (0..n).rev() {
         let b = modifiers::place_of(list, from, to, i);
         let r = formats::record::record_at(list, b);
-        let lent = modifiers::lend::lend_deepest(
-            wide(r.args),
-            k,
-            m,
-            at,
-            kinds,
-            insides,
-            numbers,
-            sizes,
-            v,
-            cur,
-        );
+        let lent = modifiers::lend::lend_deepest(wide(r.args), k, m, at, arena, v, cur);
         let Ran::Went(ready) = lent else {
             return lent;
         };
-        let ran = walk(
-            list,
-            b,
-            b + 1 + r.inside as usize,
-            kinds,
-            insides,
-            numbers,
-            sizes,
-            v,
-            ready,
-        );
+        let ran = walk(list, b, b + 1 + r.inside as usize, arena, v, ready);
         let Ran::Went(then) = ran else {
             return ran;
         };

@@ -1,137 +1,124 @@
 // A case is five bytes, the code, the entries of the two operands, the refusal's number or 0, and the entries of the result; and then the
 // entries, 32 bytes each.
-ghost use Rattle.std.specs.Prelude.{◌+◌, ◌*◌, ◌≤◌, ◌<◌, length};
-ghost use Rattle.cells.specs.Contract.Book.{book, Room};
-ghost use Rattle.limits.specs.Limits.{entry_bytes, sum_entries};
+ghost use Rattle.std.specs.Prelude.{◌+◌, ◌≤◌, length, IfSome};
+ghost use Rattle.cells.specs.Contract.Book.{seen, Room};
+ghost use Rattle.cells.specs.Contract.Moves.{SameRoom};
 
-use crate::text;
-use limits::{ENTRY_BYTES, SUM_ENTRIES};
-use sums::order::Formed;
+use cells::Book;
+use limits::{ENTRY_BYTES, Refusal};
 
-// A case is run in a book of four sums: from 0 on its result is formed, with as many working places behind it, and then the operands lie.
-pub const FIRST: usize = 2 * SUM_ENTRIES;
+// An entry as it is stored: its kind and how many lie inside it, four bytes each, and its numbers, eight bytes each, least byte first.
+pub type Stored = [u8; ENTRY_BYTES];
 
-pub const SECOND: usize = 3 * SUM_ENTRIES;
-
-pub const FOUR_SUMS: usize = 4 * SUM_ENTRIES;
-
-// The head of a case.
+// A case, with its entries.
 #[derive(Clone, Copy)]
-pub struct Case {
+pub struct Case<'a> {
     pub code: u8,
-    pub n: usize,
-    pub m: usize,
+    pub first: &'a [Stored],
+    pub second: &'a [Stored],
     pub number: u8,
-    pub r: usize,
+    pub result: &'a [Stored],
 }
 
-fn count(b: u8) -> usize
-    ensures { result ≤ 255 }
-{
-    b as usize
-}
-
-pub fn head(b: &[u8], p: usize) -> Case
-    requires { p + 5 ≤ length b.now }
-    ensures { (result.n ≤ 255) × (result.m ≤ 255) × (result.r ≤ 255) }
-{
-    Case {
-        code: b[p],
-        n: count(b[p + 1]),
-        m: count(b[p + 2]),
-        number: b[p + 3],
-        r: count(b[p + 4]),
+impl<'a> Case<'a> {
+    // The case with this head, whose entries stand in front of these bytes, and what is behind them; none where the entries are cut short.
+    pub fn split(head: &[u8; 5], bytes: &'a [u8]) -> Option<(Case<'a>, &'a [u8])>
+        ensures { IfSome result (λ p. length p.1.now ≤ length bytes.now) }
+    {
+        let [code, n, m, number, r] = *head;
+        let (n, m, r) = (usize::from(n), usize::from(m), usize::from(r));
+        let (entries, rest) = bytes.split_at_checked(ENTRY_BYTES * (n + m + r))?;
+        let (entries, _) = entries.as_chunks::<ENTRY_BYTES>();
+        let (first, entries) = entries.split_at(n);
+        let (second, result) = entries.split_at(m);
+        let case = Case {
+            code,
+            first,
+            second,
+            number,
+            result,
+        };
+        Some((case, rest))
     }
 }
 
-// The cell of the entry j of two operands: the first, of n entries, lies from FIRST on, and the second from SECOND on.
-fn cell_of(j: usize, n: usize) -> usize
-    requires { (n ≤ sum_entries) × (j < n + sum_entries) }
-    ensures { result < (4 * sum_entries) }
-{
-    if j < n { FIRST + j } else { SECOND + (j - n) }
+// What a cell holds, or a stored entry.
+#[derive(Clone, Copy, PartialEq, Eq)]
+struct Cell {
+    kind: u32,
+    inside: u32,
+    words: [u64; 3],
 }
 
-// Lays two operands out, of n and m entries, which are stored from p on.
-pub fn lay(
-    kinds: &mut [u8],
-    insides: &mut [u8],
-    numbers: &mut [[u64; 3]],
-    b: &[u8],
-    p: usize,
-    n: usize,
-    m: usize,
-)
-    requires { (p + entry_bytes * (n + m) ≤ length b.now) × (n ≤ sum_entries) × (m ≤ sum_entries) × Room (book kinds.old insides.old numbers.old) (4 * sum_entries) }
+fn four(entry: &Stored, at: usize) -> u32
+    requires { at + 4 ≤ 32 }
 {
-    let mut j = 0usize;
-    while j < n + m {
-        let q = p + ENTRY_BYTES * j;
-        let k = cell_of(j, n);
-        let num = text::eight(b, q + 8);
-        let re = text::eight(b, q + 16);
-        let im = text::eight(b, q + 24);
-        kinds[k] = b[q];
-        insides[k] = b[q + 4];
-        numbers[k] = [num, re, im];
-        j = j + 1;
+    u32::from_le_bytes(entry[at..at + 4].try_into().unwrap())
+}
+
+fn eight(entry: &Stored, at: usize) -> u64
+    requires { at + 8 ≤ 32 }
+{
+    u64::from_le_bytes(entry[at..at + 8].try_into().unwrap())
+}
+
+fn words(entry: &Stored) -> [u64; 3] {
+    [eight(entry, 8), eight(entry, 16), eight(entry, 24)]
+}
+
+impl Cell {
+    fn stored(entry: &Stored) -> Cell {
+        Cell {
+            kind: four(entry, 0),
+            inside: four(entry, 4),
+            words: words(entry),
+        }
+    }
+
+    // The cell at i.
+    fn at(book: &Book, i: usize) -> Cell
+        requires { Room (seen book.now) (i + 1) }
+    {
+        Cell {
+            kind: u32::from(book.kinds[i]),
+            inside: u32::from(book.insides[i]),
+            words: book.numbers[i],
+        }
     }
 }
 
-fn same_cell(b: &[u8], q: usize, kind: u8, inside: u8, num: u64, re: u64, im: u64) -> bool
-    requires { q + 32 ≤ length b.now }
+// Lays an operand out, from k on.
+pub fn lay(book: &mut Book, k: usize, entries: &[Stored])
+    requires { Room (seen book.old) (k + length entries.now) }
+    ensures { SameRoom (seen book.old) (seen book.new) }
 {
-    let head = (text::four(b, q) == kind as u64) & (text::four(b, q + 4) == inside as u64);
-    let parts = (text::eight(b, q + 16) == re) & (text::eight(b, q + 24) == im);
-    head & (text::eight(b, q + 8) == num) & parts
+    for (i, entry) in entries.iter().enumerate() {
+        book.kinds[k + i] = entry[0];
+        book.insides[k + i] = entry[4];
+        book.numbers[k + i] = words(entry);
+    }
 }
 
-// Whether the n entries that are stored from p on are the first n cells.
-fn same_cells(
-    kinds: &[u8],
-    insides: &[u8],
-    numbers: &[[u64; 3]],
-    b: &[u8],
-    p: usize,
-    n: usize,
-) -> bool
-    requires { (p + entry_bytes * n ≤ length b.now) × Room (book kinds.now insides.now numbers.now) n }
+// Whether these entries are the first cells.
+fn same_cells(book: &Book, entries: &[Stored]) -> bool
+    requires { Room (seen book.now) (length entries.now) }
 {
-    let mut j = 0usize;
-    while j < n {
-        let words = numbers[j];
-        let q = p + ENTRY_BYTES * j;
-        if !same_cell(b, q, kinds[j], insides[j], words[0], words[1], words[2]) {
+    for (i, entry) in entries.iter().enumerate() {
+        if Cell::at(book, i) != Cell::stored(entry) {
             return false;
         }
-        j = j + 1;
     }
     true
 }
 
-// Whether an answer is what is stored: the same number, and the same n cells.
-pub fn is_stored(
-    kinds: &[u8],
-    insides: &[u8],
-    numbers: &[[u64; 3]],
-    f: Formed,
-    number: u8,
-    b: &[u8],
-    p: usize,
-    n: usize,
-) -> bool
-    requires { (p + entry_bytes * n ≤ length b.now) × Room (book kinds.now insides.now numbers.now) n }
-{
-    match f {
-        Formed::Done(k) => {
-            if k != n {
-                return false;
-            }
-            if number != 0 {
-                return false;
-            }
-            same_cells(kinds, insides, numbers, b, p, n)
+impl<'a> Case<'a> {
+    // Whether an answer is what is stored: the same number, and the same cells.
+    pub fn is_given(self, book: &Book, formed: Result<usize, Refusal>) -> bool
+        requires { Room (seen book.now) (length self.result.now) }
+    {
+        match formed {
+            Ok(n) => self.number == 0 && n == self.result.len() && same_cells(book, self.result),
+            Err(r) => limits::refusal_no(r) == u64::from(self.number),
         }
-        Formed::Refused(r) => limits::refusal_no(r) == number as u64,
     }
 }

@@ -1,32 +1,20 @@
-// What reads and prints here, over std. A call that fails ends the transfer and is not told of: what was moved before it stands.
+// What reads here, over std. The program replay_lists has the same function: two programs can share code only by a crate of its own, which this is too little for.
 ghost use Rattle.std.specs.Prelude.{◌≤◌, length};
 
 use std::io::Read;
 
-// Prints all of these bytes, or those before a write that fails.
-pub fn write_all(rt: &impl Print, bytes: &[u8]) {
-    let _ = rt.write_all(bytes);
-}
-
-// Prints the number in decimal digits.
-pub fn print_decimal(rt: &impl Print, n: u64) {
-    let _ = rt.print(n);
-}
-
-// Reads until the buffer is full, the input ends or a read fails: how many bytes stand at the buffer's start then.
+// Reads until the buffer is full, the input ends or a read fails, which is not told of: how many bytes stand at the buffer's start then.
+// `Read::read_exact` does not tell how many.
 pub fn read_full<R: Read>(from: &mut R, buf: &mut [u8]) -> usize
     ensures { result ≤ length buf.new }
 {
     let mut done = 0usize;
     while done < buf.len() {
-        let got = match from.read(&mut buf[done..]) {
-            Ok(n) => n,
-            Err(_) => 0,
-        };
+        let got = from.read(&mut buf[done..]).unwrap_or(0);
         if got == 0 {
-            return done;
+            break;
         }
-        done = done + got;
+        done += got;
     }
     done
 }

@@ -1,101 +1,131 @@
-// The value of one sum at the number that a line gives, and of the sum less a byte.
+// What is answered at the number that a line gives, of a list that is run or of a sum, and of the list or the sum less a byte.
 use crate::calls::BAD_RECORD;
-use crate::count::COUNTS;
-use crate::text::Number;
+use crate::count::{Row, Tally};
+use crate::entries::Form;
+use crate::text::Parts;
+use running::RunNumbers;
+use values::ValueNumbers;
 
-// Where a sum's value is asked for, and what is answered; numbers as their bits.
-#[derive(Clone, Copy)]
-struct Asked {
-    x: u64,
+// The value's bits, none where it isn't finite. The value of a sum has no steps and no peak: they are 0.
+#[derive(Clone, Copy, PartialEq, Eq)]
+struct Answer {
     number: u64,
-    value: u64,
+    place: u64,
+    bits: Option<u64>,
+    steps: u64,
+    peak: u64,
 }
 
-#[derive(Clone, Copy)]
-enum Stored {
-    Answer(Asked),
-    Broken,
-}
-
-// The length of the keyword.
-const WORD: usize = 5;
-
-// The value stands here and ends the line.
-fn with_value(line: &[u8], at: usize, x: u64, number: u64) -> Stored {
-    let last = crate::text::bits_at(line, at);
-    let Number::Found(value, end) = last else {
-        return Stored::Broken;
-    };
-    if end != line.len() {
-        return Stored::Broken;
+impl Answer {
+    // Nothing is told of what is refused at place 0.
+    fn refusal(number: u64) -> Answer {
+        Answer {
+            number,
+            place: 0,
+            bits: Some(0),
+            steps: 0,
+            peak: 0,
+        }
     }
-    Stored::Answer(Asked {
-        x: x,
-        number: number,
-        value: value,
-    })
 }
 
-fn stored_of(line: &[u8]) -> Stored {
-    let first = crate::text::bits_at(line, WORD);
-    let Number::Found(x, i) = first else {
-        return Stored::Broken;
-    };
-    let second = crate::text::number_at(line, i);
-    let Number::Found(number, j) = second else {
-        return Stored::Broken;
-    };
-    with_value(line, j, x, number)
-}
-
-// Whether the value is this, to the bit, and place and count are 0.
-fn is_given(sum: &[u8], want: Asked) -> bool {
-    let x = crate::runs::number_of(want.x);
-    let n = values::value_numbers(algebra::value(sum, x));
-    let told = (n.number == want.number) & (n.place == 0) & (n.count == 0);
-    told & crate::runs::has_bits(n.value, want.value)
-}
-
-// The sum less its last byte is refused, and has the value +0.
-fn with_short_input(rt: &impl Print, name: &[u8], counts: &mut [u64; COUNTS], sum: &[u8], x: u64) {
-    let n = sum.len();
-    if n == 0 {
-        return;
+impl From<RunNumbers> for Answer {
+    fn from(n: RunNumbers) -> Answer {
+        Answer {
+            number: n.number,
+            place: n.place as u64,
+            bits: finite_bits(n.value),
+            steps: n.steps as u64,
+            peak: n.peak as u64,
+        }
     }
-    let m = n - 1;
-    let refused = Asked {
-        x: x,
-        number: BAD_RECORD,
-        value: 0,
-    };
-    let goes = is_given(&sum[..m], refused);
-    crate::count::tally(
-        rt,
-        name,
-        counts,
-        crate::count::VALUE,
-        crate::count::SHORT_INPUTS,
-        goes,
-        b"input a byte short",
-    );
 }
 
-// The value of the sum that a line asks for.
-pub fn replay(rt: &impl Print, name: &[u8], counts: &mut [u64; COUNTS], line: &[u8], sum: &[u8]) {
-    let stored = stored_of(line);
-    let Stored::Answer(asked) = stored else {
-        crate::count::note_line(counts, crate::count::BROKEN);
-        return;
-    };
-    let goes = is_given(sum, asked);
-    crate::count::tally(
-        rt,
-        name,
-        counts,
-        crate::count::VALUE,
-        crate::count::ANSWERS,
-        goes,
-        b"value",
-    );
-    with_short_input(rt, name, counts, sum, asked.x);
+// Its count, always 0, stands where a run has its steps.
+impl From<ValueNumbers> for Answer {
+    fn from(n: ValueNumbers) -> Answer {
+        Answer {
+            number: n.number,
+            place: n.place as u64,
+            bits: finite_bits(n.value),
+            steps: n.count as u64,
+            peak: 0,
+        }
+    }
+}
+
+// The number with these bits; infinity for every number that isn't finite, since a NaN has many patterns.
+fn number_of(bits: u64) -> f64 {
+    if numbers::finite_bits(bits) {
+        f64::from_bits(bits)
+    } else {
+        f64::INFINITY
+    }
+}
+
+// The bits of a finite number.
+fn finite_bits(x: f64) -> Option<u64> {
+    if numbers::is_finite(x) {
+        Some(x.to_bits())
+    } else {
+        None
+    }
+}
+
+impl Form {
+    fn row(self) -> Row {
+        match self {
+            Form::List => Row::Run,
+            Form::Sum => Row::Value,
+        }
+    }
+
+    fn what(self) -> &'static str {
+        match self {
+            Form::List => "run",
+            Form::Sum => "value",
+        }
+    }
+
+    fn at(self, input: &[u8], x: f64) -> Answer {
+        match self {
+            Form::List => running::run_numbers(algebra::run(input, x)).into(),
+            Form::Sum => values::value_numbers(algebra::value(input, x)).into(),
+        }
+    }
+}
+
+// Where an answer is asked for, as bits, and the answer, which ends the line.
+fn stored(form: Form, mut parts: Parts) -> Option<(u64, Answer)> {
+    let x = parts.bits()?;
+    let mut answer = Answer::refusal(parts.number()?);
+    if form == Form::List {
+        answer.place = parts.number()?;
+    }
+    answer.bits = Some(parts.bits()?);
+    if form == Form::List {
+        answer.steps = parts.number()?;
+        answer.peak = parts.number()?;
+    }
+    if parts.is_end() {
+        Some((x, answer))
+    } else {
+        None
+    }
+}
+
+// The answer that a line asks for.
+pub fn replay<R: Print>(
+    tally: &mut Tally<R>,
+    form: Form,
+    input: &[u8],
+    parts: Parts,
+) -> Option<()> {
+    let (bits, want) = stored(form, parts)?;
+    let x = number_of(bits);
+    tally.answer(form.row(), form.at(input, x) == want, form.what());
+    tally.short_input(form.row(), input, |short| {
+        form.at(short, x) == Answer::refusal(BAD_RECORD)
+    });
+    Some(())
 }

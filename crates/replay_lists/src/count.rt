@@ -1,201 +1,211 @@
-// What the replay of stored answers counts: a row of eight counters for the lines, and one for each entry.
+// What the replay of stored answers counts, and what it tells of it.
 ghost use Rattle.std.specs.Prelude.{◌<◌};
 
-use crate::streams;
+use crate::entries::Form;
+use std::fmt;
 
-// The row of the lines: which line of its file is at hand, and how many lines there were of each sort.
-pub const LINES: usize = 0;
+#[derive(Clone, Copy)]
+pub struct Counter(u64);
 
-pub const LINE: usize = 0;
+impl Counter {
+    const ZERO: Counter = Counter(0);
 
-pub const LISTS: usize = 1;
-
-pub const SUMS: usize = 2;
-
-pub const SKIPPED: usize = 3;
-
-pub const BROKEN: usize = 4;
-
-pub const CUT_OFF: usize = 5;
-
-pub const FAILED: usize = 6;
-
-// The rows of the entries, and what such a row has: how many calls there were of each sort, and, one further, how many went as they should.
-pub const READ: usize = 1;
-
-pub const DERIVE: usize = 2;
-
-pub const INTEGRATE: usize = 3;
-
-pub const WRITE: usize = 4;
-
-pub const DERIVATIVE: usize = 5;
-
-pub const INTEGRAL: usize = 6;
-
-pub const INVERSE: usize = 7;
-
-pub const RUN: usize = 8;
-
-pub const BACK: usize = 9;
-
-pub const WRITE_FAITHFUL: usize = 10;
-
-pub const DERIVATIVE_FAITHFUL: usize = 11;
-
-pub const INTEGRAL_FAITHFUL: usize = 12;
-
-pub const VALUE: usize = 13;
-
-const ROWS: usize = VALUE + 1;
-
-const COLUMNS: usize = 8;
-
-pub const COUNTS: usize = ROWS * COLUMNS;
-
-pub const ANSWERS: usize = 0;
-
-pub const SHORT_ROOMS: usize = 2;
-
-pub const SHORT_INPUTS: usize = 4;
-
-// One more of these.
-fn note(counts: &mut [u64; COUNTS], row: usize, column: usize)
-    requires { (row < 14) × (column < 8) }
-{
-    let i = row * COLUMNS + column;
-    let n = counts[i];
-    if n < u64::MAX {
-        counts[i] = n + 1;
+    pub fn note(&mut self) {
+        self.0 = self.0.saturating_add(1);
     }
 }
 
-// One more line of this sort.
-pub fn note_line(counts: &mut [u64; COUNTS], column: usize)
-    requires { column < 8 }
-{
-    note(counts, LINES, column);
-}
-
-fn print(rt: &impl Print, counts: &[u64; COUNTS], row: usize, column: usize)
-    requires { (row < 14) × (column < 8) }
-{
-    streams::print_decimal(rt, counts[row * COLUMNS + column]);
-}
-
-// Writes the place of a call that did not go as it should, if few did not before it.
-fn report(rt: &impl Print, name: &[u8], counts: &[u64; COUNTS], what: &[u8]) {
-    if 8 < counts[FAILED] {
-        return;
+impl fmt::Display for Counter {
+    fn fmt<W: fmt::Write>(&self, f: &mut fmt::Formatter<W>) -> fmt::Result {
+        let n = self.0;
+        write!(f, "{n}")
     }
-    streams::write_all(rt, name);
-    streams::write_all(rt, b":");
-    print(rt, counts, LINES, LINE);
-    streams::write_all(rt, b": ");
-    streams::write_all(rt, what);
-    streams::write_all(rt, b"\n");
 }
 
-// Counts a call, and whether it went as it should; where not, it is reported.
-pub fn tally(
-    rt: &impl Print,
-    name: &[u8],
-    counts: &mut [u64; COUNTS],
-    row: usize,
-    column: usize,
-    goes: bool,
-    what: &[u8],
-)
-    requires { (row < 14) × (column < 7) }
-{
-    note(counts, row, column);
-    if goes {
-        note(counts, row, column + 1);
-        return;
+// How many calls of a sort there were, and how many went as they should.
+#[derive(Clone, Copy)]
+struct Count {
+    calls: Counter,
+    good: Counter,
+}
+
+impl Count {
+    const ZERO: Count = Count {
+        calls: Counter::ZERO,
+        good: Counter::ZERO,
+    };
+
+    fn note(&mut self, goes: bool) {
+        self.calls.note();
+        if goes {
+            self.good.note();
+        }
     }
-    note_line(counts, FAILED);
-    report(rt, name, counts, what);
 }
 
-fn print_both(
-    rt: &impl Print,
-    counts: &[u64; COUNTS],
-    row: usize,
-    column: usize,
-    between: &[u8],
-    after: &[u8],
-)
-    requires { (row < 14) × (column < 7) }
-{
-    print(rt, counts, row, column);
-    streams::write_all(rt, between);
-    print(rt, counts, row, column + 1);
-    streams::write_all(rt, after);
+// The calls that are counted together.
+#[derive(Clone, Copy)]
+pub enum Row {
+    Read,
+    Derive,
+    Integrate,
+    Write,
+    Derivative,
+    Integral,
+    Inverse,
+    Back,
+    WriteFaithful,
+    DerivativeFaithful,
+    IntegralFaithful,
+    Run,
+    Value,
 }
 
-fn summary_of(rt: &impl Print, counts: &[u64; COUNTS], row: usize, name: &[u8])
-    requires { row < 14 }
-{
-    streams::write_all(rt, name);
-    print_both(rt, counts, row, ANSWERS, b" answers, ", b" agree; ");
-    print_both(
-        rt,
-        counts,
-        row,
-        SHORT_ROOMS,
-        b" rooms a byte short, ",
-        b" refused; ",
-    );
-    print_both(
-        rt,
-        counts,
-        row,
-        SHORT_INPUTS,
-        b" inputs a byte short, ",
-        b" refused\n",
-    );
+// In the order in which the summary tells of them.
+const ROWS: [(Row, &str); 13] = [
+    (Row::Read, "read"),
+    (Row::Derive, "derive"),
+    (Row::Integrate, "integrate"),
+    (Row::Write, "write"),
+    (Row::Derivative, "derivative"),
+    (Row::Integral, "integral"),
+    (Row::Inverse, "inverse"),
+    (Row::Back, "back"),
+    (Row::WriteFaithful, "write_faithful"),
+    (Row::DerivativeFaithful, "derivative_faithful"),
+    (Row::IntegralFaithful, "integral_faithful"),
+    (Row::Run, "run"),
+    (Row::Value, "value"),
+];
+
+impl Row {
+    fn index(self) -> usize
+        ensures { result < 13 }
+    {
+        self as usize
+    }
+
+    // A run and a value write no bytes, so there is no room that could be short.
+    fn has_rooms(self) -> bool {
+        !matches!(self, Row::Run | Row::Value)
+    }
 }
 
-// A run and a value write no bytes, so there is no room that could be short.
-fn summary_without_room(rt: &impl Print, counts: &[u64; COUNTS], row: usize, name: &[u8])
-    requires { row < 14 }
-{
-    streams::write_all(rt, name);
-    print_both(rt, counts, row, ANSWERS, b" answers, ", b" agree; ");
-    print_both(
-        rt,
-        counts,
-        row,
-        SHORT_INPUTS,
-        b" inputs a byte short, ",
-        b" refused\n",
-    );
+#[derive(Clone, Copy)]
+struct Calls {
+    answers: Count,
+    short_rooms: Count,
+    short_inputs: Count,
 }
 
-fn print_line(rt: &impl Print, counts: &[u64; COUNTS], column: usize, after: &[u8])
-    requires { column < 8 }
-{
-    print(rt, counts, LINES, column);
-    streams::write_all(rt, after);
+impl Calls {
+    const ZERO: Calls = Calls {
+        answers: Count::ZERO,
+        short_rooms: Count::ZERO,
+        short_inputs: Count::ZERO,
+    };
 }
 
-pub fn summary(rt: &impl Print, counts: &[u64; COUNTS]) {
-    print_line(rt, counts, LISTS, b" lists, ");
-    print_line(rt, counts, SUMS, b" sums\n");
-    summary_of(rt, counts, READ, b"read: ");
-    summary_of(rt, counts, DERIVE, b"derive: ");
-    summary_of(rt, counts, INTEGRATE, b"integrate: ");
-    summary_of(rt, counts, WRITE, b"write: ");
-    summary_of(rt, counts, DERIVATIVE, b"derivative: ");
-    summary_of(rt, counts, INTEGRAL, b"integral: ");
-    summary_of(rt, counts, INVERSE, b"inverse: ");
-    summary_of(rt, counts, BACK, b"back: ");
-    summary_of(rt, counts, WRITE_FAITHFUL, b"write_faithful: ");
-    summary_of(rt, counts, DERIVATIVE_FAITHFUL, b"derivative_faithful: ");
-    summary_of(rt, counts, INTEGRAL_FAITHFUL, b"integral_faithful: ");
-    summary_without_room(rt, counts, RUN, b"run: ");
-    summary_without_room(rt, counts, VALUE, b"value: ");
-    print_line(rt, counts, SKIPPED, b" lines skipped, ");
-    print_line(rt, counts, BROKEN, b" broken, ");
-    print_line(rt, counts, CUT_OFF, b" cut off or too long\n");
+// The counts, with what they are printed by, and the line that is at hand.
+#[derive(Drop)]
+pub struct Tally<'a, R> {
+    rt: &'a R,
+    name: &'a str,
+    line: Counter,
+    failed: Counter,
+    rows: [Calls; 13],
+    lists: Counter,
+    sums: Counter,
+    pub skipped: Counter,
+    pub broken: Counter,
+    pub cut_off: Counter,
+}
+
+impl<'a, R: Print> Tally<'a, R> {
+    pub fn new(rt: &'a R) -> Tally<'a, R> {
+        Tally {
+            rt,
+            name: "",
+            line: Counter::ZERO,
+            failed: Counter::ZERO,
+            rows: [Calls::ZERO; 13],
+            lists: Counter::ZERO,
+            sums: Counter::ZERO,
+            skipped: Counter::ZERO,
+            broken: Counter::ZERO,
+            cut_off: Counter::ZERO,
+        }
+    }
+
+    // The lines that follow are this file's.
+    pub fn start_file(&mut self, name: &'a str) {
+        self.name = name;
+        self.line = Counter::ZERO;
+    }
+
+    pub fn start_line(&mut self) {
+        self.line.note();
+    }
+
+    // One more line is an input.
+    pub fn held(&mut self, form: Form) {
+        match form {
+            Form::List => self.lists.note(),
+            Form::Sum => self.sums.note(),
+        }
+    }
+
+    // Reports a call that did not go as it should, if few did not before it.
+    fn check(&mut self, goes: bool, what: &str) {
+        if goes {
+            return;
+        }
+        self.failed.note();
+        if self.failed.0 <= 8 {
+            let _ = println!(self.rt; "{}:{}: {what}", self.name, self.line);
+        }
+    }
+
+    pub fn answer(&mut self, row: Row, goes: bool, what: &str) {
+        self.rows[row.index()].answers.note(goes);
+        self.check(goes, what);
+    }
+
+    pub fn short_room(&mut self, row: Row, goes: bool) {
+        self.rows[row.index()].short_rooms.note(goes);
+        self.check(goes, "room a byte short");
+    }
+
+    // The input less its last byte, which is to be refused.
+    pub fn short_input<F: FnOnce(&[u8]) -> bool>(&mut self, row: Row, input: &[u8], is_refused: F)
+        requires { F.IsAlwaysCallable is_refused }
+    {
+        let Some((_, short)) = input.split_last() else {
+            return;
+        };
+        let goes = is_refused(short);
+        self.rows[row.index()].short_inputs.note(goes);
+        self.check(goes, "input a byte short");
+    }
+
+    fn print_row(&self, row: Row, name: &str) {
+        let calls = self.rows[row.index()];
+        let n = calls.answers;
+        let _ = print!(self.rt; "{name}: {} answers, {} agree; ", n.calls, n.good);
+        if row.has_rooms() {
+            let n = calls.short_rooms;
+            let _ = print!(self.rt; "{} rooms a byte short, {} refused; ", n.calls, n.good);
+        }
+        let n = calls.short_inputs;
+        let _ = println!(self.rt; "{} inputs a byte short, {} refused", n.calls, n.good);
+    }
+
+    pub fn print(&self) {
+        let _ = println!(self.rt; "{} lists, {} sums", self.lists, self.sums);
+        for (row, name) in ROWS {
+            self.print_row(row, name);
+        }
+        let _ = print!(self.rt; "{} lines skipped, {} broken, ", self.skipped, self.broken);
+        let _ = println!(self.rt; "{} cut off or too long", self.cut_off);
+    }
 }

@@ -4,7 +4,7 @@ use mathlib.Core.Path.{◌≡◌, refl}
 use mathlib.Core.Bool.{true, false}
 use mathlib.Core.List.{List, [], ◌∷◌, map}
 use lib.IntN.{pos}
-use lib.Ieee.{Float, nan, fin, binary64, neg, add, sub, mul, div, eq, lt, of_int, of_bits, units, size as digits}
+use lib.Ieee.{Float, nan, fin, neg, add, sub, mul, div, eq, lt, of_int, of_bits, units, size as digits}
 use Rattle.numbers.specs.Signs.{±0}
 use Rattle.numbers.specs.Numbers.{small_whole}
 use Rattle.numbers.specs.Radical.Root.{root}
@@ -21,9 +21,7 @@ use Rattle.formats.specs.Bytes.{value, bytes}
 use Rattle.formats.specs.Tree.{Nodes, end, rec, size, height, count, grow, forest, parse, rec_of, encode_rec, encode}
 use Rattle.formats.specs.Rules.{fields_ok, ok_nodes, shape_of, verdict}
 use Rattle.running.specs.Primitives.{times, power, square_root, leave, apply, act}
-use Rattle.running.specs.Running.{runs, run_nodes, run_list}
-use Rattle.running.specs.declared.RunAnswer.{RunAnswer}
-use Rattle.running.specs.declared.RunAnswer.TheVariants.{Value, Refused}
+use Rattle.running.specs.Running.{runs, run_nodes, run_list, RunAnswer, Value, Refused}
 
 abbrev plain : Kind → ℕ → ℕ → ℕ → Record
 plain k code args n = record { kind = kind_no k; code = code; args = args; blank = 0; inside = n; re = 0; im = 0 }

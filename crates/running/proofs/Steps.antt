@@ -1,5 +1,5 @@
 -- A list that is run to a value takes as many steps as it has records. Assumes nothing.
-use Prim.Native.Nat.{ℕ, suc, ◌+◌, ◌-◌, max}
+use Prim.Native.Nat.{ℕ, suc, ◌+◌, max}
 use native.Mathlib.Omega.{arith}
 use mathlib.Core.Path.{◌≡◌, refl, ap, ◌∙◌, sym}
 use mathlib.Core.Bool.{Bool, true, false}
@@ -9,29 +9,24 @@ use lib.ListN.{length}
 use lib.Ieee.{Float}
 use lib.Ieee.Scale.{finite}
 use borrow.Author.Tests.{eqb-true}
+use Rattle.std.specs.Prelude.{Some, Result, Ok, Err}
 use Rattle.limits.specs.declared.Refusal.{Refusal}
-use Rattle.limits.specs.declared.Refusal.TheVariants.{NotSupported}
 use Rattle.formats.specs.declared.record.Record.{Record}
 use Rattle.formats.specs.declared.record.Kind.{Kind}
 use Rattle.formats.specs.declared.record.Kind.TheVariants as kind
-use Rattle.formats.specs.declared.record.KindFound.TheVariants.{Known}
 use Rattle.formats.specs.declared.record.Modifier.TheVariants.{On}
-use Rattle.formats.specs.declared.record.Verdict.{Verdict}
-use Rattle.formats.specs.declared.record.Verdict.TheVariants as verdicts
 use Rattle.formats.specs.Names.{kind_no, kind_of, modifier_no}
 use Rattle.formats.specs.Tree.{Nodes, end, rec, size, count, forest, parse, records_in}
-use Rattle.formats.specs.Rules.{is_a, one_of, used_or_zero, fields_ok, ok_nodes, verdict}
+use Rattle.formats.specs.Rules.{is_a, one_of, used_or_zero, fields_ok, ok_nodes, verdict, Verdict}
 use Rattle.formats.proofs.record.Names.{kind-found}
 use Rattle.formats.proofs.record.Fit.{told}
 use Rattle.formats.proofs.record.Forest.{size-forest}
 use Rattle.formats.proofs.record.Walk.{fields-kind, fields-inside, whole-stretch}
 use Rattle.running.specs.Primitives.{Act, went, stop, act, way_of}
-use Rattle.running.specs.Running.{Running, Out, done, refused_at, and_then, if_room, settle, copied, give_back, modify, stepped, run_by, runs, last_of, ended, start, run_nodes, judged, run_list}
+use Rattle.running.specs.Running.{Running, Out, done, refused_at, and_then, if_room, settle, copied, give_back, modify, stepped, run_by, runs, last_of, ended, start, run_nodes, judged, run_list, RunAnswer, Value}
 use Rattle.running.specs.declared.Deed.{Deed}
-use Rattle.running.specs.declared.Deed.TheVariants.{Pushes, Works, Refuses}
 use Rattle.running.specs.declared.Way.{Way}
 use Rattle.running.specs.declared.Way.TheVariants.{Acts, Runs, Modifies}
-use Rattle.running.specs.declared.RunAnswer.TheVariants.{Value, Refused}
 
 -- ---- what comes of a run that is done
 
@@ -53,14 +48,8 @@ back_done (a ∷ l) m s q = let e : s ≡ record { stack = a ∷ m.stack; steps 
 
 -- ---- a record that acts by itself has nothing inside
 
-refused-act : (d : Deed) (r : Record) (s l : List Float) → Acts (Refuses NotSupported) ≡ Acts d → act d r s ≡ went l → ⊥
-unfolding act
-refused-act Pushes r s l e q = let z : ◌≡◌ {A = ℕ} 0 1 = cc in omega arith
-refused-act Works r s l e q = let z : ◌≡◌ {A = ℕ} 0 1 = cc in omega arith
-refused-act (Refuses p) r s l e q = let z : ◌≡◌ {A = ℕ} 0 1 = cc in omega arith
-
-module _ (r : Record) (d : Deed) (s l : List Float) (q : act d r s ≡ went l) (i : used_or_zero (one_of r (kind.Modifier ∷ kind.Body ∷ kind.Run ∷ kind.CustomInverse ∷ [])) r.inside ≡ true) where
-  kind-inside : (k : Kind) → r.kind ≡ kind_no k → way_of (Known k) ≡ Acts d → r.inside ≡ 0
+module _ (r : Record) (d : Deed) (i : used_or_zero (one_of r (kind.Modifier ∷ kind.Body ∷ kind.Run ∷ kind.CustomInverse ∷ [])) r.inside ≡ true) where
+  kind-inside : (k : Kind) → r.kind ≡ kind_no k → way_of (Some k) ≡ Ok (Acts d) → r.inside ≡ 0
   kind-inside kind.RealPush v e = eqb-true r.inside 0 (rw v at i)
   kind-inside kind.ComplexPush v e = eqb-true r.inside 0 (rw v at i)
   kind-inside kind.ArrayPush v e = eqb-true r.inside 0 (rw v at i)
@@ -69,16 +58,16 @@ module _ (r : Record) (d : Deed) (s l : List Float) (q : act d r s ≡ went l) (
   kind-inside kind.Modifier v e = absurd (let z : ◌≡◌ {A = ℕ} 0 1 = cc in omega arith)
   kind-inside kind.Body v e = absurd (let z : ◌≡◌ {A = ℕ} 0 1 = cc in omega arith)
   kind-inside kind.Run v e = absurd (let z : ◌≡◌ {A = ℕ} 0 1 = cc in omega arith)
-  kind-inside kind.CustomInverse v e = absurd (refused-act d r s l e q)
+  kind-inside kind.CustomInverse v e = absurd (let z : ◌≡◌ {A = ℕ} 0 1 = cc in omega arith)
   kind-inside kind.Obverse v e = eqb-true r.inside 0 (rw v at i)
   kind-inside kind.NoNormal v e = eqb-true r.inside 0 (rw v at i)
   kind-inside kind.UnderMarker v e = eqb-true r.inside 0 (rw v at i)
   kind-inside kind.AnythingElse v e = eqb-true r.inside 0 (rw v at i)
 
-no-inside : (r : Record) (d : Deed) (s l : List Float) → fields_ok r ≡ true → way_of (kind_of r.kind) ≡ Acts d → act d r s ≡ went l → r.inside ≡ 0
-no-inside r d s l f e q =
+no-inside : (r : Record) (d : Deed) → fields_ok r ≡ true → way_of (kind_of r.kind) ≡ Ok (Acts d) → r.inside ≡ 0
+no-inside r d f e =
     let k = fields-kind r f in
-    kind-inside r d s l q (fields-inside r f) k.0 (sym (kind-found r.kind k.0 k.1)) (sym (ap way_of k.1) ∙ e)
+    kind-inside r d (fields-inside r f) k.0 (sym (kind-found r.kind k.0 k.1)) (sym (ap way_of k.1) ∙ e)
 
 -- ---- steps
 
@@ -94,13 +83,14 @@ modify-steps true true h at n inner st m t q =
     let j = then-done (inner (h + 1) i.0) (give_back st.stack) m i.2 in
     omega (arith, (settle-done (h + 1) at st (copied st.stack) i.0 i.1).0, t (h + 1) i.0 j.0 j.1, back_done st.stack j.0 m j.2)
 
-one-steps : (w : Way) (r : Record) (ns : Nodes) (inner : ℕ → Running → Out) (at h : ℕ) (st m : Running) → way_of (kind_of r.kind) ≡ w → fields_ok r ≡ true → r.inside ≡ size ns
+one-steps : (w : Result Way Refusal) (r : Record) (ns : Nodes) (inner : ℕ → Running → Out) (at h : ℕ) (st m : Running) → way_of (kind_of r.kind) ≡ w → fields_ok r ≡ true → r.inside ≡ size ns
     → Takes (size ns) inner → run_by w r ns inner at h st ≡ done m → m.steps ≡ st.steps + suc (size ns)
-one-steps (Acts d) r ns inner at h st m e f z t q =
+one-steps (Ok (Acts d)) r ns inner at h st m e f z t q =
     let i = settle-done h at st (act d r st.stack) m q in
-    omega (arith, i.0, z, no-inside r d st.stack i.1.0 f e i.1.1)
-one-steps Runs r ns inner at h st m e f z t q = omega (arith, t h (stepped st) m q)
-one-steps Modifies r ns inner at h st m e f z t q = modify-steps (eqb r.code (modifier_no On)) (eqb (count ns) 1) h at (size ns) inner st m t q
+    omega (arith, i.0, z, no-inside r d f e)
+one-steps (Ok Runs) r ns inner at h st m e f z t q = omega (arith, t h (stepped st) m q)
+one-steps (Ok Modifies) r ns inner at h st m e f z t q = modify-steps (eqb r.code (modifier_no On)) (eqb (count ns) 1) h at (size ns) inner st m t q
+one-steps (Err p) r ns inner at h st m e f z t q = absurd (let z : ◌≡◌ {A = ℕ} 0 1 = cc in omega arith)
 
 pub steps-size : (t : Nodes) (b : Bool) → ok_nodes b t ≡ true → (at h : ℕ) (st s : Running) → runs t at h st ≡ done s → s.steps ≡ st.steps + size t
 unfolding runs size
@@ -116,19 +106,27 @@ steps-size (rec r ns ms) b o at h st s q =
 
 -- ---- the whole
 
+-- the steps of two runs to a value that are the same
+pub same-steps : {v w : Float} {n m p k : ℕ} → Value v n p ≡ Value w m k → n ≡ m
+same-steps q = ap steps_of q
+  where
+    steps_of : RunAnswer → ℕ
+    steps_of (Ok v) = v.steps
+    steps_of (Err s) = 0
+
 last-steps : (l : List Float) (m k : ℕ) {v : Float} {n p : ℕ} → last_of l m k ≡ Value v n p → n ≡ m
 last-steps [] m k q = absurd (let z : ◌≡◌ {A = ℕ} 0 1 = cc in omega arith)
-last-steps (w ∷ []) m k q = cc
+last-steps (w ∷ []) m k q = sym (same-steps q)
 last-steps (w ∷ u ∷ l) m k q = absurd (let z : ◌≡◌ {A = ℕ} 0 1 = cc in omega arith)
 
 ended-done : (o : Out) {v : Float} {n p : ℕ} → ended o ≡ Value v n p → (st : Running) × (o ≡ done st) × (n ≡ st.steps)
 ended-done (done st) q = (st, refl, last-steps st.stack st.steps st.peak q)
 ended-done (refused_at r at) q = absurd (let z : ◌≡◌ {A = ℕ} 0 1 = cc in omega arith)
 
-judged-good : (g : Verdict) (b : Bool) (ns : Nodes) (x : Float) {v : Float} {n p : ℕ} → judged g b ns x ≡ Value v n p → (g ≡ verdicts.Good) × (run_nodes ns x ≡ Value v n p)
-judged-good (verdicts.Refused r) b ns x q = absurd (let z : ◌≡◌ {A = ℕ} 0 1 = cc in omega arith)
-judged-good verdicts.Good false ns x q = absurd (let z : ◌≡◌ {A = ℕ} 0 1 = cc in omega arith)
-judged-good verdicts.Good true ns x q = (refl, q)
+judged-good : (g : Verdict) (b : Bool) (ns : Nodes) (x : Float) {v : Float} {n p : ℕ} → judged g b ns x ≡ Value v n p → (g ≡ Ok tt) × (run_nodes ns x ≡ Value v n p)
+judged-good (Err r) b ns x q = absurd (let z : ◌≡◌ {A = ℕ} 0 1 = cc in omega arith)
+judged-good (Ok tt) false ns x q = absurd (let z : ◌≡◌ {A = ℕ} 0 1 = cc in omega arith)
+judged-good (Ok tt) true ns x q = (refl, q)
 
 -- each record is run once
 pub run-steps : (s : List ℕ) (x : Float) {v : Float} {n p : ℕ} → run_list s x ≡ Value v n p → n ≡ records_in s

@@ -9,12 +9,12 @@ use lib.Dec.{eqb, leb}
 use borrow.Author.Tests.{eqb-true, eq-eqb}
 use lib.ListN.{length, get_or, set}
 use lib.Ieee.{Float, nan}
+use Rattle.std.specs.Prelude.{Ok, Result, Err}
 use Rattle.limits.specs.declared.Refusal.{Refusal}
 use Rattle.limits.specs.declared.Refusal.TheVariants.{TooManyVariables, NotSupported, InterpreterBug}
 use Rattle.formats.specs.declared.record.Record.{Record}
 use Rattle.formats.specs.declared.record.Kind.TheVariants.{Modifier}
 use Rattle.formats.specs.declared.record.Modifier.TheVariants.{On}
-use Rattle.formats.specs.declared.record.Verdict.TheVariants.{Good}
 use Rattle.formats.specs.Names.{kind_of, modifier_no}
 use Rattle.formats.specs.Tree.{Nodes, rec, size, count, rec_at, next_of, forest}
 use Rattle.formats.specs.Rules.{is_a, fields_ok, verdict}
@@ -26,13 +26,9 @@ use Rattle.running.specs.Primitives.{Act, went, stop, act, way_of}
 use Rattle.running.specs.Running.{Running, Out, done, refused_at, and_then, if_room, settle, copied, give_back, stepped, runs, modified, run_one}
 use Rattle.running.specs.Contract.Views.{plain, stack_of, view_did, view_state, view_ran, Room, Under, Ready, ReadyOne}
 use Rattle.running.specs.declared.Deed.{Deed}
-use Rattle.running.specs.declared.Deed.TheVariants.{Refuses}
 use Rattle.running.specs.declared.Way.TheVariants.{Acts, Runs, Modifies}
-use Rattle.running.specs.declared.Did.{Did}
-use Rattle.running.specs.declared.Did.TheVariants.{Went, Stop}
 use Rattle.running.specs.declared.State.{State}
-use Rattle.running.specs.declared.Ran.{Ran}
-use Rattle.running.specs.declared.Ran.TheVariants.{Done, Refused}
+use Rattle.running.specs.declared.Stopped.{Stopped}
 use Rattle.running.proofs.Stack.{stack-none, stack-pop, stack_push}
 
 -- ---- nodes in turn
@@ -66,15 +62,15 @@ same-settle h at xs ys st (went s) = same-room (leb (length s + h) 256) (length 
 same-settle h at xs ys st (stop q) = refl
 
 module _ (r : Record) (ns : Nodes) (at h : ℕ) (st : Running) where
-  pub one-acts : (d : Deed) → way_of (kind_of r.kind) ≡ Acts d → run_one r ns at h st ≡ settle h at st (act d r st.stack)
+  pub one-acts : (d : Deed) → way_of (kind_of r.kind) ≡ Ok (Acts d) → run_one r ns at h st ≡ settle h at st (act d r st.stack)
   unfolding run_one
   one-acts d q = rw q
 
-  pub one-runs : way_of (kind_of r.kind) ≡ Runs → run_one r ns at h st ≡ runs ns (at + 1) h (stepped st)
+  pub one-runs : way_of (kind_of r.kind) ≡ Ok Runs → run_one r ns at h st ≡ runs ns (at + 1) h (stepped st)
   unfolding run_one
   one-runs q = rw q
 
-  pub one-modifies : way_of (kind_of r.kind) ≡ Modifies → run_one r ns at h st ≡ modified r ns at h st
+  pub one-modifies : way_of (kind_of r.kind) ≡ Ok Modifies → run_one r ns at h st ≡ modified r ns at h st
   unfolding run_one modified
   one-modifies q = rw q
 
@@ -93,15 +89,15 @@ module _ (r : Record) (ns : Nodes) (at h : ℕ) (st : Running) where
     on-one-body m = rw (q, m)
 
 -- a record that acts by itself, run on the numbers xs, which are then ys
-pub acted : (r : Record) (ns : Nodes) (at h : ℕ) (st : State) (xs ys : List Float) (d : Deed) → way_of (kind_of r.kind) ≡ Acts d → (o : Did) → view_did ys o ≡ act d r (stack_of xs st.n)
-    → (ran : Ran) → view_ran ys ran ≡ settle h at (view_state ys st) (view_did ys o) → view_ran ys ran ≡ run_one r ns at h (view_state xs st)
+pub acted : (r : Record) (ns : Nodes) (at h : ℕ) (st : State) (xs ys : List Float) (d : Deed) → way_of (kind_of r.kind) ≡ Ok (Acts d) → (o : Result ℕ Refusal) → view_did ys o ≡ act d r (stack_of xs st.n)
+    → (ran : Result State Stopped) → view_ran ys ran ≡ settle h at (view_state ys st) (view_did ys o) → view_ran ys ran ≡ run_one r ns at h (view_state xs st)
 acted r ns at h st xs ys d w o a ran e =
     e ∙ same-settle h at ys xs st (view_did ys o) ∙ ap (settle h at (view_state xs st)) a ∙ sym (one-acts r ns at h (view_state xs st) d w)
 
 -- one that is refused
-pub one-refused : (r : Record) (ns : Nodes) (at h : ℕ) (st : Running) (d : Deed) → way_of (kind_of r.kind) ≡ Acts d → (p : (q : Refusal) × (d ≡ Refuses q)) → run_one r ns at h st ≡ refused_at p.0 at
-unfolding act
-one-refused r ns at h st d w p = one-acts r ns at h st d w ∙ rw p.1
+pub one-refused : (r : Record) (ns : Nodes) (at h : ℕ) (st : Running) {q : Refusal} → way_of (kind_of r.kind) ≡ Err q → run_one r ns at h st ≡ refused_at q at
+unfolding run_one
+one-refused r ns at h st w = rw w
 
 -- ---- one body
 
@@ -109,7 +105,7 @@ end-done : (o : Out) (f : Running → Out) → ((st : Running) → f st ≡ done
 end-done (done st) f h = h st
 end-done (refused_at q at) f h = refl
 
-body-way : (k : ℕ) → eqb k 7 ≡ true → way_of (kind_of k) ≡ Runs
+body-way : (k : ℕ) → eqb k 7 ≡ true → way_of (kind_of k) ≡ Ok Runs
 unfolding kind_of
 body-way k q = rw (eqb-true k 7 q)
 
@@ -149,7 +145,7 @@ module _ (r : Record) (ns : Nodes) (at h : ℕ) (st : State) (xs : List Float) (
       on-one-body r ns at h (view_state xs st) q m
       ∙ ap (λ s. and_then (settle (h + 1) at (view_state xs st) (copied s)) (λ st'. and_then (runs ns (at + 1) (h + 1) st') (give_back (stack_of xs st.n)))) (stack-none xs st.n z)
 
-  pub on-held : 0 < st.n → (o : Ran) → view_ran xs o ≡ settle (h + 1) at (view_state xs st) (went (stack_of xs st.n))
+  pub on-held : 0 < st.n → (o : Result State Stopped) → view_ran xs o ≡ settle (h + 1) at (view_state xs st) (went (stack_of xs st.n))
       → modified r ns at h (view_state xs st) ≡ and_then (view_ran xs o) (then_back h at ns (stack_of xs st.n))
   on-held k o e =
       on-one-body r ns at h (view_state xs st) q m
@@ -166,25 +162,25 @@ back-stack xs n h ys st k =
 
 -- ---- what the code's answers say
 
-pub after-refused : (xs : List Float) (o : Ran) {q : Refusal} {at : ℕ} (f : Running → Out) → o ≡ Refused q at → and_then (view_ran xs o) f ≡ view_ran xs o
+pub after-refused : (xs : List Float) (o : Result State Stopped) {s : Stopped} (f : Running → Out) → o ≡ Err s → and_then (view_ran xs o) f ≡ refused_at s.why s.place
 after-refused xs o f e = rw e
 
-pub after-done : (xs : List Float) (o : Ran) {st : State} (f : Running → Out) → o ≡ Done st → and_then (view_ran xs o) f ≡ f (view_state xs st)
+pub after-done : (xs : List Float) (o : Result State Stopped) {st : State} (f : Running → Out) → o ≡ Ok st → and_then (view_ran xs o) f ≡ f (view_state xs st)
 after-done xs o f e = rw e
 
-pub room-refused : (h m : ℕ) (o : Ran) {q : Refusal} {at : ℕ} → o ≡ Refused q at → Room h m o
+pub room-refused : (h m : ℕ) (o : Result State Stopped) {s : Stopped} → o ≡ Err s → Room h m o
 room-refused h m o e = rw e tt
 
-pub room-done : (h m : ℕ) (o : Ran) {st : State} → o ≡ Done st → Room h m o → (st.n + h ≤ 256) × (st.n + h ≤ st.steps + 1) × (st.steps ≤ m)
+pub room-done : (h m : ℕ) (o : Result State Stopped) {st : State} → o ≡ Ok st → Room h m o → (st.n + h ≤ 256) × (st.n + h ≤ st.steps + 1) × (st.steps ≤ m)
 room-done h m o e k = rw e at k
 
-pub room-more : (h : ℕ) {m m' : ℕ} (o : Ran) → m ≤ m' → Room h m o → Room h m' o
-room-more h (Done st) k r = (r.0, r.1, omega arith)
-room-more h (Refused q at) k r = tt
+pub room-more : (h : ℕ) {m m' : ℕ} (o : Result State Stopped) → m ≤ m' → Room h m o → Room h m' o
+room-more h (Ok st) k r = (r.0, r.1, omega arith)
+room-more h (Err s) k r = tt
 
-pub under_more : {m m' : ℕ} (d : Did) → m ≤ m' → Under m d → Under m' d
-under_more (Went n) k u = omega arith
-under_more (Stop q) k u = tt
+pub under_more : {m m' : ℕ} (d : Result ℕ Refusal) → m ≤ m' → Under m d → Under m' d
+under_more (Ok n) k u = omega arith
+under_more (Err q) k u = tt
 
 -- ---- a turn of a walk, at the record r
 
@@ -233,7 +229,7 @@ module _ {s : List ℕ} {a e : ℕ} {xs : List Float} {st : State} {h l : ℕ} (
       }
 
   -- it is run, and then what comes after it
-  pub turn : (x : ℕ) → a + 1 + r.inside ≡ x → (ys : List Float) (o : Ran) → view_ran ys o ≡ run_one r (forest s (a + 1) (a + 1 + r.inside)) a h (view_state xs st)
+  pub turn : (x : ℕ) → a + 1 + r.inside ≡ x → (ys : List Float) (o : Result State Stopped) → view_ran ys o ≡ run_one r (forest s (a + 1) (a + 1 + r.inside)) a h (view_state xs st)
       → runs (forest s a e) a h (view_state xs st) ≡ and_then (view_ran ys o) (runs (forest s x e) x h)
   turn x p ys o w =
       let n : ℕ = a + 1 + r.inside in
@@ -282,7 +278,7 @@ module _ {s : List ℕ} {a : ℕ} {r : Record} {xs : List Float} {st : State} {h
       }
 
   -- On, once it holds the top number: its body's records, and then that number on top
-  pub on-begun : eqb r.code (modifier_no On) ≡ true → 0 < st.n → (o : Ran) → view_ran xs o ≡ settle (h + 1) a (view_state xs st) (went (stack_of xs st.n)) → {begun : State} → o ≡ Done begun
+  pub on-begun : eqb r.code (modifier_no On) ≡ true → 0 < st.n → (o : Result State Stopped) → view_ran xs o ≡ settle (h + 1) a (view_state xs st) (went (stack_of xs st.n)) → {begun : State} → o ≡ Ok begun
       → modified r (forest s (a + 1) (a + 1 + r.inside)) a h (view_state xs st)
       ≡ and_then (runs (forest s (a + 2) (a + 1 + r.inside)) (a + 2) (h + 1) (stepped (view_state xs begun))) (give_back (stack_of xs st.n))
   on-begun z n o e {begun} d =
@@ -295,7 +291,7 @@ module _ {s : List ℕ} {a : ℕ} {r : Record} {xs : List Float} {st : State} {h
       ∙ ap (λ w. and_then w (give_back b)) (runs-body s (a + 1) x (l - 1) bodies c (h + 1) (view_state xs begun)
       ∙ ap (λ i. runs (forest s i x) i (h + 1) (stepped (view_state xs begun))) p)
 
-pub start-ready : (s : List ℕ) → verdict s ≡ Good → (xs : List Float) → min 256 (length s / 24 + 1) + 3 ≤ length xs → (st : State) → st.n ≡ 1 → st.steps ≡ 0 → Ready s 0 (length s / 24) xs st 0 129
+pub start-ready : (s : List ℕ) → verdict s ≡ Ok tt → (xs : List Float) → min 256 (length s / 24 + 1) + 3 ≤ length xs → (st : State) → st.n ≡ 1 → st.steps ≡ 0 → Ready s 0 (length s / 24) xs st 0 129
 start-ready s g xs v st n m =
     let t = whole-stretch s g in
     record { stretch = (false, t); most = length s / 24; few = t.few; steps = omega arith; values = v; room = omega arith; adds = omega arith }

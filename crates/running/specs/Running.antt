@@ -1,5 +1,5 @@
 -- The runner: nodes run in turn on a stack of numbers that starts with x, to a value with the steps and the peak, or a refusal with its place.
-use Rattle.std.specs.Prelude.{ℕ, ◌+◌, max, Bool, true, false, List, [], ◌∷◌, eqb, leb, length, Float}
+use Rattle.std.specs.Prelude.{ℕ, ◌+◌, max, Bool, true, false, List, [], ◌∷◌, eqb, leb, length, Float, Result, Ok, Err}
 use Rattle.std.specs.Float.Ieee.Scale.{finite}
 use Rattle.limits.specs.Limits.{run_values}
 use Rattle.numbers.specs.Signs.{zero64}
@@ -7,17 +7,15 @@ use Rattle.limits.specs.declared.Refusal.{Refusal}
 use Rattle.limits.specs.declared.Refusal.TheVariants.{TooManyVariables, NotSupported, NoOutput, TooManyOutputs, InterpreterBug, NoRoom, NotFinite}
 use Rattle.limits.specs.Refusals.{refusal_no}
 use Rattle.formats.specs.declared.record.Record.{Record}
-use Rattle.formats.specs.declared.record.Verdict.{Verdict}
-use Rattle.formats.specs.declared.record.Verdict.TheVariants as verdicts
 use Rattle.formats.specs.declared.record.Modifier.TheVariants.{On}
 use Rattle.formats.specs.Names.{kind_of, modifier_no}
 use Rattle.formats.specs.Tree.{Nodes, end, rec, size, count, parse}
-use Rattle.formats.specs.Rules.{verdict}
+use Rattle.formats.specs.Rules.{verdict, Verdict}
 use Rattle.running.specs.Primitives.{Act, went, stop, act, way_of}
 use Rattle.running.specs.declared.Way.{Way}
 use Rattle.running.specs.declared.Way.TheVariants.{Acts, Runs, Modifies}
-use Rattle.running.specs.declared.RunAnswer.{RunAnswer}
-use Rattle.running.specs.declared.RunAnswer.TheVariants.{Value, Refused}
+use Rattle.running.specs.declared.RunValue.{RunValue}
+use Rattle.running.specs.declared.Stopped.{Stopped}
 use Rattle.running.specs.declared.RunNumbers.{RunNumbers}
 
 -- ---- the state
@@ -71,10 +69,11 @@ abbrev pub stepped : Running → Running
 stepped st = record { stack = st.stack; steps = st.steps + 1; peak = st.peak }
 
 -- one record, with h numbers held, and how what is inside it runs
-abbrev pub run_by : Way → Record → Nodes → (ℕ → Running → Out) → ℕ → ℕ → Running → Out
-run_by (Acts d) r ns inner at h st = settle h at st (act d r st.stack)
-run_by Runs r ns inner at h st = inner h (stepped st)
-run_by Modifies r ns inner at h st = modify (eqb r.code (modifier_no On)) (eqb (count ns) 1) h at inner st
+abbrev pub run_by : Result Way Refusal → Record → Nodes → (ℕ → Running → Out) → ℕ → ℕ → Running → Out
+run_by (Ok (Acts d)) r ns inner at h st = settle h at st (act d r st.stack)
+run_by (Ok Runs) r ns inner at h st = inner h (stepped st)
+run_by (Ok Modifies) r ns inner at h st = modify (eqb r.code (modifier_no On)) (eqb (count ns) 1) h at inner st
+run_by (Err q) r ns inner at h st = refused_at q at
 
 -- the nodes in turn, the first of which stands at the place
 unfoldable pub runs : Nodes → ℕ → ℕ → Running → Out
@@ -83,12 +82,22 @@ runs (rec r ns ms) at h st = and_then (run_by (way_of (kind_of r.kind)) r ns (ru
 
 -- a modifier, and any record, with what is inside it
 unfoldable pub modified : Record → Nodes → ℕ → ℕ → Running → Out
-modified r ns at h st = run_by Modifies r ns (runs ns (at + 1)) at h st
+modified r ns at h st = run_by (Ok Modifies) r ns (runs ns (at + 1)) at h st
 
 unfoldable pub run_one : Record → Nodes → ℕ → ℕ → Running → Out
 run_one r ns at h st = run_by (way_of (kind_of r.kind)) r ns (runs ns (at + 1)) at h st
 
 -- ---- the whole
+
+-- a value with the steps and the peak, or a refusal with its place
+abbrev pub RunAnswer : Type 0
+RunAnswer = Result RunValue Stopped
+
+abbrev pub Value : Float → ℕ → ℕ → RunAnswer
+Value v steps peak = Ok (record { value = v; steps = steps; peak = peak })
+
+abbrev pub Refused : Refusal → ℕ → RunAnswer
+Refused q at = Err (record { why = q; place = at })
 
 -- one number must be left: else 3 or 4, at place 0
 abbrev pub last_of : List Float → ℕ → ℕ → RunAnswer
@@ -109,14 +118,14 @@ run_nodes ns x = ended (runs ns 0 0 (start x))
 
 -- 11 and 13 come first, then 15 for x
 abbrev pub judged : Verdict → Bool → Nodes → Float → RunAnswer
-judged (verdicts.Refused q) b ns x = Refused q 0
-judged verdicts.Good false ns x = Refused NotFinite 0
-judged verdicts.Good true ns x = run_nodes ns x
+judged (Err q) b ns x = Refused q 0
+judged (Ok tt) false ns x = Refused NotFinite 0
+judged (Ok tt) true ns x = run_nodes ns x
 
 unfoldable pub run_list : List ℕ → Float → RunAnswer
 run_list s x = judged (verdict s) (finite x) (parse s) x
 
 -- document 01's number, place, value, steps and peak
 abbrev pub numbers_of : RunAnswer → RunNumbers
-numbers_of (Value v steps peak) = record { number = 0; place = 0; value = v; steps = steps; peak = peak }
-numbers_of (Refused q at) = record { number = refusal_no q; place = at; value = zero64; steps = 0; peak = 0 }
+numbers_of (Ok v) = record { number = 0; place = 0; value = v.value; steps = v.steps; peak = v.peak }
+numbers_of (Err s) = record { number = refusal_no s.why; place = s.place; value = zero64; steps = 0; peak = 0 }

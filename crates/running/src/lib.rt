@@ -5,26 +5,22 @@ pub mod act;
 pub mod run;
 
 ghost use Rattle.formats.specs.Names.{kind_of};
-ghost use Rattle.formats.specs.declared.record.KindFound.TheVariants.{Known};
 ghost use Rattle.running.specs.Primitives.{work_of, way_of};
 ghost use Rattle.running.specs.Running.{numbers_of};
 ghost use Rattle.running.specs.Contract.Views.{plain};
 ghost use Rattle.running.specs.declared.Way.TheVariants.{Acts};
-ghost use Rattle.running.specs.declared.Deed.TheVariants.{Refuses};
-ghost use Rattle.limits.specs.declared.Refusal.{Refusal};
-ghost use Rattle.std.specs.Prelude.{◌≡◌, true};
+ghost use Rattle.std.specs.Prelude.{◌≡◌, true, Some, Ok};
 
-use formats::record::{Kind, KindFound, Primitive};
+use formats::record::{Kind, Primitive};
 use limits::Refusal;
 
-// What a primitive leaves in place of what it takes, named from the top; or why it is refused. One value is a value formed.
+// What a primitive leaves in place of what it takes, named from the top. One value is a value formed.
 #[derive(Clone, Copy)]
 pub enum Left {
     Nothing,
     One(f64),
     Two(f64, f64),
     Three(f64, f64, f64),
-    Refused(Refusal),
 }
 
 // The primitives that take one value.
@@ -56,7 +52,6 @@ pub enum Pair {
 pub enum Work {
     OfOne(Single),
     OfTwo(Pair),
-    Lacks(Refusal),
 }
 
 // What a record does by itself.
@@ -64,7 +59,6 @@ pub enum Work {
 pub enum Deed {
     Pushes,
     Works,
-    Refuses(Refusal),
 }
 
 // How a record is run: by itself, by what is inside it, or as a modifier.
@@ -75,13 +69,6 @@ pub enum Way {
     Modifies,
 }
 
-// So many values are on the stack, or the step is refused.
-#[derive(Clone, Copy)]
-pub enum Did {
-    Went(usize),
-    Stop(Refusal),
-}
-
 // The values on the stack, the records run, and the most values on the stack and held.
 #[derive(Clone, Copy)]
 pub struct State {
@@ -90,17 +77,19 @@ pub struct State {
     pub peak: usize,
 }
 
+// Why a run stops, and at which record.
 #[derive(Clone, Copy)]
-pub enum Ran {
-    Done(State),
-    Refused(Refusal, usize),
+pub struct Stopped {
+    pub why: Refusal,
+    pub place: usize,
 }
 
-// A value with the steps and the peak, or a refusal with its place.
+// The value of a list with the steps and the peak of its run.
 #[derive(Clone, Copy)]
-pub enum RunAnswer {
-    Value(f64, usize, usize),
-    Refused(Refusal, usize),
+pub struct RunValue {
+    pub value: f64,
+    pub steps: usize,
+    pub peak: usize,
 }
 
 #[derive(Clone, Copy)]
@@ -112,69 +101,66 @@ pub struct RunNumbers {
     pub peak: usize,
 }
 
-pub fn work_of(p: Primitive) -> Work
+pub fn work_of(p: Primitive) -> Result<Work, Refusal>
     ensures { result ≡ work_of p }
 {
     match p {
-        Primitive::Identity => Work::OfOne(Single::Identity),
-        Primitive::Pop => Work::OfOne(Single::Pop),
-        Primitive::Dup => Work::OfOne(Single::Dup),
-        Primitive::Flip => Work::OfTwo(Pair::Flip),
-        Primitive::Neg => Work::OfOne(Single::Neg),
-        Primitive::Not => Work::OfOne(Single::Not),
-        Primitive::Sqrt => Work::OfOne(Single::Sqrt),
-        Primitive::Add => Work::OfTwo(Pair::Add),
-        Primitive::Sub => Work::OfTwo(Pair::Sub),
-        Primitive::Mul => Work::OfTwo(Pair::Mul),
-        Primitive::Div => Work::OfTwo(Pair::Div),
-        Primitive::Pow => Work::OfTwo(Pair::Pow),
-        Primitive::Exp => Work::Lacks(Refusal::NeedsMath),
-        Primitive::Sin => Work::Lacks(Refusal::NeedsMath),
-        Primitive::Cos => Work::Lacks(Refusal::NeedsMath),
-        Primitive::Reciprocal => Work::OfOne(Single::Reciprocal),
-        Primitive::Complex => Work::Lacks(Refusal::NonReal),
-        Primitive::Max => Work::Lacks(Refusal::NeedsMath),
-        Primitive::SinH => Work::Lacks(Refusal::NeedsMath),
-        Primitive::CosH => Work::Lacks(Refusal::NeedsMath),
-        Primitive::Exp2 => Work::Lacks(Refusal::NeedsMath),
-        Primitive::Exp10 => Work::Lacks(Refusal::NeedsMath),
-        Primitive::Log => Work::Lacks(Refusal::NeedsMath),
-        Primitive::Ln => Work::Lacks(Refusal::NeedsMath),
-        Primitive::Log2 => Work::Lacks(Refusal::NeedsMath),
-        Primitive::Log10 => Work::Lacks(Refusal::NeedsMath),
-        Primitive::Over => Work::OfTwo(Pair::Over),
-        Primitive::Root => Work::Lacks(Refusal::NeedsMath),
-        Primitive::Unlisted => Work::Lacks(Refusal::NotSupported),
+        Primitive::Identity => Ok(Work::OfOne(Single::Identity)),
+        Primitive::Pop => Ok(Work::OfOne(Single::Pop)),
+        Primitive::Dup => Ok(Work::OfOne(Single::Dup)),
+        Primitive::Flip => Ok(Work::OfTwo(Pair::Flip)),
+        Primitive::Neg => Ok(Work::OfOne(Single::Neg)),
+        Primitive::Not => Ok(Work::OfOne(Single::Not)),
+        Primitive::Sqrt => Ok(Work::OfOne(Single::Sqrt)),
+        Primitive::Add => Ok(Work::OfTwo(Pair::Add)),
+        Primitive::Sub => Ok(Work::OfTwo(Pair::Sub)),
+        Primitive::Mul => Ok(Work::OfTwo(Pair::Mul)),
+        Primitive::Div => Ok(Work::OfTwo(Pair::Div)),
+        Primitive::Pow => Ok(Work::OfTwo(Pair::Pow)),
+        Primitive::Exp => Err(Refusal::NeedsMath),
+        Primitive::Sin => Err(Refusal::NeedsMath),
+        Primitive::Cos => Err(Refusal::NeedsMath),
+        Primitive::Reciprocal => Ok(Work::OfOne(Single::Reciprocal)),
+        Primitive::Complex => Err(Refusal::NonReal),
+        Primitive::Max => Err(Refusal::NeedsMath),
+        Primitive::SinH => Err(Refusal::NeedsMath),
+        Primitive::CosH => Err(Refusal::NeedsMath),
+        Primitive::Exp2 => Err(Refusal::NeedsMath),
+        Primitive::Exp10 => Err(Refusal::NeedsMath),
+        Primitive::Log => Err(Refusal::NeedsMath),
+        Primitive::Ln => Err(Refusal::NeedsMath),
+        Primitive::Log2 => Err(Refusal::NeedsMath),
+        Primitive::Log10 => Err(Refusal::NeedsMath),
+        Primitive::Over => Ok(Work::OfTwo(Pair::Over)),
+        Primitive::Root => Err(Refusal::NeedsMath),
+        Primitive::Unlisted => Err(Refusal::NotSupported),
     }
 }
 
-fn way_of_kind(k: Kind) -> Way
-    ensures { result ≡ way_of (Known k) }
+fn way_of_kind(k: Kind) -> Result<Way, Refusal>
+    ensures { result ≡ way_of (Some k) }
 {
     match k {
-        Kind::RealPush => Way::Acts(Deed::Pushes),
-        Kind::ComplexPush => Way::Acts(Deed::Refuses(Refusal::NonReal)),
-        Kind::ArrayPush => Way::Acts(Deed::Refuses(Refusal::NonScalar)),
-        Kind::OtherPush => Way::Acts(Deed::Refuses(Refusal::NonReal)),
-        Kind::Primitive => Way::Acts(Deed::Works),
-        Kind::Modifier => Way::Modifies,
-        Kind::Body => Way::Runs,
-        Kind::Run => Way::Runs,
-        Kind::CustomInverse => Way::Acts(Deed::Refuses(Refusal::NotSupported)),
-        Kind::Obverse => Way::Acts(Deed::Refuses(Refusal::NotSupported)),
-        Kind::NoNormal => Way::Acts(Deed::Refuses(Refusal::NotSupported)),
-        Kind::UnderMarker => Way::Acts(Deed::Refuses(Refusal::NotSupported)),
-        Kind::AnythingElse => Way::Acts(Deed::Refuses(Refusal::NotSupported)),
+        Kind::RealPush => Ok(Way::Acts(Deed::Pushes)),
+        Kind::ComplexPush => Err(Refusal::NonReal),
+        Kind::ArrayPush => Err(Refusal::NonScalar),
+        Kind::OtherPush => Err(Refusal::NonReal),
+        Kind::Primitive => Ok(Way::Acts(Deed::Works)),
+        Kind::Modifier => Ok(Way::Modifies),
+        Kind::Body => Ok(Way::Runs),
+        Kind::Run => Ok(Way::Runs),
+        Kind::CustomInverse => Err(Refusal::NotSupported),
+        Kind::Obverse => Err(Refusal::NotSupported),
+        Kind::NoNormal => Err(Refusal::NotSupported),
+        Kind::UnderMarker => Err(Refusal::NotSupported),
+        Kind::AnythingElse => Err(Refusal::NotSupported),
     }
 }
 
-pub fn way_of(kind: u8) -> Way
+pub fn way_of(kind: u8) -> Result<Way, Refusal>
     ensures { result ≡ way_of (kind_of kind) }
 {
-    match formats::record::kind_of(kind) {
-        KindFound::Known(k) => way_of_kind(k),
-        KindFound::Unknown => Way::Acts(Deed::Refuses(Refusal::NotSupported)),
-    }
+    way_of_kind(formats::record::kind_of(kind).ok_or(Refusal::NotSupported)?)
 }
 
 // Whether a record of the kind is a push of a real number or a primitive: most are.
@@ -187,39 +173,29 @@ pub fn is_plain(kind: u8) -> bool
 // What such a record does.
 pub fn deed_of(kind: u8) -> Deed
     requires { plain kind ≡ true }
-    ensures { way_of (kind_of kind) ≡ Acts result }
+    ensures { way_of (kind_of kind) ≡ Ok (Acts result) }
 {
     if formats::record::is_a(kind, Kind::RealPush) {
-        return Deed::Pushes;
-    }
-    Deed::Works
-}
-
-// Why any other record that acts by itself is refused.
-pub fn refusal_of(d: Deed) -> Refusal
-    ensures { (p : Refusal) → d ≡ Refuses p → result ≡ p }
-{
-    match d {
-        Deed::Refuses(q) => q,
-        Deed::Pushes => Refusal::NotSupported,
-        Deed::Works => Refusal::NotSupported,
+        Deed::Pushes
+    } else {
+        Deed::Works
     }
 }
 
 // The numbers that an answer stands for: the value, the steps and the peak of a refusal are 0.
-pub fn run_numbers(r: RunAnswer) -> RunNumbers
+pub fn run_numbers(r: Result<RunValue, Stopped>) -> RunNumbers
     ensures { result ≡ numbers_of r }
 {
     match r {
-        RunAnswer::Value(value, steps, peak) => RunNumbers {
+        Ok(RunValue { value, steps, peak }) => RunNumbers {
             number: 0,
             place: 0,
             value,
             steps,
             peak,
         },
-        RunAnswer::Refused(q, place) => RunNumbers {
-            number: limits::refusal_no(q),
+        Err(Stopped { why, place }) => RunNumbers {
+            number: limits::refusal_no(why),
             place,
             value: 0.0,
             steps: 0,

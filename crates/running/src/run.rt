@@ -1,41 +1,37 @@
 // A list of records run at a number x, with what is inside each record: the value, the steps and the peak.
-ghost use Rattle.std.specs.Prelude.{◌≡◌, true, false, List, ◌+◌, ◌-◌, ◌≤◌, ◌<◌, min, max, length, Float};
+ghost use Rattle.std.specs.Prelude.{◌≡◌, true, false, List, ◌+◌, ◌-◌, ◌≤◌, ◌<◌, min, length, Float, Ok};
 ghost use Rattle.limits.specs.Limits.{list_records, run_values};
-ghost use Rattle.formats.specs.declared.record.Verdict.TheVariants.{Good};
 ghost use Rattle.formats.specs.declared.record.Kind.TheVariants as kinds;
 ghost use Rattle.formats.specs.Tree.{forest, records_in, parse};
 ghost use Rattle.formats.specs.Rules.{is_a, verdict};
 ghost use Rattle.running.specs.Running.{settle, runs, modified, run_one, ended, run_nodes, run_list};
 ghost use Rattle.running.specs.Contract.Views.{plain, view_did, view_state, view_ran, Within, Room, Ready, ReadyOne};
 
-use crate::{Did, Ran, RunAnswer, State, Way};
-use formats::record::{Modifier, Record, Verdict};
+use crate::{RunValue, State, Stopped, Way};
+use formats::record::{Modifier, Record};
 use limits::{LIST_LEVELS, RUN_VALUES, Refusal};
 
-fn larger(a: usize, b: usize) -> usize
-    ensures { result ≡ max a b }
-{
-    if a < b { b } else { a }
-}
-
 // One step more, at most RUN_VALUES on the stack and held, and the peak.
-fn settled(d: Did, at: usize, st: State, held: usize) -> Ran
+fn settled(d: Result<usize, Refusal>, at: usize, st: State, held: usize) -> Result<State, Stopped>
     requires { Within held (st.steps + 2) d × (st.steps < list_records) }
     ensures result_value { (xs : List Float) → view_ran xs result ≡ settle held at (view_state xs st) (view_did xs d) }
     ensures room { Room held (st.steps + 1) result }
 {
     match d {
-        Did::Stop(q) => Ran::Refused(q, at),
-        Did::Went(m) => {
+        Err(why) => Err(Stopped { why, place: at }),
+        Ok(m) => {
             if m + held <= RUN_VALUES {
-                let peak = larger(st.peak, m + held);
-                Ran::Done(State {
+                let peak = st.peak.max(m + held);
+                Ok(State {
                     n: m,
                     steps: st.steps + 1,
                     peak,
                 })
             } else {
-                Ran::Refused(Refusal::NoRoom, at)
+                Err(Stopped {
+                    why: Refusal::NoRoom,
+                    place: at,
+                })
             }
         }
     }
@@ -51,33 +47,26 @@ fn walk(
     st: State,
     held: usize,
     left: usize,
-) -> Ran
+) -> Result<State, Stopped>
     requires { Ready list.now from to stack.old st held left }
     ensures result_after { view_ran stack.new result ≡ runs (forest list.now from to) from held (view_state stack.old st) }
     ensures room { Room held (st.steps + (to - from)) result }
 {
     let mut at = from;
     let mut cur = st;
+    // A `while`, since what lies inside a record is passed over.
     while at < to {
         let r = formats::record::record_at(list, at);
         if crate::is_plain(r.kind) {
             let did = crate::act::act(crate::deed_of(r.kind), r, stack, cur.n);
-            let ran = settled(did, at, cur, held);
-            let Ran::Done(then) = ran else {
-                return ran;
-            };
-            cur = then;
-            at = at + 1;
+            cur = settled(did, at, cur, held)?;
+            at += 1;
             continue;
         }
-        let ran = step(list, at, r, stack, cur, held, left);
-        let Ran::Done(then) = ran else {
-            return ran;
-        };
-        cur = then;
-        at = at + 1 + r.inside as usize;
+        cur = step(list, at, r, stack, cur, held, left)?;
+        at += 1 + r.inside as usize;
     }
-    Ran::Done(cur)
+    Ok(cur)
 }
 
 // Runs one record that isn't plain, and what is inside it.
@@ -90,18 +79,18 @@ fn step(
     st: State,
     held: usize,
     left: usize,
-) -> Ran
+) -> Result<State, Stopped>
     requires { ReadyOne list.now at r stack.old st held left × (plain r.kind ≡ false) }
     ensures result_after { view_ran stack.new result ≡ run_one r (forest list.now (at + 1) (at + 1 + r.inside)) at held (view_state stack.old st) }
     ensures room { Room held (st.steps + 1 + r.inside) result }
 {
     match crate::way_of(r.kind) {
-        Way::Acts(d) => Ran::Refused(crate::refusal_of(d), at),
-        Way::Runs => {
+        Err(q) => Err(Stopped { why: q, place: at }),
+        Ok(Way::Acts(_)) => unreachable!(),
+        Ok(Way::Runs) => {
             let counted = State {
-                n: st.n,
                 steps: st.steps + 1,
-                peak: st.peak,
+                ..st
             };
             walk(
                 list,
@@ -113,7 +102,7 @@ fn step(
                 left - 1,
             )
         }
-        Way::Modifies => modify(list, at, r, stack, st, held, left),
+        Ok(Way::Modifies) => modify(list, at, r, stack, st, held, left),
     }
 }
 
@@ -127,7 +116,7 @@ fn modify(
     st: State,
     held: usize,
     left: usize,
-) -> Ran
+) -> Result<State, Stopped>
     requires { ReadyOne list.now at r stack.old st held left × (is_a r kinds.Modifier ≡ true) }
     ensures result_after { view_ran stack.new result ≡ modified r (forest list.now (at + 1) (at + 1 + r.inside)) at held (view_state stack.old st) }
     ensures room { Room held (st.steps + 1 + r.inside) result }
@@ -135,59 +124,62 @@ fn modify(
     let n = st.n;
     let next = at + 1 + r.inside as usize;
     if r.code != formats::record::modifier_no(Modifier::On) {
-        return Ran::Refused(Refusal::NotSupported, at);
+        return Err(Stopped {
+            why: Refusal::NotSupported,
+            place: at,
+        });
     }
     if formats::record::count_nodes(list, at + 1, next) != 1 {
-        return Ran::Refused(Refusal::InterpreterBug, at);
+        return Err(Stopped {
+            why: Refusal::InterpreterBug,
+            place: at,
+        });
     }
     if n == 0 {
-        return Ran::Refused(Refusal::TooManyVariables, at);
+        return Err(Stopped {
+            why: Refusal::TooManyVariables,
+            place: at,
+        });
     }
     let a = stack[n - 1];
-    let first = settled(Did::Went(n), at, st, held + 1);
-    let Ran::Done(begun) = first else {
-        return first;
-    };
+    let begun = settled(Ok(n), at, st, held + 1)?;
     let in_body = State {
-        n: begun.n,
         steps: begun.steps + 1,
-        peak: begun.peak,
+        ..begun
     };
-    let ran = walk(list, at + 2, next, stack, in_body, held + 1, left - 2);
-    let Ran::Done(then) = ran else {
-        return ran;
-    };
-    let m = then.n;
-    stack[m] = a;
-    Ran::Done(State {
-        n: m + 1,
-        steps: then.steps,
-        peak: then.peak,
+    let then = walk(list, at + 2, next, stack, in_body, held + 1, left - 2)?;
+    stack[then.n] = a;
+    Ok(State {
+        n: then.n + 1,
+        ..then
     })
 }
 
 // One value must be left.
-fn last_of(ran: Ran, stack: &[f64]) -> RunAnswer
+fn last_of(st: State, stack: &[f64]) -> Result<RunValue, Stopped>
     requires { 0 < length stack.now }
-    ensures { result ≡ ended (view_ran stack.now ran) }
+    ensures { result ≡ ended (view_ran stack.now (Ok st)) }
 {
-    match ran {
-        Ran::Refused(q, at) => RunAnswer::Refused(q, at),
-        Ran::Done(st) => {
-            if st.n == 0 {
-                return RunAnswer::Refused(Refusal::NoOutput, 0);
-            }
-            if st.n == 1 {
-                return RunAnswer::Value(stack[0], st.steps, st.peak);
-            }
-            RunAnswer::Refused(Refusal::TooManyOutputs, 0)
-        }
+    match st.n {
+        0 => Err(Stopped {
+            why: Refusal::NoOutput,
+            place: 0,
+        }),
+        1 => Ok(RunValue {
+            value: stack[0],
+            steps: st.steps,
+            peak: st.peak,
+        }),
+        _ => Err(Stopped {
+            why: Refusal::TooManyOutputs,
+            place: 0,
+        }),
     }
 }
 
 // Runs the n records of a list that keeps the rules. Each adds one value at most, so there is room for x and n more, up to RUN_VALUES, and for three that a step writes above those.
-fn run_in(list: &[u8], n: usize, x: f64, stack: &mut [f64]) -> RunAnswer
-    requires { (verdict list.now ≡ Good) × (n ≡ records_in list.now) × (min run_values (n + 1) + 3 ≤ length stack.old) }
+fn run_in(list: &[u8], n: usize, x: f64, stack: &mut [f64]) -> Result<RunValue, Stopped>
+    requires { (verdict list.now ≡ Ok tt) × (n ≡ records_in list.now) × (min run_values (n + 1) + 3 ≤ length stack.old) }
     ensures { result ≡ run_nodes (parse list.now) x }
 {
     stack[0] = x;
@@ -196,16 +188,16 @@ fn run_in(list: &[u8], n: usize, x: f64, stack: &mut [f64]) -> RunAnswer
         steps: 0,
         peak: 1,
     };
-    let ran = walk(list, 0, n, stack, st, 0, LIST_LEVELS);
-    last_of(ran, stack)
+    let end = walk(list, 0, n, stack, st, 0, LIST_LEVELS)?;
+    last_of(end, stack)
 }
 
 // A list this short has room for few values, since clearing room for all costs more than many a run.
 const FEW_RECORDS: usize = 64;
 
 // Runs a list that keeps the rules.
-fn run_nodes(list: &[u8], x: f64) -> RunAnswer
-    requires { verdict list.now ≡ Good }
+fn run_nodes(list: &[u8], x: f64) -> Result<RunValue, Stopped>
+    requires { verdict list.now ≡ Ok tt }
     ensures { result ≡ run_nodes (parse list.now) x }
 {
     let n = formats::record::count_records(list);
@@ -218,16 +210,17 @@ fn run_nodes(list: &[u8], x: f64) -> RunAnswer
 }
 
 // Runs a list of records at x.
-pub fn run(list: &[u8], x: f64) -> RunAnswer
+pub fn run(list: &[u8], x: f64) -> Result<RunValue, Stopped>
     ensures { result ≡ run_list list.now x }
 {
-    match formats::rules::check(list) {
-        Verdict::Refused(q) => RunAnswer::Refused(q, 0),
-        Verdict::Good => {
-            if !numbers::is_finite(x) {
-                return RunAnswer::Refused(Refusal::NotFinite, 0);
-            }
-            run_nodes(list, x)
-        }
+    if let Err(why) = formats::rules::check(list) {
+        return Err(Stopped { why, place: 0 });
     }
+    if !numbers::is_finite(x) {
+        return Err(Stopped {
+            why: Refusal::NotFinite,
+            place: 0,
+        });
+    }
+    run_nodes(list, x)
 }

@@ -1,17 +1,16 @@
 -- A constant formed of two numbers' bits. Assumes nothing.
-use Prim.Native.Nat.{ℕ, ◌≤◌}
-use mathlib.Core.Path.{◌≡◌, refl, sym, subst, ◌∙◌}
-use mathlib.Core.Bool.{Bool, false, ◌&&◌, not}
-use lib.Dec.{T}
-use lib.Ieee.{binary64, of_bits, nan_bits}
-use lib.Ieee.Bits.{of_bits-fits, nan_bits_is}
+use Prim.Native.Nat.{ℕ}
+use mathlib.Core.Path.{◌≡◌, refl}
+use mathlib.Core.Bool.{Bool, false, ◌&&◌}
+use lib.Ieee.{binary64, of_bits}
+use lib.Ieee.Bits.{of_bits-fits}
 use lib.Ieee.Scale.{finite}
 use Rattle.numbers.specs.Signs.{zero64}
 use Rattle.numbers.specs.Complex.Arith as complex
 use Rattle.numbers.proofs.Finite.{zero-is-finite}
 use Rattle.limits.specs.declared.Refusal.TheVariants.{NotFinite}
 use Rattle.sums.specs.Tree.Sums.{Sum, none, size}
-use Rattle.sums.specs.Tree.Map.{Outcome, sum, refused, formed, coef_in}
+use Rattle.sums.specs.Tree.Map.{sum, refused, formed, coef_in}
 use Rattle.arithmetic.specs.Singles.{GoodSum}
 use Rattle.arithmetic.proofs.Goodness.{x-head, none-good, good-alone}
 use Rattle.stack.specs.Steps.{constant_of}

@@ -1,5 +1,6 @@
 -- One record that has no inside, as a step: a push, a primitive, a marker or anything else.
-use Rattle.std.specs.Prelude.{ℕ, zero, suc, ◌+◌, min, Bool, true, ◌||◌, cond, List, [], ◌∷◌, eqb}
+use Rattle.formats.specs.declared.record.Kind.{Kind}
+use Rattle.std.specs.Prelude.{ℕ, zero, suc, ◌+◌, min, Bool, true, ◌||◌, cond, List, [], ◌∷◌, eqb, Option, Some, None}
 use Rattle.std.specs.Float.{binary64}
 use Rattle.std.specs.Float.Ieee.{of_bits}
 use Rattle.limits.specs.Limits.{handled_needed}
@@ -13,8 +14,6 @@ use Rattle.arithmetic.specs.Singles.{alone}
 use Rattle.formats.specs.declared.record.Primitive.{Primitive}
 use Rattle.formats.specs.declared.record.Primitive.TheVariants.{Complex}
 use Rattle.formats.specs.declared.record.Record.{Record}
-use Rattle.formats.specs.declared.record.KindFound.{KindFound}
-use Rattle.formats.specs.declared.record.KindFound.TheVariants.{Known, Unknown}
 use Rattle.formats.specs.declared.record.Kind.TheVariants as kind
 use Rattle.formats.specs.Names.{primitive_no, primitive_of}
 use Rattle.formats.specs.Table.{row}
@@ -64,18 +63,18 @@ primitive at p h st =
     and_then (taking at (row p).taken st (leaves at h p)) (λ st'. went (flagged (is_complex_primitive p) (counted (row p).handled st')))
 
 -- a record that is run with no regard to what is inside it; the kinds whose inside is run do not come here
-unfoldable pub leaf_step : ℕ → Record → KindFound → ℕ → State → Walked
-leaf_step at r (Known kind.RealPush) h st = push at h (constant_of r.re 0) st
-leaf_step at r (Known kind.ComplexPush) h st = and_then (push at h (constant_of r.re r.im) st) (λ st'. went (flagged true st'))
-leaf_step at r (Known kind.ArrayPush) h st = stop at NonScalar st
-leaf_step at r (Known kind.OtherPush) h st = stop at NonReal st
-leaf_step at r (Known kind.Primitive) h st = primitive at (primitive_of r.code) h st
-leaf_step at r (Known kind.Modifier) h st = stop at NotSupported st
-leaf_step at r (Known kind.Body) h st = stop at NotSupported st
-leaf_step at r (Known kind.Run) h st = stop at NotSupported st
-leaf_step at r (Known kind.CustomInverse) h st = stop at NotSupported st
-leaf_step at r (Known kind.Obverse) h st = stop at NotSupported st
-leaf_step at r (Known kind.NoNormal) h st = stop at NoInverse st
-leaf_step at r (Known kind.UnderMarker) h st = went st
-leaf_step at r (Known kind.AnythingElse) h st = stop at NotSupported st
-leaf_step at r Unknown h st = stop at NotSupported st
+unfoldable pub leaf_step : ℕ → Record → Option Kind → ℕ → State → Walked
+leaf_step at r (Some kind.RealPush) h st = push at h (constant_of r.re 0) st
+leaf_step at r (Some kind.ComplexPush) h st = and_then (push at h (constant_of r.re r.im) st) (λ st'. went (flagged true st'))
+leaf_step at r (Some kind.ArrayPush) h st = stop at NonScalar st
+leaf_step at r (Some kind.OtherPush) h st = stop at NonReal st
+leaf_step at r (Some kind.Primitive) h st = primitive at (primitive_of r.code) h st
+leaf_step at r (Some kind.Modifier) h st = stop at NotSupported st
+leaf_step at r (Some kind.Body) h st = stop at NotSupported st
+leaf_step at r (Some kind.Run) h st = stop at NotSupported st
+leaf_step at r (Some kind.CustomInverse) h st = stop at NotSupported st
+leaf_step at r (Some kind.Obverse) h st = stop at NotSupported st
+leaf_step at r (Some kind.NoNormal) h st = stop at NoInverse st
+leaf_step at r (Some kind.UnderMarker) h st = went st
+leaf_step at r (Some kind.AnythingElse) h st = stop at NotSupported st
+leaf_step at r None h st = stop at NotSupported st

@@ -1,49 +1,31 @@
 // Every record that has no inside, as a step of reading, and what is counted of it. The stack lies in the arena behind the working places, up to `used`; from v on lies what
 // is held.
-ghost use Rattle.std.specs.Prelude.{◌≡◌, cond, ℕ, suc, ◌-◌, min};
+ghost use Rattle.std.specs.Prelude.{◌≡◌, cond, ℕ, suc, ◌-◌, min, Some};
 ghost use Rattle.limits.specs.Limits.{handled_needed};
 ghost use Rattle.formats.specs.Names.{kind_of, primitive_of};
 ghost use Rattle.formats.specs.Table.{row};
-ghost use Rattle.stack.specs.Contract.Arena.{arena, places};
+ghost use Rattle.stack.specs.Contract.Arena.{slots, places};
 ghost use Rattle.stack.specs.Contract.Agree.{Prepared, Acts};
 ghost use Rattle.stack.specs.Contract.Acting.{Applies, why_not, leaf_act, handled_by, complex_by};
 
+use crate::slots::Arena;
 use crate::state::Stepped;
-use formats::record::{Kind, KindFound, Primitive, Record};
+use formats::record::{Kind, Primitive, Record};
 use limits::{HANDLED_NEEDED, Refusal};
 
 // A primitive. One that is not read takes nothing.
-fn apply(
-    kinds: &mut [u8],
-    insides: &mut [u8],
-    numbers: &mut [[u64; 3]],
-    sizes: &mut [u8],
-    code: u8,
-    v: usize,
-    used: usize,
-    handled: usize,
-) -> Stepped
-    requires { Prepared (arena kinds.old insides.old numbers.old sizes.old) v used handled }
-    ensures { Applies (arena kinds.old insides.old numbers.old sizes.old) (arena kinds.new insides.new numbers.new sizes.new) v used handled result (row (primitive_of code)).taken (primitive_of code) }
+fn apply(arena: &mut Arena, code: u8, v: usize, used: usize, handled: usize) -> Stepped
+    requires { Prepared (slots arena.old) v used handled }
+    ensures { Applies (slots arena.old) (slots arena.new) v used handled result (row (primitive_of code)).taken (primitive_of code) }
 {
     let taken = formats::table::taken(code);
     if taken == 0 {
-        return crate::state::halt(
-            Refusal::NotSupported,
-            kinds,
-            insides,
-            numbers,
-            sizes,
-            used,
-            handled,
-        );
+        return crate::state::halt(Refusal::NotSupported, arena, used, handled);
     }
     if taken == 1 {
-        return crate::one_operand::one_operand(
-            kinds, insides, numbers, sizes, code, v, used, handled,
-        );
+        return crate::one_operand::one_operand(arena, code, v, used, handled);
     }
-    crate::two_operands::two_operands(kinds, insides, numbers, sizes, code, v, used, handled)
+    crate::two_operands::two_operands(arena, code, v, used, handled)
 }
 
 // Why a record of a kind is not run.
@@ -59,64 +41,33 @@ fn why_not(k: Kind) -> Refusal
 }
 
 // A record of a known kind that has no inside.
-fn leaf_of(
-    k: Kind,
-    r: Record,
-    kinds: &mut [u8],
-    insides: &mut [u8],
-    numbers: &mut [[u64; 3]],
-    sizes: &mut [u8],
-    v: usize,
-    used: usize,
-    handled: usize,
-) -> Stepped
-    requires { Prepared (arena kinds.old insides.old numbers.old sizes.old) v used handled }
-    ensures { (at : ℕ) → Acts (arena kinds.old insides.old numbers.old sizes.old) (arena kinds.new insides.new numbers.new sizes.new) v used handled at result (λ st. leaf_act at r (KindFound.Known k) (places - v) st) }
+fn leaf_of(k: Kind, r: Record, arena: &mut Arena, v: usize, used: usize, handled: usize) -> Stepped
+    requires { Prepared (slots arena.old) v used handled }
+    ensures { (at : ℕ) → Acts (slots arena.old) (slots arena.new) v used handled at result (λ st. leaf_act at r (Some k) (places - v) st) }
 {
     match k {
-        Kind::RealPush => crate::state::push_number(
-            kinds, insides, numbers, sizes, r.re, 0, v, used, handled,
-        ),
-        Kind::ComplexPush => crate::state::push_number(
-            kinds, insides, numbers, sizes, r.re, r.im, v, used, handled,
-        ),
-        Kind::Primitive => apply(kinds, insides, numbers, sizes, r.code, v, used, handled),
+        Kind::RealPush => crate::state::push_number(arena, r.re, 0, v, used, handled),
+        Kind::ComplexPush => crate::state::push_number(arena, r.re, r.im, v, used, handled),
+        Kind::Primitive => apply(arena, r.code, v, used, handled),
         Kind::UnderMarker => Stepped::Went(used, 0),
-        _ => crate::state::halt(why_not(k), kinds, insides, numbers, sizes, used, handled),
+        _ => crate::state::halt(why_not(k), arena, used, handled),
     }
 }
 
 // A record that has no inside, but for what is counted of it.
-pub fn leaf(
-    r: Record,
-    kinds: &mut [u8],
-    insides: &mut [u8],
-    numbers: &mut [[u64; 3]],
-    sizes: &mut [u8],
-    v: usize,
-    used: usize,
-    handled: usize,
-) -> Stepped
-    requires { Prepared (arena kinds.old insides.old numbers.old sizes.old) v used handled }
-    ensures { (at : ℕ) → Acts (arena kinds.old insides.old numbers.old sizes.old) (arena kinds.new insides.new numbers.new sizes.new) v used handled at result (λ st. leaf_act at r (kind_of r.kind) (places - v) st) }
+pub fn leaf(r: Record, arena: &mut Arena, v: usize, used: usize, handled: usize) -> Stepped
+    requires { Prepared (slots arena.old) v used handled }
+    ensures { (at : ℕ) → Acts (slots arena.old) (slots arena.new) v used handled at result (λ st. leaf_act at r (kind_of r.kind) (places - v) st) }
 {
     match formats::record::kind_of(r.kind) {
-        KindFound::Known(k) => leaf_of(k, r, kinds, insides, numbers, sizes, v, used, handled),
-        KindFound::Unknown => crate::state::halt(
-            Refusal::NotSupported,
-            kinds,
-            insides,
-            numbers,
-            sizes,
-            used,
-            handled,
-        ),
+        Some(k) => leaf_of(k, r, arena, v, used, handled),
+        None => crate::state::halt(Refusal::NotSupported, arena, used, handled),
     }
 }
 
 // Whether a record of a known kind, once it was run, counts as handled.
 fn counts_as(k: Kind, r: Record) -> bool
-    ensures { result ≡ handled_by r (KindFound.Known k) }
+    ensures { result ≡ handled_by r (Some k) }
 {
     match k {
         Kind::Primitive => formats::table::handled(r.code),
@@ -129,14 +80,14 @@ pub fn counts(r: Record) -> bool
     ensures { result ≡ handled_by r (kind_of r.kind) }
 {
     match formats::record::kind_of(r.kind) {
-        KindFound::Known(k) => counts_as(k, r),
-        KindFound::Unknown => false,
+        Some(k) => counts_as(k, r),
+        None => false,
     }
 }
 
 // Whether a record of a known kind, once it was run, tells of a complex number.
 fn flags_as(k: Kind, r: Record) -> bool
-    ensures { result ≡ complex_by r (KindFound.Known k) }
+    ensures { result ≡ complex_by r (Some k) }
 {
     match k {
         Kind::ComplexPush => true,
@@ -153,8 +104,8 @@ pub fn flags(r: Record) -> bool
     ensures { result ≡ complex_by r (kind_of r.kind) }
 {
     match formats::record::kind_of(r.kind) {
-        KindFound::Known(k) => flags_as(k, r),
-        KindFound::Unknown => false,
+        Some(k) => flags_as(k, r),
+        None => false,
     }
 }
 

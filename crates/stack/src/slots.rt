@@ -2,15 +2,15 @@
 // behind them lies the stack, and at the end what is held.
 ghost use Rattle.std.specs.Prelude.{◌≡◌, List, ◌∷◌, ℕ, ◌+◌, ◌≤◌, ◌<◌, length};
 ghost use Rattle.limits.specs.Limits.{sum_entries, sum_levels};
-ghost use Rattle.cells.specs.Contract.Book.{book};
-ghost use Rattle.cells.specs.Contract.Moves.{Apart};
+ghost use Rattle.cells.specs.Contract.Book.{seen};
 ghost use Rattle.stack.specs.Stack.{any_complex};
 ghost use Rattle.sums.specs.Contract.Lies.{OfOne};
 ghost use Rattle.sums.specs.Tree.Sums.{Sum};
-ghost use Rattle.stack.specs.Contract.Arena.{arena, Space, working};
+ghost use Rattle.stack.specs.Contract.Arena.{slots, Space, working};
 ghost use Rattle.stack.specs.Contract.Stacked.{Top, Stacked, Sized, deep};
 ghost use Rattle.stack.specs.Contract.Blocks.{Outside, Raised, Sunk};
 
+use cells::Book;
 use limits::{STACK_ENTRIES, SUM_ENTRIES};
 
 // Two sums can be formed there. They count towards no limit.
@@ -21,11 +21,11 @@ pub const ARENA: usize = WORKING + STACK_ENTRIES;
 // Enough for most lists, and sooner cleared: a sum as large as there may be, and as many entries beside it.
 pub const SMALL_ARENA: usize = WORKING + SUM_ENTRIES + SUM_ENTRIES;
 
-// Where the top sums begin, if there are as many.
-#[derive(Clone, Copy)]
-pub enum Deep {
-    From(usize),
-    Short,
+// The book that the stack lies in, with a size beside each cell, both lent. Contracts see them as one arena (`slots`).
+#[derive(Drop)]
+pub struct Arena<'a> {
+    pub book: Book<'a>,
+    pub sizes: &'a mut [u8],
 }
 
 fn wide(x: u8) -> usize
@@ -34,111 +34,69 @@ fn wide(x: u8) -> usize
     x as usize
 }
 
-// The slots from k up to e are moved up by d, the last first.
-pub fn raise(
-    kinds: &mut [u8],
-    insides: &mut [u8],
-    numbers: &mut [[u64; 3]],
-    sizes: &mut [u8],
-    k: usize,
-    e: usize,
-    d: usize,
-)
-    requires { (k ≤ e) × Space (arena kinds.old insides.old numbers.old sizes.old) (e + d) }
-    ensures { Raised (arena kinds.old insides.old numbers.old sizes.old) (arena kinds.new insides.new numbers.new sizes.new) k e d }
+// The slots from k up to e are moved up by d.
+pub fn raise(arena: &mut Arena, k: usize, e: usize, d: usize)
+    requires { (k ≤ e) × Space (slots arena.old) (e + d) }
+    ensures { Raised (slots arena.old) (slots arena.new) k e d }
 {
-    let mut j = e;
-    while k < j {
-        j = j - 1;
-        kinds[j + d] = kinds[j];
-        insides[j + d] = insides[j];
-        numbers[j + d] = numbers[j];
-        sizes[j + d] = sizes[j];
-    }
+    arena.book.open_gap(k, e, d);
+    arena.sizes.copy_within(k..e, k + d);
 }
 
-// n slots are copied down, the lowest first: where the two stretches overlap, each is read before it is written over.
-pub fn sink(
-    kinds: &mut [u8],
-    insides: &mut [u8],
-    numbers: &mut [[u64; 3]],
-    sizes: &mut [u8],
-    from: usize,
-    to: usize,
-    n: usize,
-)
-    requires { (to ≤ from) × Space (arena kinds.old insides.old numbers.old sizes.old) (from + n) }
-    ensures { Sunk (arena kinds.old insides.old numbers.old sizes.old) (arena kinds.new insides.new numbers.new sizes.new) from to n }
+// n slots are copied down.
+pub fn sink(arena: &mut Arena, from: usize, to: usize, n: usize)
+    requires { (to ≤ from) × Space (slots arena.old) (from + n) }
+    ensures { Sunk (slots arena.old) (slots arena.new) from to n }
 {
-    let mut j = 0usize;
-    while j < n {
-        kinds[to + j] = kinds[from + j];
-        insides[to + j] = insides[from + j];
-        numbers[to + j] = numbers[from + j];
-        sizes[to + j] = sizes[from + j];
-        j = j + 1;
-    }
+    arena.book.copy_within(from, n, to);
+    arena.sizes.copy_within(from..from + n, to);
 }
 
 // A sum of n cells from i on is copied to u, and its size written at its last cell there.
-pub fn bring(
-    kinds: &mut [u8],
-    insides: &mut [u8],
-    numbers: &mut [[u64; 3]],
-    sizes: &mut [u8],
-    i: usize,
-    n: usize,
-    u: usize,
-)
-    requires { (1 ≤ n) × (n ≤ sum_entries) × (i + n ≤ u) × Space (arena kinds.old insides.old numbers.old sizes.old) (u + n) }
-    ensures outside { Outside (arena kinds.old insides.old numbers.old sizes.old) (arena kinds.new insides.new numbers.new sizes.new) u (u + n) }
-    ensures of_one { OfOne (book kinds.old insides.old numbers.old) i (i + n) sum_levels (λ s. Top (arena kinds.new insides.new numbers.new sizes.new) u (u + n) s) }
+pub fn bring(arena: &mut Arena, i: usize, n: usize, u: usize)
+    requires { (1 ≤ n) × (n ≤ sum_entries) × (i + n ≤ u) × Space (slots arena.old) (u + n) }
+    ensures outside { Outside (slots arena.old) (slots arena.new) u (u + n) }
+    ensures of_one { OfOne (seen arena.old.book) i (i + n) sum_levels (λ s. Top (slots arena.new) u (u + n) s) }
 {
-    cells::copy_within(kinds, insides, numbers, i, n, u);
-    sizes[u + n - 1] = n as u8;
+    arena.book.copy_within(i, n, u);
+    arena.sizes[u + n - 1] = n as u8;
 }
 
 // How many cells the sum has that ends at u, of those stacked from lo on.
-pub fn top_size(sizes: &[u8], lo: usize, u: usize) -> usize
-    requires { (0 < u) × (u ≤ length sizes.now) }
-    ensures { (n : ℕ) (ns : List ℕ) → Sized sizes.now lo u (n ∷ ns) → result ≡ n }
+pub fn top_size(arena: &Arena, lo: usize, u: usize) -> usize
+    requires { (0 < u) × (u ≤ length (slots arena.now).sizes) }
+    ensures { (n : ℕ) (ns : List ℕ) → Sized (slots arena.now).sizes lo u (n ∷ ns) → result ≡ n }
 {
-    wide(sizes[u - 1])
+    wide(arena.sizes[u - 1])
 }
 
 // Where the top k sums of those from lo up to hi begin.
-pub fn measure(sizes: &[u8], lo: usize, hi: usize, k: usize) -> Deep
-    requires { (hi ≤ length sizes.now) × ((ns : List ℕ) × Sized sizes.now lo hi ns) }
-    ensures { (ns : List ℕ) → Sized sizes.now lo hi ns → result ≡ deep k ns hi }
+pub fn measure(arena: &Arena, lo: usize, hi: usize, k: usize) -> Option<usize>
+    requires { (hi ≤ length (slots arena.now).sizes) × ((ns : List ℕ) × Sized (slots arena.now).sizes lo hi ns) }
+    ensures { (ns : List ℕ) → Sized (slots arena.now).sizes lo hi ns → result ≡ deep k ns hi }
 {
     let mut p = hi;
     let mut left = k;
     while 0 < left {
         if p <= lo {
-            return Deep::Short;
+            return None;
         }
-        p = p - top_size(sizes, lo, p);
+        p = p - top_size(arena, lo, p);
         left = left - 1;
     }
-    Deep::From(p)
+    Some(p)
 }
 
 // Whether any of the sums on the stack, which ends at u, has a power of x other than 0 and 1.
-pub fn any_complex(
-    kinds: &[u8],
-    insides: &[u8],
-    numbers: &[[u64; 3]],
-    sizes: &[u8],
-    u: usize,
-) -> bool
-    requires { (u ≤ length sizes.now) × ((ss : List Sum) × Stacked (arena kinds.now insides.now numbers.now sizes.now) working u ss) }
-    ensures { (ss : List Sum) → Stacked (arena kinds.now insides.now numbers.now sizes.now) working u ss → result ≡ any_complex ss }
+pub fn any_complex(arena: &Arena, u: usize) -> bool
+    requires { (u ≤ length (slots arena.now).sizes) × ((ss : List Sum) × Stacked (slots arena.now) working u ss) }
+    ensures { (ss : List Sum) → Stacked (slots arena.now) working u ss → result ≡ any_complex ss }
 {
     let mut p = u;
     while WORKING < p {
-        let n = top_size(sizes, WORKING, p);
+        let n = top_size(arena, WORKING, p);
         p = p - n;
-        if arithmetic::add::is_complex(kinds, insides, numbers, p, n) {
+        if arithmetic::add::is_complex(&arena.book, p, n) {
             return true;
         }
     }

@@ -3,19 +3,19 @@ ghost use Rattle.std.specs.Prelude.{◌≡◌, Bool, ◌||◌, List, ◌+◌, �
 ghost use Rattle.limits.specs.Limits.{sum_entries, sum_levels, handled_needed};
 ghost use Rattle.sums.specs.Tree.Sums.{Sum};
 ghost use Rattle.sums.specs.Tree.Map.{Outcome, sum};
-ghost use Rattle.cells.specs.Contract.Book.{book};
+ghost use Rattle.cells.specs.Contract.Book.{seen};
 ghost use Rattle.sums.specs.Contract.Lies.{OfOne, Agrees};
 ghost use Rattle.stack.specs.Stack.{any_complex};
 ghost use Rattle.stack.specs.State.{push, most_pairs};
 ghost use Rattle.stack.specs.Steps.{constant_of};
-ghost use Rattle.stack.specs.Contract.Arena.{arena, places};
+ghost use Rattle.stack.specs.Contract.Arena.{slots, places};
 ghost use Rattle.stack.specs.Contract.Arena as arenas;
 ghost use Rattle.stack.specs.Contract.Stacked.{Stacked};
 ghost use Rattle.stack.specs.Contract.Agree.{Prepared, Acts};
 ghost use Rattle.stack.specs.Contract.Parts.{Filled};
 
+use crate::slots::Arena;
 use limits::{HANDLED_NEEDED, Refusal};
-use sums::order::Formed;
 
 // A number of pairs, or of steps, from here on is told as this one.
 pub const MOST: u64 = 18446744073709551615;
@@ -52,19 +52,11 @@ pub fn capped_sum(a: u64, b: u64) -> u64
 }
 
 // A refusal. What was read counts as handled where HANDLED_NEEDED primitives were, or where a sum on the stack is complex.
-pub fn halt(
-    q: Refusal,
-    kinds: &[u8],
-    insides: &[u8],
-    numbers: &[[u64; 3]],
-    sizes: &[u8],
-    used: usize,
-    handled: usize,
-) -> Stepped
-    requires { (used ≤ length sizes.now) × ((ss : List Sum) × Stacked (arena kinds.now insides.now numbers.now sizes.now) arenas.working used ss) }
-    ensures { (ss : List Sum) → Stacked (arena kinds.now insides.now numbers.now sizes.now) arenas.working used ss → result ≡ Stepped.Stopped q (leb handled_needed handled || any_complex ss) }
+pub fn halt(q: Refusal, arena: &Arena, used: usize, handled: usize) -> Stepped
+    requires { (used ≤ length (slots arena.now).sizes) × ((ss : List Sum) × Stacked (slots arena.now) arenas.working used ss) }
+    ensures { (ss : List Sum) → Stacked (slots arena.now) arenas.working used ss → result ≡ Stepped.Stopped q (leb handled_needed handled || any_complex ss) }
 {
-    let complex = crate::slots::any_complex(kinds, insides, numbers, sizes, used);
+    let complex = crate::slots::any_complex(arena, used);
     Stepped::Stopped(q, (HANDLED_NEEDED <= handled) | complex)
 }
 
@@ -76,80 +68,57 @@ pub fn short(handled: usize) -> Stepped
 }
 
 // The sum of n cells from i on is put on the stack, if there is room for it below what is held.
-pub fn push_cells(
-    kinds: &mut [u8],
-    insides: &mut [u8],
-    numbers: &mut [[u64; 3]],
-    sizes: &mut [u8],
-    i: usize,
-    n: usize,
-    v: usize,
-    used: usize,
-) -> Stepped
-    requires { (1 ≤ n) × (n ≤ sum_entries) × (i + n ≤ used) × ((h : ℕ) × Prepared (arena kinds.old insides.old numbers.old sizes.old) v used h) }
-    ensures { OfOne (book kinds.old insides.old numbers.old) i (i + n) sum_levels (λ s. (at h : ℕ) → Acts (arena kinds.old insides.old numbers.old sizes.old) (arena kinds.new insides.new numbers.new sizes.new) v
+pub fn push_cells(arena: &mut Arena, i: usize, n: usize, v: usize, used: usize) -> Stepped
+    requires { (1 ≤ n) × (n ≤ sum_entries) × (i + n ≤ used) × ((h : ℕ) × Prepared (slots arena.old) v used h) }
+    ensures { OfOne (seen arena.old.book) i (i + n) sum_levels (λ s. (at h : ℕ) → Acts (slots arena.old) (slots arena.new) v
         used h at result (push at (places - v) (sum s))) }
 {
     if v - used < n {
         return Stepped::Stopped(Refusal::NoRoom, false);
     }
-    crate::slots::bring(kinds, insides, numbers, sizes, i, n, used);
+    crate::slots::bring(arena, i, n, used);
     Stepped::Went(used + n, 0)
 }
 
 // What was formed from w on is put on the stack.
 pub fn push_formed(
-    kinds: &mut [u8],
-    insides: &mut [u8],
-    numbers: &mut [[u64; 3]],
-    sizes: &mut [u8],
-    f: Formed,
+    arena: &mut Arena,
+    f: Result<usize, Refusal>,
     v: usize,
     used: usize,
     handled: usize,
 ) -> Stepped
-    requires { Filled f × Prepared (arena kinds.old insides.old numbers.old sizes.old) v used handled }
-    ensures { (o : Outcome) (at : ℕ) → Agrees f (book kinds.old insides.old numbers.old) 0 o → Acts (arena kinds.old insides.old numbers.old sizes.old) (arena kinds.new insides.new numbers.new sizes.new) v used
+    requires { Filled f × Prepared (slots arena.old) v used handled }
+    ensures { (o : Outcome) (at : ℕ) → Agrees f (seen arena.old.book) 0 o → Acts (slots arena.old) (slots arena.new) v used
         handled at result (push at (places - v) o) }
 {
     match f {
-        Formed::Done(n) => push_cells(kinds, insides, numbers, sizes, 0, n, v, used),
-        Formed::Refused(q) => halt(q, kinds, insides, numbers, sizes, used, handled),
+        Ok(n) => push_cells(arena, 0, n, v, used),
+        Err(q) => halt(q, arena, used, handled),
     }
 }
 
 // A number, given by its bits, is put on the stack. It is a sum of one cell as it is, so nothing is formed.
 pub fn push_number(
-    kinds: &mut [u8],
-    insides: &mut [u8],
-    numbers: &mut [[u64; 3]],
-    sizes: &mut [u8],
+    arena: &mut Arena,
     re: u64,
     im: u64,
     v: usize,
     used: usize,
     handled: usize,
 ) -> Stepped
-    requires { Prepared (arena kinds.old insides.old numbers.old sizes.old) v used handled }
-    ensures { (at : ℕ) → Acts (arena kinds.old insides.old numbers.old sizes.old) (arena kinds.new insides.new numbers.new sizes.new) v used handled at result (push at (places - v) (constant_of re im)) }
+    requires { Prepared (slots arena.old) v used handled }
+    ensures { (at : ℕ) → Acts (slots arena.old) (slots arena.new) v used handled at result (push at (places - v) (constant_of re im)) }
 {
     if !(numbers::finite_bits(re) & numbers::finite_bits(im)) {
-        return halt(
-            Refusal::NotFinite,
-            kinds,
-            insides,
-            numbers,
-            sizes,
-            used,
-            handled,
-        );
+        return halt(Refusal::NotFinite, arena, used, handled);
     }
     if v <= used {
         return Stepped::Stopped(Refusal::NoRoom, false);
     }
-    kinds[used] = sums::tree::X;
-    insides[used] = 0;
-    numbers[used] = [0, re, im];
-    sizes[used] = 1;
+    arena.book.kinds[used] = sums::tree::X;
+    arena.book.insides[used] = 0;
+    arena.book.numbers[used] = [0, re, im];
+    arena.sizes[used] = 1;
     Stepped::Went(used + 1, 0)
 }

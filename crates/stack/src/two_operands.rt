@@ -3,12 +3,12 @@
 ghost use Rattle.std.specs.Prelude.{◌≡◌, [], ◌∷◌, ◌-◌, ◌<◌};
 ghost use Rattle.formats.specs.Names.{primitive_of};
 ghost use Rattle.formats.specs.Table.{row};
-ghost use Rattle.stack.specs.Contract.Arena.{arena, working};
+ghost use Rattle.stack.specs.Contract.Arena.{slots, working};
 ghost use Rattle.stack.specs.Contract.Agree.{Prepared};
 ghost use Rattle.stack.specs.Contract.Parts.{Tops, more_pairs};
 ghost use Rattle.stack.specs.Contract.Acting.{Applies};
 
-use crate::slots::WORKING;
+use crate::slots::{Arena, WORKING};
 use crate::state::Stepped;
 
 // A step with the pairs that it multiplied, which a refusal does not have.
@@ -23,76 +23,61 @@ fn more_pairs(s: Stepped, pairs: u64) -> Stepped
 
 // What a primitive forms of the two sums on top, the upper one of n cells, is put in their place.
 fn form_pair(
-    kinds: &mut [u8],
-    insides: &mut [u8],
-    numbers: &mut [[u64; 3]],
-    sizes: &mut [u8],
+    arena: &mut Arena,
     code: u8,
     n: usize,
     v: usize,
     used: usize,
     handled: usize,
 ) -> Stepped
-    requires { ((row (primitive_of code)).left ≡ 1) × Tops (arena kinds.old insides.old numbers.old sizes.old) used (n ∷ []) × (working < used - n) × Prepared (arena kinds.old insides.old numbers.old sizes.old) v used handled }
-    ensures { Applies (arena kinds.old insides.old numbers.old sizes.old) (arena kinds.new insides.new numbers.new sizes.new) v used handled result 2 (primitive_of code) }
+    requires { ((row (primitive_of code)).left ≡ 1) × Tops (slots arena.old) used (n ∷ []) × (working < used - n) × Prepared (slots arena.old) v used handled }
+    ensures { Applies (slots arena.old) (slots arena.new) v used handled result 2 (primitive_of code) }
 {
     let p = formats::record::primitive_of(code);
     let up = used - n;
-    let low = crate::slots::top_size(sizes, WORKING, up);
+    let low = crate::slots::top_size(arena, WORKING, up);
     let down = up - low;
-    let f = primitives::form_two(kinds, insides, numbers, p, down, low, up, n, 0);
+    let f = primitives::form_two(&mut arena.book, p, down, low, up, n, 0);
     let formed = f.formed;
-    let put = crate::state::push_formed(kinds, insides, numbers, sizes, formed, v, down, handled);
+    let put = crate::state::push_formed(arena, formed, v, down, handled);
     more_pairs(put, f.pairs)
 }
 
 // A primitive that takes the two sums on top, the upper one of n cells: it leaves one that it forms, the two turned, or the lower one once more on top.
 fn two_leave(
-    kinds: &mut [u8],
-    insides: &mut [u8],
-    numbers: &mut [[u64; 3]],
-    sizes: &mut [u8],
+    arena: &mut Arena,
     code: u8,
     n: usize,
     v: usize,
     used: usize,
     handled: usize,
 ) -> Stepped
-    requires { ((row (primitive_of code)).taken ≡ 2) × Tops (arena kinds.old insides.old numbers.old sizes.old) used (n ∷ []) × (working < used - n) × Prepared (arena kinds.old insides.old numbers.old sizes.old) v used handled }
-    ensures { Applies (arena kinds.old insides.old numbers.old sizes.old) (arena kinds.new insides.new numbers.new sizes.new) v used handled result 2 (primitive_of code) }
+    requires { ((row (primitive_of code)).taken ≡ 2) × Tops (slots arena.old) used (n ∷ []) × (working < used - n) × Prepared (slots arena.old) v used handled }
+    ensures { Applies (slots arena.old) (slots arena.new) v used handled result 2 (primitive_of code) }
 {
     let left = formats::table::left(code);
     if left == 1 {
-        return form_pair(kinds, insides, numbers, sizes, code, n, v, used, handled);
+        return form_pair(arena, code, n, v, used, handled);
     }
-    let m = crate::slots::top_size(sizes, WORKING, used - n);
+    let m = crate::slots::top_size(arena, WORKING, used - n);
     if left == 2 {
-        crate::one_operand::flip(kinds, insides, numbers, sizes, n, m, used);
+        crate::one_operand::flip(arena, n, m, used);
         return Stepped::Went(used, 0);
     }
-    crate::state::push_cells(kinds, insides, numbers, sizes, used - n - m, m, v, used)
+    crate::state::push_cells(arena, used - n - m, m, v, used)
 }
 
 // A primitive that takes two sums.
-pub fn two_operands(
-    kinds: &mut [u8],
-    insides: &mut [u8],
-    numbers: &mut [[u64; 3]],
-    sizes: &mut [u8],
-    code: u8,
-    v: usize,
-    used: usize,
-    handled: usize,
-) -> Stepped
-    requires { ((row (primitive_of code)).taken ≡ 2) × Prepared (arena kinds.old insides.old numbers.old sizes.old) v used handled }
-    ensures { Applies (arena kinds.old insides.old numbers.old sizes.old) (arena kinds.new insides.new numbers.new sizes.new) v used handled result 2 (primitive_of code) }
+pub fn two_operands(arena: &mut Arena, code: u8, v: usize, used: usize, handled: usize) -> Stepped
+    requires { ((row (primitive_of code)).taken ≡ 2) × Prepared (slots arena.old) v used handled }
+    ensures { Applies (slots arena.old) (slots arena.new) v used handled result 2 (primitive_of code) }
 {
     if used == WORKING {
         return crate::state::short(handled);
     }
-    let n = crate::slots::top_size(sizes, WORKING, used);
+    let n = crate::slots::top_size(arena, WORKING, used);
     if used - n == WORKING {
         return crate::state::short(handled);
     }
-    two_leave(kinds, insides, numbers, sizes, code, n, v, used, handled)
+    two_leave(arena, code, n, v, used, handled)
 }

@@ -2,16 +2,16 @@
 ghost use Rattle.std.specs.Prelude.{◌≡◌, ℕ, ◌+◌, ◌*◌, ◌≤◌, length};
 ghost use Rattle.std.proofs.lemmas.List.Edits.{sets};
 ghost use Rattle.limits.specs.Limits.{sum_entries, sum_levels, entry_bytes};
-ghost use Rattle.cells.specs.Contract.Book.{book, Room};
+ghost use Rattle.cells.specs.Contract.Book.{seen, Room};
+ghost use Rattle.cells.specs.Contract.Moves.{SameRoom};
 ghost use Rattle.sums.specs.Contract.Lies.{Held, OfOne};
-ghost use Rattle.sums.specs.declared.entry.Taken.{Taken};
 ghost use Rattle.sums.specs.Entry.Encoding.{entries_in, encode_sum};
 ghost use Rattle.sums.specs.Entry.Taking.{Weighed};
 ghost use Rattle.sums.specs.Entry.Contract.Steps.{clean_at};
 ghost use Rattle.sums.specs.Contract.Laid.{Laid};
 ghost use Rattle.sums.specs.Contract.Steps.{Loaded, Answered, Stored};
 
-use crate::entry::Taken;
+use cells::Book;
 use limits::{ENTRY_BYTES, Refusal, SUM_ENTRIES, SUM_LEVELS};
 
 // What lies inside an entry is fewer than this.
@@ -27,18 +27,12 @@ fn clean(list: &[u8], i: usize) -> bool
 }
 
 // Reads the first `n` entries into the first `n` cells, as long as they are clean.
-fn read_cells(
-    kinds: &mut [u8],
-    insides: &mut [u8],
-    numbers: &mut [[u64; 3]],
-    list: &[u8],
-    n: usize,
-) -> bool
-    requires { (entry_bytes * n ≤ length list.now) × Room (book kinds.old insides.old numbers.old) n }
-    ensures { Loaded list.now n (book kinds.new insides.new numbers.new) result }
+fn read_cells(book: &mut Book, list: &[u8], n: usize) -> bool
+    requires { (entry_bytes * n ≤ length list.now) × Room (seen book.old) n }
+    ensures loaded { Loaded list.now n (seen book.new) result }
+    ensures long { SameRoom (seen book.old) (seen book.new) }
 {
-    let mut j = 0;
-    while j < n {
+    for j in 0..n {
         if !clean(list, j) {
             return false;
         }
@@ -46,48 +40,48 @@ fn read_cells(
         let num = formats::record::eight(list, at + 8);
         let re = formats::record::eight(list, at + 16);
         let im = formats::record::eight(list, at + 24);
-        kinds[j] = list[at];
-        insides[j] = list[at + 4];
-        numbers[j] = [num, re, im];
-        j = j + 1;
+        book.kinds[j] = list[at];
+        book.insides[j] = list[at + 4];
+        book.numbers[j] = [num, re, im];
     }
     true
 }
 
 // What the first `n` cells are: a good sum of at most SUM_LEVELS, a good sum of more, or none.
-fn answer(kinds: &[u8], insides: &[u8], numbers: &[[u64; 3]], n: usize) -> Taken
-    requires { Room (book kinds.now insides.now numbers.now) n }
-    ensures { Answered (book kinds.now insides.now numbers.now) n result }
+fn answer(book: &Book, n: usize) -> Result<usize, Refusal>
+    requires { Room (seen book.now) n }
+    ensures { Answered (seen book.now) n result }
 {
-    if crate::good::good_sum(kinds, insides, numbers, 0, n, SUM_LEVELS) {
-        return Taken::Sum(n);
+    if crate::good::good_sum(book, 0, n, SUM_LEVELS) {
+        return Ok(n);
     }
-    if crate::good::good_sum(kinds, insides, numbers, 0, n, SUM_ENTRIES) {
-        return Taken::Refused(Refusal::TooDeep);
+    if crate::good::good_sum(book, 0, n, SUM_ENTRIES) {
+        return Err(Refusal::TooDeep);
     }
-    Taken::Refused(Refusal::BadRecord)
+    Err(Refusal::BadRecord)
 }
 
 // Takes a sum in: its entries go into the first cells. Where it is refused the cells are left as they are then.
-pub fn take_in(kinds: &mut [u8], insides: &mut [u8], numbers: &mut [[u64; 3]], list: &[u8]) -> Taken
-    requires { Room (book kinds.old insides.old numbers.old) sum_entries }
+pub fn take_in(book: &mut Book, list: &[u8]) -> Result<usize, Refusal>
+    requires { Room (seen book.old) sum_entries }
     ensures weighed { Weighed list.now result }
-    ensures by_index { (n : ℕ) → result ≡ Taken.Sum n → Laid list.now (book kinds.new insides.new numbers.new) n }
+    ensures by_index { (n : ℕ) → result ≡ Ok n → Laid list.now (seen book.new) n }
+    ensures long { SameRoom (seen book.old) (seen book.new) }
 {
     let n = list.len() / ENTRY_BYTES;
     if list.len() % ENTRY_BYTES != 0 {
-        return Taken::Refused(Refusal::BadRecord);
+        return Err(Refusal::BadRecord);
     }
     if n < 1 {
-        return Taken::Refused(Refusal::BadRecord);
+        return Err(Refusal::BadRecord);
     }
     if n > SUM_ENTRIES {
-        return Taken::Refused(Refusal::BadRecord);
+        return Err(Refusal::BadRecord);
     }
-    if !read_cells(kinds, insides, numbers, list, n) {
-        return Taken::Refused(Refusal::BadRecord);
+    if !read_cells(book, list, n) {
+        return Err(Refusal::BadRecord);
     }
-    answer(kinds, insides, numbers, n)
+    answer(book, n)
 }
 
 // Writes a cell's five numbers as the entry at place `j`.
@@ -111,22 +105,21 @@ pub fn count_entries(out: &[u8]) -> usize
 }
 
 // Writes the sum that lies in the `n` cells from `i` on.
-pub fn put_sum(
-    kinds: &[u8],
-    insides: &[u8],
-    numbers: &[[u64; 3]],
-    i: usize,
-    n: usize,
-    out: &mut [u8],
-)
-    requires { Held (book kinds.now insides.now numbers.now) i (i + n) sum_levels × (entry_bytes * n ≤ length out.old) }
-    ensures { OfOne (book kinds.now insides.now numbers.now) i (i + n) sum_levels (λ s. out.new ≡ sets out.old 0 (encode_sum s)) }
+pub fn put_sum(book: &Book, i: usize, n: usize, out: &mut [u8])
+    requires { Held (seen book.now) i (i + n) sum_levels × (entry_bytes * n ≤ length out.old) }
+    ensures { OfOne (seen book.now) i (i + n) sum_levels (λ s. out.new ≡ sets out.old 0 (encode_sum s)) }
 {
-    let mut j = 0;
-    while j < n {
+    for j in 0..n {
         let k = i + j;
-        let words = numbers[k];
-        put_cell(out, j, kinds[k], insides[k], words[0], words[1], words[2]);
-        j = j + 1;
+        let words = book.numbers[k];
+        put_cell(
+            out,
+            j,
+            book.kinds[k],
+            book.insides[k],
+            words[0],
+            words[1],
+            words[2],
+        );
     }
 }

@@ -3,7 +3,6 @@
 #![tactic(auto)]
 
 pub mod bytes;
-pub mod entry;
 pub mod good;
 pub mod map;
 pub mod order;

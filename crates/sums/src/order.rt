@@ -4,7 +4,7 @@ ghost use Rattle.std.specs.Prelude.{◌≡◌, true, ◌↔◌, ℕ, ◌+◌, �
 ghost use Rattle.std.specs.Float.Ieee.Scale.{finite};
 ghost use Rattle.limits.specs.Limits.{sum_levels};
 ghost use Rattle.cells.specs.declared.Entry.{Entry};
-ghost use Rattle.cells.specs.Contract.Book.{book};
+ghost use Rattle.cells.specs.Contract.Book.{seen};
 ghost use Rattle.sums.specs.Tree.Sums.{Sum, none, size, len, levels};
 ghost use Rattle.sums.specs.Tree.Kinds.{X};
 ghost use Rattle.sums.specs.Tree.Good.{Good};
@@ -14,16 +14,8 @@ ghost use Rattle.sums.specs.Contract.Lies.{At, Lies, Held, OfOne, OfTwo};
 ghost use Rattle.sums.specs.Contract.Nests.{Nests, Nested};
 ghost use Rattle.sums.specs.Contract.Place.{place, powers, OnlyPowers};
 
-use cells::Entry;
-use limits::Refusal;
-use numbers::Ordering;
-
-// A sum was formed and has so many entries, insides counted; or it was refused.
-#[derive(Clone, Copy)]
-pub enum Formed {
-    Done(usize),
-    Refused(Refusal),
-}
+use cells::{Book, Entry};
+use std::cmp::Ordering;
 
 // Where a term stands in a sum, or before which cell it belongs.
 #[derive(Clone, Copy)]
@@ -50,19 +42,19 @@ pub fn cmp_head(x: Entry, y: Entry) -> Ordering
 {
     let kinds = cmp_nat(x.kind as usize, y.kind as usize);
     let nums = numbers::cmp(x.num, y.num);
-    numbers::and_then(kinds, nums)
+    kinds.then(nums)
 }
 
 // How many outermost entries the n cells from i on have.
-pub fn count(insides: &[u8], i: usize, n: usize) -> usize
-    requires { i + n ≤ length insides.now }
-    ensures { (f : ℕ → Entry) (s : Sum) → ((k : ℕ) → (f k).inside ≡ get_or insides.now k 0) → At f i s → n ≡ size s → result ≡ len s }
+pub fn count(book: &Book, i: usize, n: usize) -> usize
+    requires { i + n ≤ length (seen book.now).insides }
+    ensures { (f : ℕ → Entry) (s : Sum) → ((k : ℕ) → (f k).inside ≡ get_or (seen book.now).insides k 0) → At f i s → n ≡ size s → result ≡ len s }
 {
     let end = i + n;
     let mut k = i;
     let mut c = 0usize;
     while k < end {
-        let d = insides[k] as usize;
+        let d = book.insides[k] as usize;
         k = k + 1 + d;
         c = c + 1;
     }
@@ -71,46 +63,28 @@ pub fn count(insides: &[u8], i: usize, n: usize) -> usize
 
 // Two terms: their heads, and then their insides, which lie from i and from j on.
 #[cycle(cmp_sum_cmp_term)]
-pub fn cmp_term(
-    kinds: &[u8],
-    insides: &[u8],
-    numbers: &[[u64; 3]],
-    x: Entry,
-    i: usize,
-    y: Entry,
-    j: usize,
-    left: usize,
-) -> Ordering
-    requires held { Held (book kinds.now insides.now numbers.now) i (i + x.inside) left }
-    requires held_2 { Held (book kinds.now insides.now numbers.now) j (j + y.inside) left }
-    ensures { OfTwo (book kinds.now insides.now numbers.now) i (i + x.inside) j (j + y.inside) left (λ s t. result ≡ cmp_term x s y t) }
+pub fn cmp_term(book: &Book, x: Entry, i: usize, y: Entry, j: usize, left: usize) -> Ordering
+    requires held { Held (seen book.now) i (i + x.inside) left }
+    requires held_2 { Held (seen book.now) j (j + y.inside) left }
+    ensures { OfTwo (seen book.now) i (i + x.inside) j (j + y.inside) left (λ s t. result ≡ cmp_term x s y t) }
 {
     let n = x.inside as usize;
     let m = y.inside as usize;
     match cmp_head(x, y) {
         Ordering::Less => Ordering::Less,
-        Ordering::Equal => cmp_sum(kinds, insides, numbers, i, n, j, m, left),
+        Ordering::Equal => cmp_sum(book, i, n, j, m, left),
         Ordering::Greater => Ordering::Greater,
     }
 }
 
 // Two sums, the n entries from i on and the m from j on: by length, then each term, then its coefficient.
 #[cycle(cmp_sum_cmp_term)]
-pub fn cmp_sum(
-    kinds: &[u8],
-    insides: &[u8],
-    numbers: &[[u64; 3]],
-    i: usize,
-    n: usize,
-    j: usize,
-    m: usize,
-    left: usize,
-) -> Ordering
-    requires held { Held (book kinds.now insides.now numbers.now) i (i + n) left }
-    requires held_2 { Held (book kinds.now insides.now numbers.now) j (j + m) left }
-    ensures { OfTwo (book kinds.now insides.now numbers.now) i (i + n) j (j + m) left (λ s t. result ≡ cmp_sum s t) }
+pub fn cmp_sum(book: &Book, i: usize, n: usize, j: usize, m: usize, left: usize) -> Ordering
+    requires held { Held (seen book.now) i (i + n) left }
+    requires held_2 { Held (seen book.now) j (j + m) left }
+    ensures { OfTwo (seen book.now) i (i + n) j (j + m) left (λ s t. result ≡ cmp_sum s t) }
 {
-    match cmp_nat(count(insides, i, n), count(insides, j, m)) {
+    match cmp_nat(count(book, i, n), count(book, j, m)) {
         Ordering::Less => return Ordering::Less,
         Ordering::Greater => return Ordering::Greater,
         Ordering::Equal => {}
@@ -119,10 +93,10 @@ pub fn cmp_sum(
     let mut p = i;
     let mut q = j;
     while p < end {
-        let x = cells::load(kinds, insides, numbers, p);
-        let y = cells::load(kinds, insides, numbers, q);
-        let o = cmp_term(kinds, insides, numbers, x, p + 1, y, q + 1, left - 1);
-        match numbers::and_then(o, x.coef.cmp(y.coef)) {
+        let x = book.load(p);
+        let y = book.load(q);
+        let o = cmp_term(book, x, p + 1, y, q + 1, left - 1);
+        match o.then(x.coef.cmp(y.coef)) {
             Ordering::Less => return Ordering::Less,
             Ordering::Greater => return Ordering::Greater,
             Ordering::Equal => {}
@@ -141,52 +115,34 @@ pub fn same_head(x: Entry, y: Entry) -> bool
 
 // The Rust's == on two terms, whose insides lie from i and from j on: coefficients don't count.
 #[cycle(eq_sum_eq_term)]
-pub fn eq_term(
-    kinds: &[u8],
-    insides: &[u8],
-    numbers: &[[u64; 3]],
-    x: Entry,
-    i: usize,
-    y: Entry,
-    j: usize,
-    left: usize,
-) -> bool
-    requires held { Held (book kinds.now insides.now numbers.now) i (i + x.inside) left }
-    requires held_2 { Held (book kinds.now insides.now numbers.now) j (j + y.inside) left }
-    ensures { OfTwo (book kinds.now insides.now numbers.now) i (i + x.inside) j (j + y.inside) left (λ s t. result ≡ same_term x s y t) }
+pub fn eq_term(book: &Book, x: Entry, i: usize, y: Entry, j: usize, left: usize) -> bool
+    requires held { Held (seen book.now) i (i + x.inside) left }
+    requires held_2 { Held (seen book.now) j (j + y.inside) left }
+    ensures { OfTwo (seen book.now) i (i + x.inside) j (j + y.inside) left (λ s t. result ≡ same_term x s y t) }
 {
     let n = x.inside as usize;
     let m = y.inside as usize;
     if !same_head(x, y) {
         return false;
     }
-    eq_sum(kinds, insides, numbers, i, n, j, m, left)
+    eq_sum(book, i, n, j, m, left)
 }
 
 // The Rust's == on two sums, the n entries from i on and the m from j on.
 #[cycle(eq_sum_eq_term)]
-pub fn eq_sum(
-    kinds: &[u8],
-    insides: &[u8],
-    numbers: &[[u64; 3]],
-    i: usize,
-    n: usize,
-    j: usize,
-    m: usize,
-    left: usize,
-) -> bool
-    requires held { Held (book kinds.now insides.now numbers.now) i (i + n) left }
-    requires held_2 { Held (book kinds.now insides.now numbers.now) j (j + m) left }
-    ensures { OfTwo (book kinds.now insides.now numbers.now) i (i + n) j (j + m) left (λ s t. result ≡ same_sum s t) }
+pub fn eq_sum(book: &Book, i: usize, n: usize, j: usize, m: usize, left: usize) -> bool
+    requires held { Held (seen book.now) i (i + n) left }
+    requires held_2 { Held (seen book.now) j (j + m) left }
+    ensures { OfTwo (seen book.now) i (i + n) j (j + m) left (λ s t. result ≡ same_sum s t) }
 {
     let end = i + n;
     let stop = j + m;
     let mut p = i;
     let mut q = j;
     while (p < end) & (q < stop) {
-        let x = cells::load(kinds, insides, numbers, p);
-        let y = cells::load(kinds, insides, numbers, q);
-        if !eq_term(kinds, insides, numbers, x, p + 1, y, q + 1, left - 1) {
+        let x = book.load(p);
+        let y = book.load(q);
+        if !eq_term(book, x, p + 1, y, q + 1, left - 1) {
             return false;
         }
         p = p + 1 + x.inside as usize;
@@ -196,9 +152,9 @@ pub fn eq_sum(
 }
 
 // Whether the sum of n cells from i on has at most `left` levels.
-fn nests_inside(insides: &[u8], i: usize, n: usize, left: usize) -> bool
-    requires { Nested insides.now i (i + n) }
-    ensures { (s : Sum) → Nests insides.now i (i + n) s → result ≡ leb (levels s) left }
+fn nests_inside(book: &Book, i: usize, n: usize, left: usize) -> bool
+    requires { Nested (seen book.now).insides i (i + n) }
+    ensures { (s : Sum) → Nests (seen book.now).insides i (i + n) s → result ≡ leb (levels s) left }
 {
     if left == 0 {
         return n == 0;
@@ -206,8 +162,8 @@ fn nests_inside(insides: &[u8], i: usize, n: usize, left: usize) -> bool
     let end = i + n;
     let mut k = i;
     while k < end {
-        let d = insides[k] as usize;
-        if !nests_inside(insides, k + 1, d, left - 1) {
+        let d = book.insides[k] as usize;
+        if !nests_inside(book, k + 1, d, left - 1) {
             return false;
         }
         k = k + 1 + d;
@@ -216,36 +172,27 @@ fn nests_inside(insides: &[u8], i: usize, n: usize, left: usize) -> bool
 }
 
 // Whether the sum has no more than so many levels. Nothing has none, and most terms have nothing inside: a call of a function on itself isn't begun for them.
-pub fn nests_within(insides: &[u8], i: usize, n: usize, left: usize) -> bool
-    requires { Nested insides.now i (i + n) }
-    ensures { (s : Sum) → Nests insides.now i (i + n) s → result ≡ leb (levels s) left }
+pub fn nests_within(book: &Book, i: usize, n: usize, left: usize) -> bool
+    requires { Nested (seen book.now).insides i (i + n) }
+    ensures { (s : Sum) → Nests (seen book.now).insides i (i + n) s → result ≡ leb (levels s) left }
 {
     if n == 0 {
         return true;
     }
-    nests_inside(insides, i, n, left)
+    nests_inside(book, i, n, left)
 }
 
 // Where the term x, whose inside lies from i on, stands or belongs in the sum of n entries from p on.
-pub fn find(
-    kinds: &[u8],
-    insides: &[u8],
-    numbers: &[[u64; 3]],
-    x: Entry,
-    i: usize,
-    p: usize,
-    n: usize,
-    left: usize,
-) -> Found
-    requires held { Held (book kinds.now insides.now numbers.now) i (i + x.inside) left }
-    requires held_2 { Held (book kinds.now insides.now numbers.now) p (p + n) left }
-    ensures { OfTwo (book kinds.now insides.now numbers.now) p (p + n) i (i + x.inside) left (λ s t. result ≡ place x t s p) }
+pub fn find(book: &Book, x: Entry, i: usize, p: usize, n: usize, left: usize) -> Found
+    requires held { Held (seen book.now) i (i + x.inside) left }
+    requires held_2 { Held (seen book.now) p (p + n) left }
+    ensures { OfTwo (seen book.now) p (p + n) i (i + x.inside) left (λ s t. result ≡ place x t s p) }
 {
     let end = p + n;
     let mut k = p;
     while k < end {
-        let y = cells::load(kinds, insides, numbers, k);
-        match cmp_term(kinds, insides, numbers, x, i, y, k + 1, left) {
+        let y = book.load(k);
+        match cmp_term(book, x, i, y, k + 1, left) {
             Ordering::Less => return Found::Before(k),
             Ordering::Equal => return Found::Same(k),
             Ordering::Greater => {}
@@ -257,61 +204,46 @@ pub fn find(
 
 // Whether each of the n cells from p on is a power of x. It looks at all of them whatever it finds: a loop with no way out in its middle is compiled to one that
 // takes many cells at once.
-pub fn all_powers(kinds: &[u8], p: usize, n: usize) -> bool
-    requires { p + n ≤ length kinds.now }
-    ensures { (result ≡ true) ↔ OnlyPowers kinds.now p (p + n) }
+pub fn all_powers(book: &Book, p: usize, n: usize) -> bool
+    requires { p + n ≤ length (seen book.now).kinds }
+    ensures { (result ≡ true) ↔ OnlyPowers (seen book.now).kinds p (p + n) }
 {
-    let end = p + n;
-    let mut k = p;
     let mut all = true;
-    while k < end {
-        all = all & (kinds[k] == crate::tree::X);
-        k = k + 1;
+    for k in p..p + n {
+        all = all & (book.kinds[k] == crate::tree::X);
     }
     all
 }
 
 // Up to which cell the powers of x go that stand first in the sum of n cells from p on: they have no inside, and come before every
 // other term.
-pub fn powers_end(kinds: &[u8], p: usize, n: usize) -> usize
-    requires { p + n ≤ length kinds.now }
+pub fn powers_end(book: &Book, p: usize, n: usize) -> usize
+    requires { p + n ≤ length (seen book.now).kinds }
     ensures lower_bound { (p ≤ result) × (result ≤ p + n) }
-    ensures by_index { (f : ℕ → Entry) (s : Sum) → ((k : ℕ) → (f k).kind ≡ get_or kinds.now k 0) → At f p s → Good sum_levels s → n ≡ size s → result ≡ p + powers s }
+    ensures by_index { (f : ℕ → Entry) (s : Sum) → ((k : ℕ) → (f k).kind ≡ get_or (seen book.now).kinds k 0) → At f p s → Good sum_levels s → n ≡ size s → result ≡ p + powers s }
 {
     let end = p + n;
-    let mut k = p;
-    while k < end {
-        if kinds[k] != crate::tree::X {
+    for k in p..end {
+        if book.kinds[k] != crate::tree::X {
             return k;
         }
-        k = k + 1;
     }
-    k
+    end
 }
 
 // Where a power of x stands or belongs in the sum of n cells from p on, whose powers end before the cell `end`: numbers tell, from the last power down.
-pub fn find_power(
-    kinds: &[u8],
-    insides: &[u8],
-    numbers: &[[u64; 3]],
-    num: f64,
-    p: usize,
-    n: usize,
-    end: usize,
-) -> Found
-    requires t { T (finite num) × Held (book kinds.now insides.now numbers.now) p (p + n) sum_levels }
-    requires of_one { OfOne (book kinds.now insides.now numbers.now) p (p + n) sum_levels (λ s. end ≡ p + powers s) }
-    ensures { (s : Sum) (x : Entry) → Lies (book kinds.now insides.now numbers.now) p (p + n) sum_levels s → x.kind ≡ X → x.num ≡ num → result ≡ place x none s p }
+pub fn find_power(book: &Book, num: f64, p: usize, n: usize, end: usize) -> Found
+    requires t { T (finite num) × Held (seen book.now) p (p + n) sum_levels }
+    requires of_one { OfOne (seen book.now) p (p + n) sum_levels (λ s. end ≡ p + powers s) }
+    ensures { (s : Sum) (x : Entry) → Lies (seen book.now) p (p + n) sum_levels s → x.kind ≡ X → x.num ≡ num → result ≡ place x none s p }
 {
-    let mut k = end;
-    while p < k {
-        let words = numbers[k - 1];
+    for j in (p..end).rev() {
+        let words = book.numbers[j];
         match numbers::cmp(num, f64::from_bits(words[0])) {
-            Ordering::Greater => return Found::Before(k),
-            Ordering::Equal => return Found::Same(k - 1),
+            Ordering::Greater => return Found::Before(j + 1),
+            Ordering::Equal => return Found::Same(j),
             Ordering::Less => {}
         }
-        k = k - 1;
     }
-    Found::Before(k)
+    Found::Before(p)
 }

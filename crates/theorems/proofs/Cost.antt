@@ -9,34 +9,30 @@ use lib.ListN.{length}
 use borrow.Author.Tests.{eqb-true, leb-true, leb-false}
 use lib.Ieee.{Float}
 use lib.Ieee.Scale.{finite}
+use Rattle.running.proofs.Steps.{same-steps}
+use Rattle.formats.specs.declared.record.Kind.{Kind}
 use Rattle.limits.specs.declared.Refusal.{Refusal}
 use Rattle.limits.specs.Refusals.{refusal_no}
 use Rattle.limits.proofs.Refusals.{numbered}
 use Rattle.sums.specs.Tree.Sums.{Sum}
 use Rattle.formats.specs.declared.record.Record.{Record}
 use Rattle.formats.specs.declared.record.Kind.TheVariants as kind
-use Rattle.formats.specs.declared.record.KindFound.{KindFound}
-use Rattle.formats.specs.declared.record.KindFound.TheVariants.{Known, Unknown}
 use Rattle.formats.specs.declared.record.Modifier.{Modifier}
 use Rattle.formats.specs.declared.record.Modifier.TheVariants.{On}
-use Rattle.formats.specs.declared.record.Verdict.{Verdict}
-use Rattle.formats.specs.declared.record.Verdict.TheVariants as verdicts
 use Rattle.formats.specs.Names.{kind_of, modifier_of, modifier_no}
-use Rattle.formats.specs.Rules.{verdict}
+use Rattle.formats.specs.Rules.{verdict, Verdict}
 use Rattle.formats.specs.Tree.{Nodes, end, rec, size, count, parse, forest}
 use Rattle.formats.proofs.record.Names.{modifier-back}
 use Rattle.formats.proofs.record.Forest.{size-forest}
 use Rattle.formats.proofs.record.Theorem as lists
-use Rattle.running.specs.declared.RunAnswer.{RunAnswer}
-use Rattle.running.specs.declared.RunAnswer.TheVariants as answers
 use Rattle.running.specs.declared.Deed.{Deed}
 use Rattle.running.specs.declared.Deed.TheVariants.{Pushes, Works}
 use Rattle.running.specs.Primitives.{Act, went, stop, act, way_of}
-use Rattle.running.specs.Running.{Running, Out, done, refused_at, and_then, if_room, settle, copied, give_back, modify, stepped, run_by, runs, last_of, ended, start, run_nodes, judged, run_list}
+use Rattle.running.specs.Running as answers
+use Rattle.running.specs.Running.{Running, Out, done, refused_at, and_then, if_room, settle, copied, give_back, modify, stepped, run_by, runs, last_of, ended, start, run_nodes, judged, run_list, RunAnswer}
 use Rattle.modifiers.specs.Reading as bodies
 use Rattle.modifiers.specs.Reading.{inside_of, read_nodes}
-use Rattle.reading.specs.declared.cost.CostAnswer.{CostAnswer}
-use Rattle.reading.specs.declared.cost.CostAnswer.TheVariants as costs
+use Rattle.std.specs.Prelude.{Result, Ok, Err, Option, Some, None}
 use Rattle.reading.specs.Cost.Cost as cost
 use Rattle.reading.specs.Cost.Cost.{most_steps, times_of, inside_times, own_cost, cost_of, cost_list, cost_numbers}
 use Rattle.reading.specs.Cost.Counting.{ran}
@@ -109,22 +105,22 @@ module _ (r : Record) (ns : Nodes) (at h : ℕ) (st v : Running) (inner : ℕ �
   alone : (d : Deed) → settle h at st (act d r st.stack) ≡ done v → Took st v (suc (0 * cost_of ns)) (suc (size ns))
   alone d e = (omega (arith, settle-steps h at st v (act d r st.stack) e), omega arith)
 
-  by_kind : (k : KindFound) → run_by (way_of k) r ns inner at h st ≡ done v → Took st v (suc (inside_times (inside_of k) r ns * cost_of ns)) (suc (size ns))
+  by_kind : (k : Option Kind) → run_by (way_of k) r ns inner at h st ≡ done v → Took st v (suc (inside_times (inside_of k) r ns * cost_of ns)) (suc (size ns))
   unfolding act
-  by_kind (Known kind.Modifier) e = modifies e
-  by_kind (Known kind.Body) e = within e
-  by_kind (Known kind.Run) e = within e
-  by_kind (Known kind.RealPush) e = alone Pushes e
-  by_kind (Known kind.Primitive) e = alone Works e
-  by_kind (Known kind.CustomInverse) e = absurd (never e)
-  by_kind (Known kind.ComplexPush) e = absurd (never e)
-  by_kind (Known kind.ArrayPush) e = absurd (never e)
-  by_kind (Known kind.OtherPush) e = absurd (never e)
-  by_kind (Known kind.Obverse) e = absurd (never e)
-  by_kind (Known kind.NoNormal) e = absurd (never e)
-  by_kind (Known kind.UnderMarker) e = absurd (never e)
-  by_kind (Known kind.AnythingElse) e = absurd (never e)
-  by_kind Unknown e = absurd (never e)
+  by_kind (Some kind.Modifier) e = modifies e
+  by_kind (Some kind.Body) e = within e
+  by_kind (Some kind.Run) e = within e
+  by_kind (Some kind.RealPush) e = alone Pushes e
+  by_kind (Some kind.Primitive) e = alone Works e
+  by_kind (Some kind.CustomInverse) e = absurd (never e)
+  by_kind (Some kind.ComplexPush) e = absurd (never e)
+  by_kind (Some kind.ArrayPush) e = absurd (never e)
+  by_kind (Some kind.OtherPush) e = absurd (never e)
+  by_kind (Some kind.Obverse) e = absurd (never e)
+  by_kind (Some kind.NoNormal) e = absurd (never e)
+  by_kind (Some kind.UnderMarker) e = absurd (never e)
+  by_kind (Some kind.AnythingElse) e = absurd (never e)
+  by_kind None e = absurd (never e)
 
 runs-took : (ns : Nodes) (at h : ℕ) (st v : Running) → runs ns at h st ≡ done v → Took st v (cost_of ns) (size ns)
 unfolding runs cost_of size
@@ -142,7 +138,7 @@ ended-done (done st) v n p e = (st, refl, last st.stack e)
   where
     last : (s : List Float) → last_of s st.steps st.peak ≡ answers.Value v n p → st.steps ≡ n
     last [] d = absurd (let z : ◌≡◌ {A = ℕ} 0 1 = cc in omega arith)
-    last (w ∷ []) d = cc
+    last (w ∷ []) d = same-steps d
     last (w ∷ u ∷ s) d = absurd (let z : ◌≡◌ {A = ℕ} 0 1 = cc in omega arith)
 
 run-took : (ns : Nodes) (x v : Float) (n p : ℕ) → run_nodes ns x ≡ answers.Value v n p → (cost_of ns ≡ n) × (n ≤ size ns)
@@ -153,43 +149,43 @@ run-took ns x v n p e =
     (omega (arith, t.0, o.2), omega (arith, t.0, t.1, o.2))
 
 -- a list that keeps the rules has few records
-few-records : (l : List ℕ) → verdict l ≡ verdicts.Good → size (parse l) ≤ 2048
+few-records : (l : List ℕ) → verdict l ≡ Ok tt → size (parse l) ≤ 2048
 unfolding parse
 few-records l g = omega (arith, lists.few l (lists.good-sound l g), size-forest l 0 (length l / 24))
 
-run-cost : (l : List ℕ) (x v : Float) (n p : ℕ) → run_list l x ≡ answers.Value v n p → cost_list l ≡ costs.Steps n
+run-cost : (l : List ℕ) (x v : Float) (n p : ℕ) → run_list l x ≡ answers.Value v n p → cost_list l ≡ Ok n
 unfolding run_list cost_list
 run-cost l x v n p e = go (verdict l) refl (finite x) e
   where
-    go : (w : Verdict) → verdict l ≡ w → (b : Bool) → judged w b (parse l) x ≡ answers.Value v n p → cost.judged w (parse l) ≡ costs.Steps n
-    go (verdicts.Refused q) g b d = absurd (let z : ◌≡◌ {A = ℕ} 0 1 = cc in omega arith)
-    go verdicts.Good g false d = absurd (let z : ◌≡◌ {A = ℕ} 0 1 = cc in omega arith)
-    go verdicts.Good g true d = let t = run-took (parse l) x v n p d in ap costs.Steps (omega (arith, t.0, t.1, few-records l g))
+    go : (w : Verdict) → verdict l ≡ w → (b : Bool) → judged w b (parse l) x ≡ answers.Value v n p → cost.judged w (parse l) ≡ Ok n
+    go (Err q) g b d = absurd (let z : ◌≡◌ {A = ℕ} 0 1 = cc in omega arith)
+    go (Ok tt) g false d = absurd (let z : ◌≡◌ {A = ℕ} 0 1 = cc in omega arith)
+    go (Ok tt) g true d = let t = run-took (parse l) x v n p d in ap Ok (omega (arith, t.0, t.1, few-records l g))
 
 -- ---- read
 
-cost-refuses : (l : List ℕ) (q : Refusal) → cost_list l ≡ costs.Refused q → read_list l ≡ bodies.refused_at q 0 false
+cost-refuses : (l : List ℕ) (q : Refusal) → cost_list l ≡ Err q → read_list l ≡ bodies.refused_at q 0 false
 unfolding cost_list read_list
 cost-refuses l q e = go (verdict l) e
   where
-    go : (v : Verdict) → cost.judged v (parse l) ≡ costs.Refused q → by_verdict v (read_nodes (parse l)) ≡ bodies.refused_at q 0 false
-    go verdicts.Good d = absurd (let z : ◌≡◌ {A = ℕ} 0 1 = cc in omega arith)
-    go (verdicts.Refused p) d = let z : p ≡ q = cc in rw z
+    go : (v : Verdict) → cost.judged v (parse l) ≡ Err q → by_verdict v (read_nodes (parse l)) ≡ bodies.refused_at q 0 false
+    go (Ok tt) d = absurd (let z : ◌≡◌ {A = ℕ} 0 1 = cc in omega arith)
+    go (Err p) d = let z : p ≡ q = cc in rw z
 
 nodes-read : (l : List ℕ) (s : Sum) (c h : Bool) (k : ℕ) → read_list l ≡ bodies.done s c h k → read_nodes (parse l) ≡ bodies.done s c h k
 unfolding read_list
 nodes-read l s c h k e = go (verdict l) e
   where
     go : (v : Verdict) → by_verdict v (read_nodes (parse l)) ≡ bodies.done s c h k → read_nodes (parse l) ≡ bodies.done s c h k
-    go verdicts.Good d = d
-    go (verdicts.Refused q) d = absurd (let z : ◌≡◌ {A = ℕ} 0 1 = cc in omega arith)
+    go (Ok tt) d = d
+    go (Err q) d = absurd (let z : ◌≡◌ {A = ℕ} 0 1 = cc in omega arith)
 
-read-cost : (l out out' : List ℕ) (n m k : ℕ) (c : Bool) → cost_list l ≡ costs.Steps n → n < most_steps → ReadGives (read_list l) out out' (answer.Sum m c k) → ran (parse l) ≡ n
+read-cost : (l out out' : List ℕ) (n m k : ℕ) (c : Bool) → cost_list l ≡ Ok n → n < most_steps → ReadGives (read_list l) out out' (answer.Sum m c k) → ran (parse l) ≡ n
 read-cost l out out' n m k c e d p =
     let t = read_told (read_list l) p in
     tells.read l n t.s c t.handled t.pairs e d (nodes-read l t.s c t.handled t.pairs t.is)
 
-read_pairs : (l out out' : List ℕ) (n m k : ℕ) (c : Bool) → cost_list l ≡ costs.Steps n → ReadGives (read_list l) out out' (answer.Sum m c k) → k ≤ 258048 * n
+read_pairs : (l out out' : List ℕ) (n m k : ℕ) (c : Bool) → cost_list l ≡ Ok n → ReadGives (read_list l) out out' (answer.Sum m c k) → k ≤ 258048 * n
 read_pairs l out out' n m k c e p = go (leb most_steps n) refl
   where
     go : (b : Bool) → leb most_steps n ≡ b → k ≤ 258048 * n
@@ -207,9 +203,9 @@ cost-of-entries = record { refuses = cost-refuses; reads = read-cost; pairs = re
 pub limited : Limited
 limited l limit place steps k t s = go (cost_list l) refl t.promised.0
   where
-    go : (a : CostAnswer) → cost_list l ≡ a → t.reply ≡ of_cost a → ran (parse l) ≤ limit
-    go (costs.Refused q) e r = absurd (let z : 0 ≡ refusal_no q = t.returned ∙ ap (λ z. z.number) r in omega (arith, (numbered q).0))
-    go (costs.Steps n) e r =
+    go : (a : Result ℕ Refusal) → cost_list l ≡ a → t.reply ≡ of_cost a → ran (parse l) ≤ limit
+    go (Err q) e r = absurd (let z : 0 ≡ refusal_no q = t.returned ∙ ap (λ z. z.number) r in omega (arith, (numbered q).0))
+    go (Ok n) e r =
         let z : place ∷ steps ∷ [] ≡ 0 ∷ n ∷ [] = t.told ∙ ap with_cost r in
         let i : steps ≡ n = cc in
         omega (arith, tells.most l n e (omega arith))

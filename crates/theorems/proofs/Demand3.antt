@@ -11,8 +11,7 @@ use Rattle.numbers.specs.Signs.{zero64}
 use Rattle.numbers.proofs.Bools.{and-false}
 use Rattle.limits.specs.declared.Refusal.TheVariants.{NotFinite}
 use Rattle.sums.specs.Tree.Sums.{Sum}
-use Rattle.running.specs.declared.RunAnswer.TheVariants.{Value, Refused}
-use Rattle.running.specs.Running.{run_list}
+use Rattle.running.specs.Running.{run_list, Value, Refused}
 use Rattle.values.specs.Value.{whole, half, Power, value}
 use Rattle.theorems.specs.Terms.{nothing, zero_term, term, Terms, RootTerms}
 use Rattle.theorems.specs.Records.{records}

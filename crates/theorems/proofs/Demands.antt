@@ -7,14 +7,10 @@ use mathlib.Core.Logic.{inl, inr}
 use Rattle.limits.specs.declared.Refusal.{Refusal}
 use Rattle.limits.proofs.Refusals.{numbered}
 use Rattle.formats.specs.Tree.{records_in}
-use Rattle.running.specs.declared.RunAnswer.{RunAnswer}
-use Rattle.running.specs.declared.RunAnswer.TheVariants as ran
-use Rattle.running.specs.Running.{run_list}
-use Rattle.values.specs.declared.ValueAnswer.{ValueAnswer}
-use Rattle.values.specs.declared.ValueAnswer.TheVariants as valued
+use Rattle.running.specs.Running as ran
+use Rattle.running.specs.Running.{run_list, RunAnswer}
+use Rattle.std.specs.Prelude.{Result, Ok, Err, Float}
 use Rattle.values.proofs.Taking.{value-determined}
-use Rattle.reading.specs.declared.cost.CostAnswer.{CostAnswer}
-use Rattle.reading.specs.declared.cost.CostAnswer.TheVariants as costs
 use Rattle.reading.specs.Cost.Cost.{cost_list}
 use Rattle.algebra.specs.declared.answer.Answer.{Answer}
 use Rattle.algebra.specs.declared.answer.Answer.TheVariants as given
@@ -44,16 +40,16 @@ by_read (answer.Sum n c k) e f = inl (ap (λ z. z.number) e)
 by_read (answer.Refused q at) e f = refuses q at e (f q at refl)
 
 by-run : (a : RunAnswer) {out out' : List ℕ} {r : Reply} → r ≡ of_run a → out' ≡ out → Answers out out' r
-by-run (ran.Value v s p) e f = inl (ap (λ z. z.number) e)
-by-run (ran.Refused q at) e f = refuses q at e f
+by-run (Ok ran-to) e f = inl (ap (λ z. z.number) e)
+by-run (Err ran-to) e f = refuses ran-to.why ran-to.place e f
 
-by-cost : (a : CostAnswer) {out out' : List ℕ} {r : Reply} → r ≡ of_cost a → out' ≡ out → Answers out out' r
-by-cost (costs.Steps n) e f = inl (ap (λ z. z.number) e)
-by-cost (costs.Refused q) e f = refuses q 0 e f
+by-cost : (a : Result ℕ Refusal) {out out' : List ℕ} {r : Reply} → r ≡ of_cost a → out' ≡ out → Answers out out' r
+by-cost (Ok n) e f = inl (ap (λ z. z.number) e)
+by-cost (Err q) e f = refuses q 0 e f
 
-by_value : (a : ValueAnswer) {out out' : List ℕ} {r : Reply} → r ≡ of_value a → out' ≡ out → Answers out out' r
-by_value (valued.Value v) e f = inl (ap (λ z. z.number) e)
-by_value (valued.Refused q) e f = refuses q 0 e f
+by_value : (a : Result Float Refusal) {out out' : List ℕ} {r : Reply} → r ≡ of_value a → out' ≡ out → Answers out out' r
+by_value (Ok v) e f = inl (ap (λ z. z.number) e)
+by_value (Err q) e f = refuses q 0 e f
 
 pub demand-1 : Demand1
 demand-1 Replies.read l out out' r p = by_read p.0 p.1 (λ q at i. reading.refusal-quiet (read_list l) p.2 i)

@@ -10,8 +10,7 @@ use Rattle.limits.specs.declared.Refusal.TheVariants.{NeedsMath}
 use Rattle.sums.specs.Tree.Sums.{Sum}
 use Rattle.formats.specs.declared.record.Primitive.TheVariants.{Pow, Sqrt, Mul}
 use Rattle.writing.specs.Draft.Writing.{push, does}
-use Rattle.running.specs.declared.RunAnswer.TheVariants.{Value, Refused}
-use Rattle.running.specs.Running.{run_list}
+use Rattle.running.specs.Running.{run_list, Value, Refused}
 use Rattle.algebra.specs.Answer.Making.{made}
 use Rattle.algebra.specs.Entries.{derivative}
 use Rattle.theorems.specs.Cases.{bytes_of}

@@ -13,8 +13,6 @@ use lib.Ieee.Bits.{is_true}
 use lib.Ieee.Scale.{finite}
 use Rattle.numbers.specs.Signs.{zero64, one64}
 use Rattle.numbers.specs.Numbers.{small_whole}
-use Rattle.numbers.specs.declared.SmallWhole.{SmallWhole}
-use Rattle.numbers.specs.declared.SmallWhole.TheVariants.{Is, Other}
 use Rattle.numbers.specs.declared.complex.Complex.{Complex}
 use Rattle.numbers.specs.Complex.Arith as complex
 use Rattle.numbers.proofs.Bools.{T_of}
@@ -24,21 +22,17 @@ use Rattle.limits.specs.declared.Refusal.TheVariants.{NeedsMath, NotFinite, Outp
 use Rattle.sums.specs.Tree.Kinds as kinds
 use Rattle.sums.specs.Tree.Sums.{Sum, and, size as entries}
 use Rattle.sums.specs.Tree.Good.{Good}
-use Rattle.sums.specs.declared.entry.Taken.{Taken}
-use Rattle.sums.specs.declared.entry.Taken.TheVariants as taken
+use Rattle.std.specs.Prelude.{Result, Ok, Err, Option as Maybe, Some, None}
 use Rattle.sums.proofs.bytes.Theorem.{settled}
 use Rattle.arithmetic.proofs.Steps.{and_both}
-use Rattle.formats.specs.declared.record.Verdict.TheVariants as verdicts
 use Rattle.formats.specs.Rules.{verdict}
 use Rattle.formats.specs.Tree.{Nodes, end, encode, records_in}
 use Rattle.writing.specs.Draft.Writing.{append, one, Written, wrote, refused, and_then, number, number_record, can_write, if_can}
 use Rattle.writing.specs.ToNodes.{Form, constant, root, bare, square, power, form, is_bare, is_constant, is_empty, before, write_power, times_coef, plus, write, to_nodes}
 use Rattle.writing.proofs.Good.{wrote-is}
 use Rattle.writing.proofs.Refusals.{only-15}
-use Rattle.running.specs.declared.RunAnswer.TheVariants as run
+use Rattle.running.specs.Running as run
 use Rattle.running.specs.Running.{run_nodes, run_list}
-use Rattle.values.specs.declared.ValueAnswer.{ValueAnswer}
-use Rattle.values.specs.declared.ValueAnswer.TheVariants.{Value, Refused}
 use Rattle.values.specs.Value.{Exponent, whole, Power, is_one, value}
 use Rattle.theorems.specs.Terms.{TermsOf, nothing, zero_term, term, Terms}
 use Rattle.values.specs.ValueOf.{is_zero, is_power, all_powers, all_real, unless_zero, powers_of, if_so, value_of, ValueOfBytes}
@@ -124,13 +118,13 @@ unfolding all_powers powers_of
 terms-of Sum.none e = nothing
 terms-of (and k p i c r) e = go (is_zero c) refl (small_whole p) refl e (λ h. terms-of r h)
   where
-    go : (z : Bool) → is_zero c ≡ z → (w : SmallWhole) → small_whole p ≡ w → (z || is_power k w) && all_powers r ≡ true → (all_powers r ≡ true → Terms r (powers_of r))
+    go : (z : Bool) → is_zero c ≡ z → (w : Maybe ℕ) → small_whole p ≡ w → (z || is_power k w) && all_powers r ≡ true → (all_powers r ≡ true → Terms r (powers_of r))
         → Terms (and k p i c r) (unless_zero z w c (powers_of r))
     go true z w e h t = zero_term z (t h)
-    go false z (Is n) e h t =
+    go false z (Some n) e h t =
         let b = and_both (eqb k kinds.X) (all_powers r) h in
         rw (eqb→eq k kinds.X (T_of b.0)) (term {k = whole n} z e (t b.1))
-    go false z Other e h t = absurd (true≢false (sym h))
+    go false z None e h t = absurd (true≢false (sym h))
 
 module _ (s : Sum) (x : Float) (g : Good 4 s) (few : entries s ≤ 64) (fx : T (finite x)) (p : all_powers s ≡ true) where
   terms : Terms s (powers_of s)
@@ -143,11 +137,11 @@ module _ (s : Sum) (x : Float) (g : Good 4 s) (few : entries s ≤ 64) (fx : T (
   unfolding value_of
   list-runs {ns} e l = rw (is_true (finite x) fx, p, e) (by_value (finite (value x (powers_of s))) refl)
     where
-      refuses : (o : Option ℕ) → first_not_finite (in_all x (powers_of s)) ≡ o → finite (value x (powers_of s)) ≡ false → Refused NotFinite ≡ unplaced (run_nodes ns x)
+      refuses : (o : Option ℕ) → first_not_finite (in_all x (powers_of s)) ≡ o → finite (value x (powers_of s)) ≡ false → Err NotFinite ≡ unplaced (run_nodes ns x)
       refuses none o n = absurd (true≢false (sym (is_true (finite (value x (powers_of s))) ((value-finite x fx (powers_of s)).0 o)) ∙ n))
       refuses (some at) o n = sym (ap unplaced (l.refuses x at fx (nothing-lacks x terms) o))
 
-      by_value : (b : Bool) → finite (value x (powers_of s)) ≡ b → if_so b NotFinite (Value (value x (powers_of s))) ≡ unplaced (run_nodes ns x)
+      by_value : (b : Bool) → finite (value x (powers_of s)) ≡ b → if_so b NotFinite (Ok (value x (powers_of s))) ≡ unplaced (run_nodes ns x)
       by_value true f = sym (ap unplaced (l.gives x fx (nothing-lacks x terms) ((value-finite x fx (powers_of s)).1 (T_of f))))
       by_value false f = refuses (first_not_finite (in_all x (powers_of s))) refl f
 
@@ -168,7 +162,7 @@ module _ (s : Sum) (x : Float) (g : Good 4 s) (few : entries s ≤ 64) (fx : T (
       go false e = let z : ◌≡◌ {A = ℕ} 0 1 = (let o = sym w ∙ sum-refused terms e false end in cc) in absurd (omega arith)
 
 -- unless it is refused with 14, a sum passes the first test
-passes : (s : Sum) (x : Float) → T (finite x) → (value_of s x ≡ Refused NeedsMath → ⊥) → all_powers s ≡ true
+passes : (s : Sum) (x : Float) → T (finite x) → (value_of s x ≡ Err NeedsMath → ⊥) → all_powers s ≡ true
 unfolding value_of
 passes s x fx n = go (all_powers s) refl
   where
@@ -182,33 +176,33 @@ engine-is-run s x g few fx n = is-run s x g few fx (passes s x fx n)
 -- ---- over bytes
 
 -- an x that isn't finite is refused with 15
-not_finite : (s : Sum) (x : Float) → finite x ≡ false → value_of s x ≡ Refused NotFinite
+not_finite : (s : Sum) (x : Float) → finite x ≡ false → value_of s x ≡ Err NotFinite
 unfolding value_of
 not_finite s x e = rw e
 
-list-not-finite : (b : List ℕ) (x : Float) → verdict b ≡ verdicts.Good → finite x ≡ false → run_list b x ≡ run.Refused NotFinite 0
+list-not-finite : (b : List ℕ) (x : Float) → verdict b ≡ Ok tt → finite x ≡ false → run_list b x ≡ run.Refused NotFinite 0
 unfolding run_list
 list-not-finite b x v e = rw (v, e)
 
 -- the one sum that was handed over, and what was answered to it
-record HandedOver (x : Float) (r : ValueAnswer) (out out' : List ℕ) (a : Answer) : Type 0 where
+record HandedOver (x : Float) (r : Result Float Refusal) (out out' : List ℕ) (a : Answer) : Type 0 where
   s : Sum
   good : Good 4 s
   few : entries s ≤ 64
   valued : r ≡ value_of s x
   gives : Gives records_in (of_list (to_nodes false s)) out out' a
 
-module _ {l : List ℕ} {x : Float} {r : ValueAnswer} {out out' : List ℕ} {a : Answer} (v : ValueOfBytes l x r) (b : OfBytes records_in (making.write false) l out out' a) where
+module _ {l : List ℕ} {x : Float} {r : Result Float Refusal} {out out' : List ℕ} {a : Answer} (v : ValueOfBytes l x r) (b : OfBytes records_in (making.write false) l out out' a) where
   same : v.weight ≡ b.weight
   same = settled l v.weight b.weight v.weighed b.weighed
 
-  handed : {n : ℕ} → b.weight ≡ taken.Sum n → HandedOver x r out out' a
+  handed : {n : ℕ} → b.weight ≡ Ok n → HandedOver x r out out' a
   unfolding making.write
   handed {n} e =
       let w = (b.weighed.good n).0 e in
       record { s = w.0; good = w.3; few = w.2.few; valued = v.takes n (same ∙ e) w.0 w.1 w.3; gives = b.takes n e w.0 w.1 w.3 }
 
-value-runs : (l out out' : List ℕ) (x : Float) (m : ℕ) (r : ValueAnswer) → (r ≡ Refused NeedsMath → ⊥) → ValueOfBytes l x r
+value-runs : (l out out' : List ℕ) (x : Float) (m : ℕ) (r : Result Float Refusal) → (r ≡ Err NeedsMath → ⊥) → ValueOfBytes l x r
     → OfBytes records_in (making.write false) l out out' (given.Done m)
     → r ≡ unplaced (run_list (take (24 * m) out') x)
 value-runs l out out' x m r n v b = by-weight b.weight refl
@@ -223,22 +217,22 @@ value-runs l out out' x m r n v b = by-weight b.weight refl
         ∙ ap (λ (w : Written). ran w x) d.is
         ∙ sym (ap unplaced (ap (λ (z : List ℕ). run_list z x) d.bytes ∙ bytes_run h.s x h.good h.few (T_of e) p d.is))
 
-    by-weight : (t : Taken) → b.weight ≡ t → r ≡ unplaced (run_list (take (24 * m) out') x)
-    by-weight (taken.Refused q) e = absurd (not_made (success records_in (refused_at q 0) (b.refuses q e)).is)
-    by-weight (taken.Sum k) e = by-x (handed v b e) (finite x) refl
+    by-weight : (t : Result ℕ Refusal) → b.weight ≡ t → r ≡ unplaced (run_list (take (24 * m) out') x)
+    by-weight (Err q) e = absurd (not_made (success records_in (refused_at q 0) (b.refuses q e)).is)
+    by-weight (Ok k) e = by-x (handed v b e) (finite x) refl
 
-value-refuses : (l out out' : List ℕ) (x : Float) (q : Refusal) (at : ℕ) (r : ValueAnswer) → (q ≡ OutputRoom → ⊥) → (r ≡ Refused NeedsMath → ⊥) → ValueOfBytes l x r
-    → OfBytes records_in (making.write false) l out out' (given.Refused q at) → r ≡ Refused q
+value-refuses : (l out out' : List ℕ) (x : Float) (q : Refusal) (at : ℕ) (r : Result Float Refusal) → (q ≡ OutputRoom → ⊥) → (r ≡ Err NeedsMath → ⊥) → ValueOfBytes l x r
+    → OfBytes records_in (making.write false) l out out' (given.Refused q at) → r ≡ Err q
 value-refuses l out out' x q at r k n v b = by-weight b.weight refl
   where
-    by-x : (h : HandedOver x r out out' (given.Refused q at)) → to_nodes false h.s ≡ refused q → (f : Bool) → finite x ≡ f → r ≡ Refused q
-    by-x h w false e = h.valued ∙ not_finite h.s x e ∙ sym (ap Refused (only-15 false h.s q w))
+    by-x : (h : HandedOver x r out out' (given.Refused q at)) → to_nodes false h.s ≡ refused q → (f : Bool) → finite x ≡ f → r ≡ Err q
+    by-x h w false e = h.valued ∙ not_finite h.s x e ∙ sym (ap Err (only-15 false h.s q w))
     by-x h w true e =
         h.valued ∙ engine-is-run h.s x h.good h.few (T_of e) (λ i. n (h.valued ∙ i)) ∙ ap (λ (z : Written). ran z x) w
 
-    by-weight : (t : Taken) → b.weight ≡ t → r ≡ Refused q
-    by-weight (taken.Refused p) e = v.refuses p (same v b ∙ e) ∙ ap Refused (refused-same (refusal records_in (refused_at p 0) (b.refuses p e) k)).0
-    by-weight (taken.Sum m) e =
+    by-weight : (t : Result ℕ Refusal) → b.weight ≡ t → r ≡ Err q
+    by-weight (Err p) e = v.refuses p (same v b ∙ e) ∙ ap Err (refused-same (refusal records_in (refused_at p 0) (b.refuses p e) k)).0
+    by-weight (Ok m) e =
         let h = handed v b e in
         by-x h (list-refused (to_nodes false h.s) (refusal records_in (of_list (to_nodes false h.s)) h.gives k)) (finite x) refl
 

@@ -5,8 +5,7 @@ use lib.Ieee.{Float}
 use lib.Ieee.Bits.{is_true}
 use lib.Ieee.Scale.{finite}
 use Rattle.numbers.specs.Signs.{±0, one64}
-use Rattle.running.specs.declared.RunAnswer.TheVariants.{Value}
-use Rattle.running.specs.Running.{run_list}
+use Rattle.running.specs.Running.{run_list, Value}
 use Rattle.theorems.specs.Nought.{to_power, ToNought, Nought}
 use Rattle.theorems.proofs.Computing.{arithmetic, comparing, list_bytes, list_rules, sum_bytes, maps, products, raised, steps, reading, acting}
 

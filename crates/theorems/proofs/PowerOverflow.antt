@@ -18,8 +18,7 @@ use Rattle.sums.specs.Tree.Sums.{Sum, none, and, size}
 use Rattle.sums.specs.Tree.Good.{Good}
 use Rattle.sums.specs.Tree.Map.{Outcome, sum, refused}
 use Rattle.sums.proofs.tree.Overflow.{overflows, overflowed}
-use Rattle.sums.specs.declared.entry.Taken.{Taken}
-use Rattle.sums.specs.declared.entry.Taken.TheVariants as taken
+use Rattle.std.specs.Prelude.{Result, Ok, Err}
 use Rattle.sums.specs.Entry.Encoding.{entries_in, encode_sum}
 use Rattle.sums.specs.Entry.Taking.{Weighed}
 use Rattle.sums.proofs.bytes.Laws.{encode-unique}
@@ -93,9 +92,9 @@ bytes-overflow {room} {f} {l} {out} {out'} {a} p k n = go p.weight refl
     weighed q e (inl d) = let z : ◌≡◌ {A = ℕ} 18 13 = ap refusal_no (sym e ∙ d) in omega arith
     weighed q e (inr d) = let z : ◌≡◌ {A = ℕ} 18 11 = ap refusal_no (sym e ∙ d) in omega arith
 
-    go : (t : Taken) → p.weight ≡ t → ⊥
-    go (taken.Refused q) e = weighed q (refused-same (from (refused_at q 0) (p.refuses q e)).1).0 (only l q (subst (Weighed l) e p.weighed))
-    go (taken.Sum c) e =
+    go : (t : Result ℕ Refusal) → p.weight ≡ t → ⊥
+    go (Err q) e = weighed q (refused-same (from (refused_at q 0) (p.refuses q e)).1).0 (only l q (subst (Weighed l) e p.weighed))
+    go (Ok c) e =
         let s = (p.weighed.good c).0 e in
         let o = from (f s.0) (p.takes c e s.0 s.1 s.3) in
         k s.0 o.0 s.3 o.1
@@ -175,7 +174,7 @@ derived = refl
 
 derive-told : OfBytes entries_in making.derive (encode_sum quotient) [] [] (given.Refused PowerNotFinite 0)
 derive-told = record {
-  weight = taken.Sum (size quotient);
+  weight = Ok (size quotient);
   weighed = weighed-good quotient quotient-good quotient-small.0 quotient-small.1;
   refuses = λ q e. absurd (not-both e);
   takes = λ n e s b g.
@@ -183,7 +182,7 @@ derive-told = record {
       subst (λ m. Gives entries_in m [] [] (given.Refused PowerNotFinite 0)) (sym derived ∙ ap making.derive is) (gives-refusal entries_in PowerNotFinite 0 []);
 }
   where
-    not-both : {n : ℕ} {q : Refusal} → taken.Sum n ≡ taken.Refused q → ⊥
+    not-both : {n : ℕ} {q : Refusal} → Ok n ≡ Err q → ⊥
     not-both e = let z : ◌≡◌ {A = ℕ} 0 1 = cc in omega arith
 
 -- what is made of a list that is refused while it is read

@@ -4,15 +4,13 @@ use native.Mathlib.Omega.{arith}
 use mathlib.Core.Path.{◌≡◌, refl, sym, ◌∙◌}
 use mathlib.Core.Bool.{Bool}
 use mathlib.Core.List.{List}
+use Rattle.formats.specs.Rules.{Verdict}
 use Rattle.limits.specs.declared.Refusal.{Refusal}
 use Rattle.sums.specs.Tree.Sums.{Sum, size}
 use Rattle.arithmetic.specs.Singles.{GoodSum}
-use Rattle.formats.specs.declared.record.Verdict.{Verdict}
-use Rattle.formats.specs.declared.record.Verdict.TheVariants as verdict
 use Rattle.formats.specs.Rules as rules
 use Rattle.formats.specs.Tree.{Nodes, parse}
-use Rattle.sums.specs.declared.entry.Taken.{Taken}
-use Rattle.sums.specs.declared.entry.Taken.TheVariants as taken
+use Rattle.std.specs.Prelude.{Result, Ok, Err}
 use Rattle.sums.specs.Entry.Encoding.{entries_in, encode_sum}
 use Rattle.sums.specs.Entry.Taking.{Weighed}
 use Rattle.sums.proofs.bytes.Theorem.{good-taken}
@@ -31,8 +29,8 @@ use Rattle.algebra.specs.declared.ReadAnswer.TheVariants as answer
 -- ---- the sum that is read
 
 by-good : (v : Verdict) (ns : Nodes) {s : Sum} {c h : Bool} {k : ℕ} → by_verdict v (read_nodes ns) ≡ done s c h k → GoodSum s
-by-good verdict.Good ns e = read-good ns e
-by-good (verdict.Refused q) ns e = let z : ◌≡◌ {A = ℕ} 0 1 = cc in absurd (omega arith)
+by-good (Ok tt) ns e = read-good ns e
+by-good (Err q) ns e = let z : ◌≡◌ {A = ℕ} 0 1 = cc in absurd (omega arith)
 
 -- is a good one
 pub sum-good : (l : List ℕ) {s : Sum} {c h : Bool} {k : ℕ} → read_list l ≡ done s c h k → GoodSum s
@@ -40,7 +38,7 @@ unfolding read_list
 sum-good l e = by-good (rules.verdict l) (parse l) e
 
 -- so what takes sums never refuses its bytes
-pub sum-taken : (l : List ℕ) {s : Sum} {c h : Bool} {k : ℕ} (t : Taken) → read_list l ≡ done s c h k → Weighed (encode_sum s) t → t ≡ taken.Sum (size s)
+pub sum-taken : (l : List ℕ) {s : Sum} {c h : Bool} {k : ℕ} (t : Result ℕ Refusal) → read_list l ≡ done s c h k → Weighed (encode_sum s) t → t ≡ Ok (size s)
 sum-taken l {s} t e w = let g = sum-good l e in good-taken s t g.good (good-some g) g.room w
 
 -- ---- the answer, its flag and its pairs

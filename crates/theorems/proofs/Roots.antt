@@ -9,19 +9,16 @@ use lib.Ieee.{Float}
 use lib.Ieee.Scale.{finite}
 use lib.ListN.{take}
 use borrow.Author.Tests.{le-leb}
+use Rattle.std.specs.Prelude.{Ok, Err}
 use Rattle.sums.specs.Tree.Sums.{Sum}
 use Rattle.arithmetic.specs.Singles.{GoodSum}
-use Rattle.formats.specs.declared.record.Verdict.{Verdict}
-use Rattle.formats.specs.declared.record.Verdict.TheVariants as verdicts
-use Rattle.formats.specs.Rules.{verdict}
+use Rattle.formats.specs.Rules.{verdict, Verdict}
 use Rattle.formats.specs.Tree.{Nodes, size, encode, parse, records_in}
 use Rattle.formats.proofs.record.Codes.{length-encode}
 use Rattle.modifiers.specs.Reading.{done, read_nodes}
 use Rattle.calculus.proofs.Good.{derive-good}
 use Rattle.writing.specs.Draft.Writing.{wrote}
-use Rattle.running.specs.declared.RunAnswer.{RunAnswer}
-use Rattle.running.specs.declared.RunAnswer.TheVariants.{Value}
-use Rattle.running.specs.Running.{run_nodes, run_list}
+use Rattle.running.specs.Running.{run_nodes, run_list, RunAnswer, Value}
 use Rattle.algebra.specs.declared.answer.Answer.{Answer}
 use Rattle.algebra.specs.declared.answer.Answer.TheVariants.{Done}
 use Rattle.algebra.specs.Answer.Making.{Made, of_list, write, derive_and_write, Gives}
@@ -47,8 +44,8 @@ use Rattle.theorems.proofs.Speed.Theorem.{power-sum}
 
 -- without a complex step there are no imaginary parts
 by-real : (v : Verdict) (ns : Nodes) {s : Sum} {h : Bool} {k : ℕ} → by_verdict v (read_nodes ns) ≡ done s false h k → RealSum s
-by-real verdicts.Good ns e = read_real ns e
-by-real (verdicts.Refused q) ns e = let z : ◌≡◌ {A = ℕ} 0 1 = cc in absurd (omega arith)
+by-real (Ok tt) ns e = read_real ns e
+by-real (Err q) ns e = let z : ◌≡◌ {A = ℕ} 0 1 = cc in absurd (omega arith)
 
 list-real : (l : List ℕ) {s : Sum} {h : Bool} {k : ℕ} → read_list l ≡ done s false h k → RealSum s
 unfolding read_list

@@ -13,13 +13,12 @@ use Rattle.limits.specs.Refusals.{refusal_no}
 use Rattle.sums.specs.Tree.Sums.{Sum}
 use Rattle.sums.specs.Tree.Map.{Outcome, sum, refused}
 use Rattle.arithmetic.specs.Singles.{GoodSum}
-use Rattle.stack.proofs.Sizes.{good-some}
-use Rattle.formats.specs.declared.record.Verdict.TheVariants as verdicts
+use Rattle.stack.proofs.Sizes.{good-some, not-empty}
 use Rattle.formats.specs.Rules.{verdict}
 use Rattle.formats.specs.Tree.{Nodes, encode, records_in}
 use Rattle.formats.proofs.record.Codes.{length-encode}
-use Rattle.sums.specs.declared.entry.Taken.{Taken}
-use Rattle.sums.specs.declared.entry.Taken.TheVariants as taken
+use Rattle.std.specs.Prelude.{Result, Ok, Err}
+use Rattle.limits.specs.declared.Refusal.{Refusal}
 use Rattle.sums.specs.Entry.Encoding.{entries_in, encode_sum}
 use Rattle.sums.specs.Entry.Taking.{Weighed}
 use Rattle.sums.proofs.bytes.Laws.{length-sum}
@@ -28,7 +27,6 @@ use Rattle.modifiers.specs.Reading.{Read, done}
 use Rattle.modifiers.specs.Reading as reading
 use Rattle.calculus.specs.Derivative as derivatives
 use Rattle.calculus.specs.Integral as integrals
-use Rattle.stack.proofs.Sizes.{not-empty}
 use Rattle.calculus.proofs.Good.{derive-good, integrate-good}
 use Rattle.writing.specs.Draft.Writing.{Written, wrote}
 use Rattle.writing.specs.ToNodes.{to_nodes}
@@ -38,8 +36,7 @@ use Rattle.writing.proofs.Writers.{faithful-good}
 use Rattle.inverse.specs.Inverse as inverses
 use Rattle.inverse.proofs.Good as inverse-laws
 use Rattle.algebra.specs.declared.answer.Answer.TheVariants as given
-use Rattle.algebra.specs.Answer.Making.{Made, refused_at, of_outcome, of_sum, of_list, write, write_faithful, invert, derive, integrate, derive_and_write, integrate_and_write, Gives, OfBytes}
-use Rattle.algebra.specs.Answer.Making.{derive_and_write_faithful, integrate_and_write_faithful}
+use Rattle.algebra.specs.Answer.Making.{Made, refused_at, of_outcome, of_sum, of_list, write, write_faithful, invert, derive, integrate, derive_and_write, integrate_and_write, Gives, OfBytes, derive_and_write_faithful, integrate_and_write_faithful}
 use Rattle.algebra.proofs.answer.Told.{success, sum-made, list-made, not_made, first-bytes}
 use Rattle.algebra.specs.Reading.{read_list}
 use Rattle.algebra.specs.Entries.{after_read, inverse_of, derivative, integral, derivative_faithful, integral_faithful, inverse}
@@ -60,9 +57,9 @@ record TakenSum (f : Sum → Made) (room : List ℕ → ℕ) (out out' : List �
 was-taken : {room : List ℕ → ℕ} {f : Sum → Made} {l out out' : List ℕ} {n : ℕ} → OfBytes room f l out out' (given.Done n) → TakenSum f room out out' n
 was-taken {room} {f} {l} {out} {out'} {n} p = go p.weight refl
   where
-    go : (t : Taken) → p.weight ≡ t → TakenSum f room out out' n
-    go (taken.Refused q) e = absurd (not_made (success room (refused_at q 0) (p.refuses q e)).is)
-    go (taken.Sum k) e =
+    go : (t : Result ℕ Refusal) → p.weight ≡ t → TakenSum f room out out' n
+    go (Err q) e = absurd (not_made (success room (refused_at q 0) (p.refuses q e)).is)
+    go (Ok k) e =
         let w = (p.weighed.good k).0 e in
         record { s = w.0; good = record { good = w.3; room = w.2.few; some = not-empty w.0 w.2.some }; gives = p.takes k e w.0 w.1 w.3 }
 
@@ -76,7 +73,7 @@ made-taken g keeps {l} {out} {out'} {n} p t w =
     let d = sum-made (g k.s) o.is in
     let good = keeps k.s d.s k.good d.is in
     let bytes = ap (take (32 * n)) (o.written ∙ ap (sets out 0) d.these) ∙ first-bytes (encode_sum d.s) out (32 * n) (omega (arith, d.many, length-sum d.s)) (omega (arith, o.fits)) in
-    good-taken d.s t good.good (good-some good) good.room (subst (λ z. Weighed z t) bytes w) ∙ ap taken.Sum (sym d.many)
+    good-taken d.s t good.good (good-some good) good.room (subst (λ z. Weighed z t) bytes w) ∙ ap Ok (sym d.many)
 
 derived-taken : {l out out' : List ℕ} {n : ℕ} → OfBytes entries_in derive l out out' (given.Done n) → SumTaken n out'
 unfolding derive
@@ -89,7 +86,7 @@ integrated-taken p = made-taken integrals.integrate (λ s d g e. integrate-good 
 read_taken : (l : List ℕ) {out out' : List ℕ} {n k : ℕ} {c : Bool} → ReadGives (read_list l) out out' (answer.Sum n c k) → SumTaken n out'
 read_taken l p t w =
     let r = read_told (read_list l) p in
-    sum-taken l t r.is (subst (λ z. Weighed z t) r.bytes w) ∙ ap taken.Sum (sym r.many)
+    sum-taken l t r.is (subst (λ z. Weighed z t) r.bytes w) ∙ ap Ok (sym r.many)
 
 -- ---- lists
 
@@ -110,7 +107,7 @@ list_written {out} {out'} {n} w g =
     }
 
 list-good : {out out' : List ℕ} {n : ℕ} (w : Written) → Gives records_in (of_list w) out out' (given.Done n)
-    → ((ns : Nodes) → w ≡ wrote ns → verdict (encode ns) ≡ verdicts.Good) → ListGood n out'
+    → ((ns : Nodes) → w ≡ wrote ns → verdict (encode ns) ≡ Ok tt) → ListGood n out'
 list-good w g h = let k = list_written w g in ap verdict k.bytes ∙ h k.ns k.is
 
 -- a writer writes good lists of good sums

@@ -1,5 +1,5 @@
 -- The lists to try that document 01 marks with a star: for each the entry, the bytes handed over, and the answer with the bytes written.
-use Rattle.std.specs.Prelude.{ℕ, min, ◌≡◌, Bool, false, List, [], ◌∷◌, ◌++◌, Float}
+use Rattle.std.specs.Prelude.{ℕ, min, ◌≡◌, Bool, false, List, [], ◌∷◌, ◌++◌, Float, Ok, Err}
 use Rattle.std.specs.Float.{binary64}
 use Rattle.std.specs.Float.Ieee.{of_bits}
 use Rattle.numbers.specs.Constants.{euler}
@@ -17,9 +17,8 @@ use Rattle.sums.specs.Entry.Encoding.{encode_sum}
 use Rattle.stack.specs.State.{most_pairs}
 use Rattle.modifiers.specs.Reading as reading
 use Rattle.writing.specs.Draft.Writing.{push, does, on, body}
-use Rattle.running.specs.declared.RunAnswer.{RunAnswer}
-use Rattle.running.specs.declared.RunAnswer.TheVariants as ran
-use Rattle.running.specs.Running.{run_list}
+use Rattle.running.specs.Running as ran
+use Rattle.running.specs.Running.{run_list, RunAnswer}
 use Rattle.algebra.specs.Answer.Making.{Made, made, refused_at}
 use Rattle.algebra.specs.Reading.{read_list}
 use Rattle.algebra.specs.Entries
@@ -45,8 +44,8 @@ of_made (made n bytes) = wrote n false 0 bytes
 of_made (refused_at q at) = refused q at
 
 abbrev pub of_run : RunAnswer → Shown
-of_run (ran.Value v steps peak) = value v steps peak
-of_run (ran.Refused q at) = refused q at
+of_run (Ok ran-to) = value ran-to.value ran-to.steps ran-to.peak
+of_run (Err ran-to) = refused ran-to.why ran-to.place
 
 abbrev pub shown : Handed → List ℕ → Shown
 shown read l = of_read (read_list l)

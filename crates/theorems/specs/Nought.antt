@@ -7,8 +7,7 @@ use Rattle.arithmetic.specs.Singles.{constant}
 use Rattle.formats.specs.declared.record.Primitive.TheVariants.{Pow}
 use Rattle.writing.specs.Draft.Writing.{push, does}
 use Rattle.modifiers.specs.Reading.{done}
-use Rattle.running.specs.declared.RunAnswer.TheVariants.{Value}
-use Rattle.running.specs.Running.{run_list}
+use Rattle.running.specs.Running.{run_list, Value}
 use Rattle.algebra.specs.Reading.{read_list}
 use Rattle.theorems.specs.Cases.{bytes_of}
 

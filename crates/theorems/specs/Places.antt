@@ -9,9 +9,8 @@ use Rattle.numbers.specs.declared.complex.Complex.{Complex}
 use Rattle.limits.specs.Limits.{record_bytes}
 use Rattle.limits.specs.declared.Refusal.TheVariants.{NotFinite}
 use Rattle.formats.specs.Tree.{records_in}
-use Rattle.running.specs.declared.RunAnswer.TheVariants.{Refused}
 use Rattle.running.specs.Primitives.{times}
-use Rattle.running.specs.Running.{run_list}
+use Rattle.running.specs.Running.{run_list, Refused}
 use Rattle.algebra.specs.declared.answer.Answer.{Answer}
 use Rattle.algebra.specs.Answer.Making.{Gives}
 use Rattle.algebra.specs.Entries.{derivative}

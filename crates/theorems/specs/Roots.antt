@@ -13,8 +13,7 @@ use Rattle.sums.specs.Tree.Map.{sum}
 use Rattle.formats.specs.Tree.{records_in}
 use Rattle.modifiers.specs.Reading.{done}
 use Rattle.calculus.specs.Derivative.{derive}
-use Rattle.running.specs.declared.RunAnswer.TheVariants.{Value, Refused}
-use Rattle.running.specs.Running.{run_list}
+use Rattle.running.specs.Running.{run_list, Value, Refused}
 use Rattle.algebra.specs.declared.answer.Answer.{Answer}
 use Rattle.algebra.specs.declared.answer.Answer.TheVariants.{Done}
 use Rattle.algebra.specs.Answer.Making.{Gives}

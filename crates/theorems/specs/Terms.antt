@@ -1,9 +1,8 @@
 -- Sums of whole powers of x and of its square root: which terms they have.
-use Rattle.std.specs.Prelude.{ℕ, suc, ◌*◌, ◌≤◌, ◌≡◌, true, false, List, [], ◌∷◌, Float}
+use Rattle.std.specs.Prelude.{ℕ, suc, ◌*◌, ◌≤◌, ◌≡◌, true, false, List, [], ◌∷◌, Float, Some}
 use Rattle.std.specs.Float.Ieee.{eq}
 use Rattle.numbers.specs.Constants.{half64}
 use Rattle.numbers.specs.Numbers.{small_whole}
-use Rattle.numbers.specs.declared.SmallWhole.TheVariants.{Is}
 use Rattle.numbers.specs.declared.complex.Complex.{Complex}
 use Rattle.numbers.specs.Complex.Arith as complex
 use Rattle.sums.specs.Tree.Kinds as kinds
@@ -12,12 +11,12 @@ use Rattle.values.specs.Value.{Exponent, whole, half, Power, power}
 
 -- p is the whole number k, from 0 to 64
 abbrev pub IsWhole : Float → Exponent → Type 0
-IsWhole p (whole k) = small_whole p ≡ Is k
+IsWhole p (whole k) = small_whole p ≡ Some k
 IsWhole p half = ⊥
 
 -- p is such a number, or 0.5; it is compared as a number
 abbrev pub IsWholeOrHalf : Float → Exponent → Type 0
-IsWholeOrHalf p (whole k) = small_whole p ≡ Is k
+IsWholeOrHalf p (whole k) = small_whole p ≡ Some k
 IsWholeOrHalf p half = eq p half64 ≡ true
 
 -- the terms of the sum that aren't zero are x to powers that are allowed, and ts lists them with their coefficients

@@ -1,11 +1,9 @@
 -- What the entries write is good: a sum is taken again by whatever is handed its bytes, and a list keeps the rules of 11 and 13.
-use Rattle.std.specs.Prelude.{ℕ, ◌*◌, ◌≡◌, Bool, List, take}
+use Rattle.std.specs.Prelude.{ℕ, ◌*◌, ◌≡◌, Bool, List, take, Ok, Result}
 use Rattle.limits.specs.Limits.{record_bytes, entry_bytes}
-use Rattle.formats.specs.declared.record.Verdict.TheVariants as verdicts
 use Rattle.formats.specs.Rules.{verdict}
 use Rattle.formats.specs.Tree.{records_in}
-use Rattle.sums.specs.declared.entry.Taken.{Taken}
-use Rattle.sums.specs.declared.entry.Taken.TheVariants as taken
+use Rattle.limits.specs.declared.Refusal.{Refusal}
 use Rattle.sums.specs.Entry.Encoding.{entries_in}
 use Rattle.sums.specs.Entry.Taking.{Weighed}
 use Rattle.algebra.specs.declared.answer.Answer.TheVariants as given
@@ -18,11 +16,11 @@ use Rattle.theorems.specs.Composing.{ReadGives}
 
 -- the output's first n entries are weighed as the n entries of a sum
 abbrev pub SumTaken : ℕ → List ℕ → Type 0
-SumTaken n out' = (t : Taken) → Weighed (take (entry_bytes * n) out') t → t ≡ taken.Sum n
+SumTaken n out' = (t : Result ℕ Refusal) → Weighed (take (entry_bytes * n) out') t → t ≡ Ok n
 
 -- the output's first n records are a list that isn't refused with 11 or 13
 abbrev pub ListGood : ℕ → List ℕ → Type 0
-ListGood n out' = verdict (take (record_bytes * n) out') ≡ verdicts.Good
+ListGood n out' = verdict (take (record_bytes * n) out') ≡ Ok tt
 
 -- the ten entries that write, where they tell n entries or n records
 pub record WritesGood : Type 0 where

@@ -5,13 +5,12 @@ use mathlib.Core.Bool.{Bool, true, false, cond}
 use mathlib.Core.List.{List, [], ◌∷◌}
 use lib.Ieee.{Float}
 use mir.Val.{bool_byte}
-use Rattle.running.specs.declared.RunAnswer.{RunAnswer}
 use Rattle.running.specs.declared.RunNumbers.{RunNumbers}
-use Rattle.running.specs.Running.{numbers_of}
-use Rattle.values.specs.declared.ValueAnswer.{ValueAnswer}
+use Rattle.running.specs.Running.{numbers_of, RunAnswer}
+use Rattle.std.specs.Prelude.{Result}
+use Rattle.limits.specs.declared.Refusal.{Refusal}
 use Rattle.values.specs.declared.ValueNumbers.{ValueNumbers}
 use Rattle.values.specs.ValueOf.{value_numbers}
-use Rattle.reading.specs.declared.cost.CostAnswer.{CostAnswer}
 use Rattle.reading.specs.declared.cost.CostNumbers.{CostNumbers}
 use Rattle.reading.specs.Cost.Cost.{cost_numbers}
 use Rattle.algebra.specs.declared.answer.Answer.{Answer}
@@ -45,10 +44,10 @@ pub told-run : {x : Float} {l : List ℕ} {n : RunNumbers} (a : RunAnswer) → P
     → Ran x l n.number n.value (n.place ∷ n.steps ∷ n.peak ∷ [])
 told-run a p i = record { reply = of_run a; promised = p; returned = ap (λ z. z.number) i; valued = ap (λ z. z.value) i; told = ap (λ z. z.place ∷ z.steps ∷ z.peak ∷ []) i }
 
-pub told-value : {x : Float} {l : List ℕ} {n : ValueNumbers} (a : ValueAnswer) → Promised (entry.value x) l [] [] (of_value a) → n ≡ value_numbers a
+pub told-value : {x : Float} {l : List ℕ} {n : ValueNumbers} (a : Result Float Refusal) → Promised (entry.value x) l [] [] (of_value a) → n ≡ value_numbers a
     → Valued (entry.value x) with_count l n.number n.value (n.place ∷ n.count ∷ [])
 told-value a p i = record { reply = of_value a; promised = p; returned = ap (λ z. z.number) i; valued = ap (λ z. z.value) i; told = ap (λ z. z.place ∷ z.count ∷ []) i }
 
-pub told-cost : {l : List ℕ} {n : CostNumbers} (a : CostAnswer) → Promised entry.cost l [] [] (of_cost a) → n ≡ cost_numbers a
+pub told-cost : {l : List ℕ} {n : CostNumbers} (a : Result ℕ Refusal) → Promised entry.cost l [] [] (of_cost a) → n ≡ cost_numbers a
     → Told entry.cost with_cost l [] [] n.number (n.place ∷ n.steps ∷ [])
 told-cost a p i = record { reply = of_cost a; promised = p; returned = ap (λ z. z.number) i; told = ap (λ z. z.place ∷ z.steps ∷ []) i }

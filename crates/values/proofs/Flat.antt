@@ -15,7 +15,7 @@ use lib.Ieee.Scale.{finite}
 use Rattle.numbers.proofs.Bools.{T_of}
 use Rattle.numbers.specs.Complex.Arith as complex
 use Rattle.numbers.specs.Order.{cmp_num, and_then}
-use Rattle.numbers.specs.declared.Ordering.TheVariants.{Less, Equal}
+use Rattle.std.specs.declared.cmp.Ordering.TheVariants.{Less, Equal}
 use Rattle.numbers.proofs.Order.{cmp-less, then_equal}
 use Rattle.formats.specs.Bytes.{Bytes, number}
 use Rattle.formats.proofs.record.Bytes.{number-four, number-eight}

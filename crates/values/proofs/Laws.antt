@@ -7,9 +7,9 @@ use native.Mathlib.Omega.{arith}
 use lib.Dec.{eqb}
 use lib.Ieee.{Float}
 use lib.Ieee.Scale.{finite}
+use Rattle.std.specs.Prelude.{Some, None}
 use Rattle.numbers.proofs.Bools.{and-true, and-false}
 use Rattle.numbers.specs.Numbers.{small_whole}
-use Rattle.numbers.specs.declared.SmallWhole.TheVariants.{Is, Other}
 use Rattle.numbers.specs.Complex.Arith as complex
 use Rattle.cells.specs.declared.Entry.{Entry}
 use Rattle.sums.specs.Tree.Kinds as kinds
@@ -55,7 +55,7 @@ module _ (x : Float) (f : Found) (e : Entry) where
   takes-zero z r = record { powers = rw z (sym (and-true f.whole)); reals = rw z (sym (and-true f.real)); sums = λ ts. rw z refl; reached = r }
 
   -- one that isn't a whole power adds nothing
-  pub takes-other : (r : Bool) → is_zero e.coef ≡ false → small_whole e.num ≡ Other → r ≡ complex.is_real e.coef → Reached x f
+  pub takes-other : (r : Bool) → is_zero e.coef ≡ false → small_whole e.num ≡ None → r ≡ complex.is_real e.coef → Reached x f
       → Takes x f e record { whole = false; real = f.real && r; any = f.any; sum = f.sum; exponent = f.exponent; power = f.power }
   takes-other r z o i h = record {
     powers = rw (z, o) (sym (and-false f.whole));
@@ -65,7 +65,7 @@ module _ (x : Float) (f : Found) (e : Entry) where
   }
 
   -- one that is adds its value
-  pub takes-power : (r : Bool) (n : ℕ) (g : Found) → is_zero e.coef ≡ false → small_whole e.num ≡ Is n → r ≡ complex.is_real e.coef
+  pub takes-power : (r : Bool) (n : ℕ) (g : Found) → is_zero e.coef ≡ false → small_whole e.num ≡ Some n → r ≡ complex.is_real e.coef
       → Adds x record { whole = f.whole && eqb e.kind kinds.X; real = f.real && r; any = f.any; sum = f.sum; exponent = f.exponent; power = f.power } n e.coef g
       → Takes x f e g
   takes-power r n g z w i a = record {

@@ -5,25 +5,17 @@ pub mod powers;
 
 ghost use Rattle.std.specs.Prelude.{◌≡◌, [], ◌+◌, ◌-◌, ◌≤◌, ◌<◌};
 ghost use Rattle.limits.specs.Limits.{sum_levels};
-ghost use Rattle.cells.specs.Contract.Book.{book};
+ghost use Rattle.cells.specs.Contract.Book.{seen};
 ghost use Rattle.running.specs.Primitives.{times};
 ghost use Rattle.sums.specs.Contract.Lies.{Held, OfOne};
 ghost use Rattle.values.specs.Value.{is_one, times_unless};
 ghost use Rattle.values.specs.ValueOf.{value_of, value_numbers};
 ghost use Rattle.values.specs.Contract.Findings.{plus, onward, judged, Reached, Adds, Takes, Starts, Finds};
 
-use cells::Entry;
+use cells::{Book, Entry};
 use limits::Refusal;
-use numbers::SmallWhole;
 use numbers::complex::Complex;
 use sums::tree::X;
-
-// A value, or a refusal; everything is at place 0.
-#[derive(Clone, Copy)]
-pub enum ValueAnswer {
-    Value(f64),
-    Refused(Refusal),
-}
 
 #[derive(Clone, Copy)]
 pub struct ValueNumbers {
@@ -46,17 +38,17 @@ struct Found {
 }
 
 // The numbers of an answer.
-pub fn value_numbers(a: ValueAnswer) -> ValueNumbers
+pub fn value_numbers(a: Result<f64, Refusal>) -> ValueNumbers
     ensures { result ≡ value_numbers a }
 {
     match a {
-        ValueAnswer::Value(v) => ValueNumbers {
+        Ok(v) => ValueNumbers {
             number: 0,
             place: 0,
             count: 0,
             value: v,
         },
-        ValueAnswer::Refused(q) => ValueNumbers {
+        Err(q) => ValueNumbers {
             number: limits::refusal_no(q),
             place: 0,
             count: 0,
@@ -119,22 +111,18 @@ fn add_power(x: f64, f: Found, n: u64, c: Complex) -> Found
 {
     if n == 0 {
         return Found {
-            whole: f.whole,
-            real: f.real,
             any: true,
             sum: plus(f, x * 0.0 + c.re),
-            exponent: f.exponent,
-            power: f.power,
+            ..f
         };
     }
     let p = power_of_x(x, f, n);
     Found {
-        whole: f.whole,
-        real: f.real,
         any: true,
         sum: plus(f, times_coef(p, c)),
         exponent: n,
         power: p,
+        ..f
     }
 }
 
@@ -148,23 +136,17 @@ fn take_term(x: f64, f: Found, e: Entry) -> Found
         return f;
     }
     let real = f.real & c.is_real();
-    let SmallWhole::Is(n) = numbers::small_whole(e.num) else {
+    let Some(n) = numbers::small_whole(e.num) else {
         return Found {
             whole: false,
-            real: real,
-            any: f.any,
-            sum: f.sum,
-            exponent: f.exponent,
-            power: f.power,
+            real,
+            ..f
         };
     };
     let asked = Found {
         whole: f.whole & (e.kind == X),
-        real: real,
-        any: f.any,
-        sum: f.sum,
-        exponent: f.exponent,
-        power: f.power,
+        real,
+        ..f
     };
     add_power(x, asked, n, c)
 }
@@ -182,20 +164,20 @@ fn total(x: f64, f: Found) -> f64
 }
 
 // What was found, judged: 14 for the whole sum comes before 15. One test at the end is enough, since what isn't finite stays so.
-fn judge(x: f64, f: Found) -> ValueAnswer
+fn judge(x: f64, f: Found) -> Result<f64, Refusal>
     ensures { result ≡ judged f.whole f.real (onward x f.any f.sum []) }
 {
     if !f.whole {
-        return ValueAnswer::Refused(Refusal::NeedsMath);
+        return Err(Refusal::NeedsMath);
     }
     if !f.real {
-        return ValueAnswer::Refused(Refusal::NotFinite);
+        return Err(Refusal::NotFinite);
     }
     let v = total(x, f);
     if !numbers::is_finite(v) {
-        return ValueAnswer::Refused(Refusal::NotFinite);
+        return Err(Refusal::NotFinite);
     }
-    ValueAnswer::Value(v)
+    Ok(v)
 }
 
 // Before the first term: the last power of x is x itself.
@@ -213,14 +195,14 @@ fn nothing_found(x: f64) -> Found
 }
 
 // The outermost terms of the sum of the first n cells, in turn.
-fn find(kinds: &[u8], insides: &[u8], numbers: &[[u64; 3]], n: usize, x: f64) -> Found
-    requires { Held (book kinds.now insides.now numbers.now) 0 n sum_levels }
-    ensures { OfOne (book kinds.now insides.now numbers.now) 0 n sum_levels (λ s. Finds x s result) }
+fn find(book: &Book, n: usize, x: f64) -> Found
+    requires { Held (seen book.now) 0 n sum_levels }
+    ensures { OfOne (seen book.now) 0 n sum_levels (λ s. Finds x s result) }
 {
     let mut f = nothing_found(x);
     let mut i = 0usize;
     while i < n {
-        let e = cells::load(kinds, insides, numbers, i);
+        let e = book.load(i);
         f = take_term(x, f, e);
         i = i + 1 + e.inside as usize;
     }
@@ -228,13 +210,13 @@ fn find(kinds: &[u8], insides: &[u8], numbers: &[[u64; 3]], n: usize, x: f64) ->
 }
 
 // The value at x of the sum of the first n cells.
-pub fn value_of(kinds: &[u8], insides: &[u8], numbers: &[[u64; 3]], n: usize, x: f64) -> ValueAnswer
-    requires { Held (book kinds.now insides.now numbers.now) 0 n sum_levels }
-    ensures { OfOne (book kinds.now insides.now numbers.now) 0 n sum_levels (λ s. result ≡ value_of s x) }
+pub fn value_of(book: &Book, n: usize, x: f64) -> Result<f64, Refusal>
+    requires { Held (seen book.now) 0 n sum_levels }
+    ensures { OfOne (seen book.now) 0 n sum_levels (λ s. result ≡ value_of s x) }
 {
     if !numbers::is_finite(x) {
-        return ValueAnswer::Refused(Refusal::NotFinite);
+        return Err(Refusal::NotFinite);
     }
-    let f = find(kinds, insides, numbers, n, x);
+    let f = find(book, n, x);
     judge(x, f)
 }

@@ -4,28 +4,14 @@ ghost use Rattle.std.specs.Prelude.{◌≡◌, true, ◌+◌, ◌*◌, ◌≤◌
 ghost use Rattle.limits.specs.Limits.{entry_bytes};
 ghost use Rattle.values.specs.Contract.Powers.{entry_at, PowerAt, FindsPowers, QuickOf};
 
-use crate::{Found, ValueAnswer};
+use crate::Found;
 use cells::Entry;
-use limits::{ENTRY_BYTES, SUM_ENTRIES};
+use limits::{ENTRY_BYTES, Refusal, SUM_ENTRIES};
 use numbers::complex::Complex;
 use sums::tree::X;
 
 // An entry's first word: the kind of a power of x, with nothing inside.
 const POWER: u64 = X as u64;
-
-// What was found in a sum of powers, or that the bytes are something else.
-#[derive(Clone, Copy)]
-enum Met {
-    Powers(Found),
-    Other,
-}
-
-// The value, or that the bytes are something else.
-#[derive(Clone, Copy)]
-pub enum Quick {
-    Answer(ValueAnswer),
-    Other,
-}
 
 // Whether the entry at place i is a power of x whose numbers are finite.
 fn is_power(list: &[u8], i: usize) -> bool
@@ -63,7 +49,7 @@ fn power_at(list: &[u8], i: usize) -> Entry
 }
 
 // The n entries in turn, as long as each is a power above the one before it; the first is above -1.
-fn find_powers(list: &[u8], n: usize, x: f64) -> Met
+fn find_powers(list: &[u8], n: usize, x: f64) -> Option<Found>
     requires { entry_bytes * n ≤ length list.now }
     ensures { FindsPowers list.now n x result }
 {
@@ -72,39 +58,39 @@ fn find_powers(list: &[u8], n: usize, x: f64) -> Met
     let mut i = 0usize;
     while i < n {
         if !is_power(list, i) {
-            return Met::Other;
+            return None;
         }
         let e = power_at(list, i);
         if !(last < e.num) {
-            return Met::Other;
+            return None;
         }
         f = crate::take_term(x, f, e);
         last = e.num;
         i = i + 1;
     }
-    Met::Powers(f)
+    Some(f)
 }
 
 // The value at x of the sum of powers that these bytes are.
-pub fn quick_value(list: &[u8], x: f64) -> Quick
+pub fn quick_value(list: &[u8], x: f64) -> Option<Result<f64, Refusal>>
     ensures { QuickOf list.now x result }
 {
     let n = list.len() / ENTRY_BYTES;
     if list.len() % ENTRY_BYTES != 0 {
-        return Quick::Other;
+        return None;
     }
     if n < 1 {
-        return Quick::Other;
+        return None;
     }
     if n > SUM_ENTRIES {
-        return Quick::Other;
+        return None;
     }
     if !numbers::is_finite(x) {
-        return Quick::Other;
+        return None;
     }
     let met = find_powers(list, n, x);
     match met {
-        Met::Powers(f) => Quick::Answer(crate::judge(x, f)),
-        Met::Other => Quick::Other,
+        Some(f) => Some(crate::judge(x, f)),
+        None => None,
     }
 }

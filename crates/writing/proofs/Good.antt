@@ -8,6 +8,7 @@ use lib.Ieee.{Float, binary64, fits}
 use lib.Ieee.Bits.{of_bits-fits}
 use lib.Ieee.Fits.{and_r}
 use lib.Ieee.Scale.{finite}
+use Rattle.std.specs.Prelude.{Ok}
 use Rattle.numbers.specs.Signs.{zero64, one64}
 use Rattle.numbers.specs.declared.complex.Complex.{Complex}
 use Rattle.numbers.specs.Complex.Arith as complex
@@ -17,14 +18,12 @@ use Rattle.sums.specs.Tree.Good.{Good}
 use Rattle.arithmetic.specs.Singles.{GoodSum}
 use Rattle.formats.specs.declared.record.Primitive.{Primitive}
 use Rattle.formats.specs.declared.record.Primitive.TheVariants as prim
-use Rattle.formats.specs.declared.record.Verdict.TheVariants as verdicts
 use Rattle.formats.specs.Names.{choose}
 use Rattle.formats.specs.Tree.{Nodes, end, rec, height, encode}
 use Rattle.formats.specs.Rules.{verdict}
 use Rattle.writing.specs.Draft.Writing.{push, does, append, one, two, Written, wrote, refused, and_then, number, number_record, can_write, if_can}
 use Rattle.writing.proofs.draft.Fine.{Fine, fine_more, fine_end, fine-one, fine-append, fine-two, fine-say, fine-wrapped, fine-good, plain-does, plain_push, plain-number}
-use Rattle.writing.specs.ToNodes.{Form, constant, root, bare, square, power, form, is_bare, is_constant, is_empty, primitive_for, function_of, before, write_power, write_term}
-use Rattle.writing.specs.ToNodes.{times_coef, plus, close, turn, write, to_nodes}
+use Rattle.writing.specs.ToNodes.{Form, constant, root, bare, square, power, form, is_bare, is_constant, is_empty, primitive_for, function_of, before, write_power, write_term, times_coef, plus, close, turn, write, to_nodes}
 
 -- ---- what is written is written in parts
 
@@ -200,6 +199,6 @@ first-writer flag = record {
 }
 
 -- what a good sum is written as is a good list
-pub written-good : (flag : Bool) (s : Sum) (ns : Nodes) → GoodSum s → to_nodes flag s ≡ wrote ns → verdict (encode ns) ≡ verdicts.Good
+pub written-good : (flag : Bool) (s : Sum) (ns : Nodes) → GoodSum s → to_nodes flag s ≡ wrote ns → verdict (encode ns) ≡ Ok tt
 unfolding first-writer write
 written-good flag s ns g e = fine-good ns (omega arith) (omega arith) (whole-fine (first-writer flag) s ns g e)

@@ -18,8 +18,8 @@ use Rattle.formats.specs.declared.record.Primitive.{Primitive}
 use Rattle.formats.specs.declared.record.Primitive.TheVariants as prim
 use Rattle.formats.specs.Tree.{Nodes, end, rec, size}
 use Rattle.writing.specs.declared.draft.Draft.{Draft}
-use Rattle.writing.specs.declared.draft.Said.{Said}
-use Rattle.writing.specs.declared.draft.Said.TheVariants as said
+use Rattle.std.specs.Prelude.{Result, Ok}
+use Rattle.limits.specs.declared.Refusal.{Refusal}
 use Rattle.writing.specs.Draft.Writing.{push, does, append, one, two, wrapped, Written}
 use Rattle.writing.specs.Draft.Contract.Lying.{Lying, SaidAs}
 use Rattle.writing.specs.Draft.Contract.Growing.{Drawn, Spoken}
@@ -56,7 +56,7 @@ module _ {b b' : List ℕ} {d : Draft} {f r : ℕ} where
   pub drawn-where : {q : Draft} {h : Nodes → Nodes} → Drawn b b' d q f r h → (g : Nodes → Nodes) → ((ns : Nodes) → d.from + size ns ≡ d.end → h ns ≡ g ns) → Drawn b b' d q f r g
   drawn-where {q} s g e = record { grown = s.grown; long = s.long; lies = λ ns l. subst (Lying b' q) (e ns l.ends) (s.lies ns l) }
 
-  pub spoken-where : {s : Said} {h : Nodes → Written} → Spoken b b' d s f r h → (g : Nodes → Written) → ((ns : Nodes) → d.from + size ns ≡ d.end → h ns ≡ g ns) → Spoken b b' d s f r g
+  pub spoken-where : {s : Result Draft Refusal} {h : Nodes → Written} → Spoken b b' d s f r h → (g : Nodes → Written) → ((ns : Nodes) → d.from + size ns ≡ d.end → h ns ≡ g ns) → Spoken b b' d s f r g
   spoken-where {s} k g e = record { grown = k.grown; long = k.long; lies = λ ns l. subst (SaidAs s b') (e ns l.ends) (k.lies ns l) }
 
 -- ---- two records
@@ -89,7 +89,7 @@ module _ (p : Float) where
   form-power a b c d = rw (a, b, c, d)
 
   module _ {b b' : List ℕ} {d : Draft} (flag : Bool) (c : Complex) where
-    pub power-as : {s : Said} {m : Form} → form p ≡ m → Spoken b b' d s 0 4 (λ ns. write_power m p flag c ns) → Spoken b b' d s 0 4 (λ ns. write_power (form p) p flag c ns)
+    pub power-as : {s : Result Draft Refusal} {m : Form} → form p ≡ m → Spoken b b' d s 0 4 (λ ns. write_power m p flag c ns) → Spoken b b' d s 0 4 (λ ns. write_power (form p) p flag c ns)
     power-as e k = spoken-as k (λ ns. write_power (form p) p flag c ns) (λ ns. ap (λ (m : Form). write_power m p flag c ns) (sym e))
 
 pub finite-zero : T (finite zero64)
@@ -184,10 +184,10 @@ module _ {b : List ℕ} {d : Draft} {w : Bool} where
   plus-more e s = drawn-as s (λ ns. plus w ns) (λ ns. ap (λ (v : Bool). plus v ns) (sym e))
 
   module _ (flag : Bool) (c : Complex) where
-    pub times_none : w ≡ false → Spoken b b d (said.Done d) 0 2 (λ ns. times_coef w flag c ns)
+    pub times_none : w ≡ false → Spoken b b d (Ok d) 0 2 (λ ns. times_coef w flag c ns)
     times_none e = spoken-as (spoken-more spoken-none 0 2 (omega arith) (omega arith)) (λ ns. times_coef w flag c ns) (λ ns. ap (λ (v : Bool). times_coef v flag c ns) (sym e))
 
-    pub times-as : {b' : List ℕ} {s : Said} {f r : ℕ} {v : Bool} → v ≡ w → Spoken b b' d s f r (λ ns. times_coef v flag c ns) → Spoken b b' d s f r (λ ns. times_coef w flag c ns)
+    pub times-as : {b' : List ℕ} {s : Result Draft Refusal} {f r : ℕ} {v : Bool} → v ≡ w → Spoken b b' d s f r (λ ns. times_coef v flag c ns) → Spoken b b' d s f r (λ ns. times_coef w flag c ns)
     times-as e k = spoken-as k (λ ns. times_coef w flag c ns) (λ ns. ap (λ (v : Bool). times_coef v flag c ns) e)
 
   pub close-x : {b' : List ℕ} {q : Draft} → d.from ≡ d.end → w ≡ true → Drawn b b' d q 0 1 (λ ns. append ns (one (does prim.Identity))) → Drawn b b' d q 0 2 (λ ns. close w ns)

@@ -7,7 +7,9 @@ use mathlib.Core.List.{List}
 use lib.ListN.{replicate, length-replicate}
 use Rattle.sums.specs.Tree.Sums.{Sum}
 use Rattle.formats.specs.Tree.{end}
-use Rattle.writing.specs.declared.draft.Said.{Said}
+use Rattle.std.specs.Prelude.{Result}
+use Rattle.limits.specs.declared.Refusal.{Refusal}
+use Rattle.writing.specs.declared.draft.Draft.{Draft}
 use Rattle.writing.specs.Draft.Contract.Lying.{SaidAs}
 use Rattle.writing.specs.Draft.Contract.Growing.{Ready, Spoken}
 use Rattle.writing.specs.Contract.Room.{Spacious}
@@ -24,6 +26,6 @@ pub ready-start : {b : List ℕ} {front m : ℕ} → Spacious b front m → Read
 ready-start {b} {front} {m} r = ready-fresh front r.before r.after r.few
 
 -- what was said is the list of the whole sum, or its refusal
-pub said-whole : (flag : Bool) (t : Sum) {b b' : List ℕ} {s : Said} {front m : ℕ} → Spacious b front m
+pub said-whole : (flag : Bool) (t : Sum) {b b' : List ℕ} {s : Result Draft Refusal} {front m : ℕ} → Spacious b front m
     → Spoken b b' record { from = front; end = front } s (2 * m) (9 * m + 2) (λ ns. write flag t false ns) → SaidAs s b' (to_nodes flag t)
 said-whole flag t {b} {b'} {s} {front} {m} r k = k.lies end (fresh b front (omega (arith, r.after)))

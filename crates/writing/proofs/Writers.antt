@@ -8,6 +8,7 @@ use native.Mathlib.Omega.{arith}
 use borrow.Author.Tests.{eq-eqb, eqb-true}
 use lib.Dec.{eqb}
 use lib.Ieee.{Float}
+use Rattle.std.specs.Prelude.{Ok}
 use Rattle.numbers.specs.Signs.{zero64}
 use Rattle.numbers.specs.declared.complex.Complex.{Complex}
 use Rattle.numbers.specs.Complex.Arith as complex
@@ -18,7 +19,6 @@ use Rattle.sums.specs.Tree.Sums.{Sum, none, and, size}
 use Rattle.sums.specs.Contract.Place.{one_more, powers}
 use Rattle.arithmetic.specs.Singles.{GoodSum}
 use Rattle.formats.specs.declared.record.Primitive.TheVariants as prim
-use Rattle.formats.specs.declared.record.Verdict.TheVariants as verdicts
 use Rattle.formats.specs.Tree.{Nodes, end, height, encode}
 use Rattle.formats.specs.Rules.{verdict}
 use Rattle.writing.specs.Draft.Writing.{push, does, append, one, two, Written, wrote, refused, and_then, number, number_record, can_write, if_can}
@@ -187,7 +187,7 @@ second-writer flag = record {
 }
 
 -- what a good sum is written as is a good list
-pub faithful-good : (flag : Bool) (s : Sum) (ns : Nodes) → GoodSum s → faithful flag s ≡ wrote ns → verdict (encode ns) ≡ verdicts.Good
+pub faithful-good : (flag : Bool) (s : Sum) (ns : Nodes) → GoodSum s → faithful flag s ≡ wrote ns → verdict (encode ns) ≡ Ok tt
 unfolding second-writer write_faithful
 faithful-good flag s ns g e = fine-good ns (omega arith) (omega arith) (whole-fine (second-writer flag) s ns g e)
 

@@ -1,5 +1,6 @@
 -- What a list means, and what a sum says, in the same words: terms. The list is run by a stack machine that works nothing out: every name, arithmetic too, stays a symbol.
-use Rattle.std.specs.Prelude.{ℕ, ◌≡◌, Bool, true, false, ◌&&◌, List, [], ◌∷◌, eqb, Float}
+use Rattle.formats.specs.declared.record.Kind.{Kind}
+use Rattle.std.specs.Prelude.{ℕ, ◌≡◌, Bool, true, false, ◌&&◌, List, [], ◌∷◌, eqb, Float, Option, Some, None}
 use Rattle.std.specs.Float.{binary64}
 use Rattle.std.specs.Float.Ieee.{to_bits}
 use Rattle.numbers.specs.Signs.{zero64, one64}
@@ -8,8 +9,6 @@ use Rattle.numbers.specs.Complex.Arith as complex
 use Rattle.sums.specs.Tree.Kinds as kinds
 use Rattle.sums.specs.Tree.Sums.{Sum, none, and}
 use Rattle.formats.specs.declared.record.Record.{Record}
-use Rattle.formats.specs.declared.record.KindFound.{KindFound}
-use Rattle.formats.specs.declared.record.KindFound.TheVariants.{Known, Unknown}
 use Rattle.formats.specs.declared.record.Kind.TheVariants as kind
 use Rattle.formats.specs.declared.record.Primitive.{Primitive}
 use Rattle.formats.specs.declared.record.Primitive.TheVariants as prim
@@ -95,21 +94,21 @@ holding true inner (a ∷ s) = next (inner (a ∷ s)) (λ t. some (a ∷ t))
 holding false inner s = nothing
 
 -- one record, and how what is inside it runs; a body or a run is that and no more
-abbrev pub run_by : KindFound → Record → Nodes → (List Term → Values) → List Term → Values
-run_by (Known kind.RealPush) r ns inner s = some (real r.re ∷ s)
-run_by (Known kind.ComplexPush) r ns inner s = some (pair r.re r.im ∷ s)
-run_by (Known kind.ArrayPush) r ns inner s = nothing
-run_by (Known kind.OtherPush) r ns inner s = nothing
-run_by (Known kind.Primitive) r ns inner s = perform (primitive_of r.code) s
-run_by (Known kind.Modifier) r ns inner s = holding (eqb r.code (modifier_no On) && eqb (count ns) 1) inner s
-run_by (Known kind.Body) r ns inner s = inner s
-run_by (Known kind.Run) r ns inner s = inner s
-run_by (Known kind.CustomInverse) r ns inner s = nothing
-run_by (Known kind.Obverse) r ns inner s = nothing
-run_by (Known kind.NoNormal) r ns inner s = nothing
-run_by (Known kind.UnderMarker) r ns inner s = nothing
-run_by (Known kind.AnythingElse) r ns inner s = nothing
-run_by Unknown r ns inner s = nothing
+abbrev pub run_by : Option Kind → Record → Nodes → (List Term → Values) → List Term → Values
+run_by (Some kind.RealPush) r ns inner s = some (real r.re ∷ s)
+run_by (Some kind.ComplexPush) r ns inner s = some (pair r.re r.im ∷ s)
+run_by (Some kind.ArrayPush) r ns inner s = nothing
+run_by (Some kind.OtherPush) r ns inner s = nothing
+run_by (Some kind.Primitive) r ns inner s = perform (primitive_of r.code) s
+run_by (Some kind.Modifier) r ns inner s = holding (eqb r.code (modifier_no On) && eqb (count ns) 1) inner s
+run_by (Some kind.Body) r ns inner s = inner s
+run_by (Some kind.Run) r ns inner s = inner s
+run_by (Some kind.CustomInverse) r ns inner s = nothing
+run_by (Some kind.Obverse) r ns inner s = nothing
+run_by (Some kind.NoNormal) r ns inner s = nothing
+run_by (Some kind.UnderMarker) r ns inner s = nothing
+run_by (Some kind.AnythingElse) r ns inner s = nothing
+run_by None r ns inner s = nothing
 
 -- a record with what is inside it, then what comes after it
 unfoldable pub runs : Nodes → List Term → Values

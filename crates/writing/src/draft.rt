@@ -21,20 +21,6 @@ pub struct Draft {
     pub end: usize,
 }
 
-// What comes of saying a number: the list so far, or a refusal.
-#[derive(Clone, Copy)]
-pub enum Said {
-    Done(Draft),
-    Refused(Refusal),
-}
-
-// What comes of a whole list: so many records written, or a refusal.
-#[derive(Clone, Copy)]
-pub enum Wrote {
-    List(usize),
-    Refused(Refusal),
-}
-
 // ---- records
 
 fn push(x: f64) -> Record
@@ -155,15 +141,15 @@ fn number_record(complex: bool, c: Complex) -> Record
 }
 
 // A coefficient after the last, if it can be written.
-pub fn say_number(b: &mut [u8], d: Draft, complex: bool, c: Complex) -> Said
+pub fn say_number(b: &mut [u8], d: Draft, complex: bool, c: Complex) -> Result<Draft, Refusal>
     requires { Ready b.old d 0 1 }
     ensures { Spoken b.old b.new d result 0 1 (λ ns. number complex c ns) }
 {
     if !can_write(complex, c) {
-        return Said::Refused(Refusal::NotFinite);
+        return Err(Refusal::NotFinite);
     }
     let q = say(b, d, number_record(complex, c));
-    Said::Done(q)
+    Ok(q)
 }
 
 // Everything so far in the body of an On.
@@ -188,33 +174,27 @@ fn copy_out(b: &[u8], from: usize, n: usize, out: &mut [u8])
     requires { (from + n ≤ length b.now) × (n ≤ length out.old) }
     ensures { out.new ≡ sets out.old 0 (part from n b.now) }
 {
-    let mut j = 0;
-    while j < n {
-        out[j] = b[from + j];
-        j = j + 1;
-    }
+    out[..n].copy_from_slice(&b[from..from + n]);
 }
 
 // The list goes to the front of out, if there is room for all of it.
-pub fn hand_over(b: &[u8], d: Draft, out: &mut [u8]) -> Wrote
+pub fn hand_over(b: &[u8], d: Draft, out: &mut [u8]) -> Result<usize, Refusal>
     requires { (ns : Nodes) × Lying b.now d ns }
     ensures { (ns : Nodes) → Lying b.now d ns → Answered out.old out.new result (wrote ns) }
 {
     let n = d.end - d.from;
     if formats::record::count_records(out) < n {
-        return Wrote::Refused(Refusal::OutputRoom);
+        return Err(Refusal::OutputRoom);
     }
     copy_out(b, RECORD_BYTES * d.from, RECORD_BYTES * n, out);
-    Wrote::List(n)
+    Ok(n)
 }
 
 // A refusal, or the list that lies in b handed over.
-pub fn answer(b: &[u8], s: Said, out: &mut [u8]) -> Wrote
+pub fn answer(b: &[u8], s: Result<Draft, Refusal>, out: &mut [u8]) -> Result<usize, Refusal>
     requires { (w : Written) × SaidAs s b.now w }
     ensures { (w : Written) → SaidAs s b.now w → Answered out.old out.new result w }
 {
-    match s {
-        Said::Done(d) => hand_over(b, d, out),
-        Said::Refused(q) => Wrote::Refused(q),
-    }
+    let d = s?;
+    hand_over(b, d, out)
 }

@@ -3,7 +3,7 @@
 ghost use Rattle.std.specs.Prelude.{◌+◌, ◌*◌, ◌≤◌, T, length, false, ◌≡◌};
 ghost use Rattle.std.specs.Float.Ieee.Scale.{finite};
 ghost use Rattle.std.proofs.lemmas.List.Edits.{sets};
-ghost use Rattle.cells.specs.Contract.Book.{book};
+ghost use Rattle.cells.specs.Contract.Book.{seen};
 ghost use Rattle.formats.specs.Bytes.{part};
 ghost use Rattle.formats.specs.Tree.{end};
 ghost use Rattle.limits.specs.Limits.{sum_entries, sum_levels};
@@ -15,131 +15,92 @@ ghost use Rattle.writing.specs.Draft.Contract.Growing.{Ready, Spoken};
 ghost use Rattle.writing.specs.Draft.Contract.Lying.{Answered};
 ghost use Rattle.writing.specs.Faithful.{write_faithful, faithful};
 
-use crate::draft::{Draft, Said, Wrote};
-use cells::Entry;
-use limits::{RECORD_BYTES, SUM_ENTRIES, SUM_LEVELS};
+use crate::draft::Draft;
+use cells::{Book, Entry};
+use limits::{RECORD_BYTES, Refusal, SUM_ENTRIES, SUM_LEVELS};
 
 // Places free in front of an argument: two for each of its entries.
 const ARGUMENT_FRONT: usize = 2 * SUM_ENTRIES;
 
-// The n bytes from `from` on are moved down to the front, the first of them first: each is read before it is written over.
+// The n bytes from `from` on are moved down to the front.
 fn bring_down(b: &mut [u8], from: usize, n: usize)
     requires { from + n ≤ length b.old }
     ensures { b.new ≡ sets b.old 0 (part from n b.old) }
 {
-    let mut j = 0;
-    while j < n {
-        b[j] = b[from + j];
-        j = j + 1;
-    }
+    b.copy_within(from..from + n, 0);
 }
 
 // The sum of n cells from i on, written into a buffer of its own and brought down to its first byte.
 #[cycle(write_apart_write_argument_write_sum_write_term_write_turn)]
 fn write_apart(
-    kinds: &[u8],
-    insides: &[u8],
-    numbers: &[[u64; 3]],
+    book: &Book,
     i: usize,
     n: usize,
     complex: bool,
     left: usize,
     b: &mut [u8],
-) -> Said
-    requires { Held (book kinds.now insides.now numbers.now) i (i + n) left × Separate b.old n left }
-    ensures { OfOne (book kinds.now insides.now numbers.now) i (i + n) left (λ t. AtFront b.old b.new result (10 * n + 2) (write_faithful complex t false end)) }
+) -> Result<Draft, Refusal>
+    requires { Held (seen book.now) i (i + n) left × Separate b.old n left }
+    ensures { OfOne (seen book.now) i (i + n) left (λ t. AtFront b.old b.new result (10 * n + 2) (write_faithful complex t false end)) }
 {
     let e = Draft {
         from: ARGUMENT_FRONT,
         end: ARGUMENT_FRONT,
     };
-    match write_sum(kinds, insides, numbers, i, n, complex, left, b, e) {
-        Said::Refused(q) => Said::Refused(q),
-        Said::Done(f) => {
-            let m = f.end - f.from;
-            bring_down(b, RECORD_BYTES * f.from, RECORD_BYTES * m);
-            Said::Done(Draft { from: 0, end: m })
-        }
-    }
+    let f = write_sum(book, i, n, complex, left, b, e)?;
+    let m = f.end - f.from;
+    bring_down(b, RECORD_BYTES * f.from, RECORD_BYTES * m);
+    Ok(Draft { from: 0, end: m })
 }
 
 // The same in the part of the buffer behind the list so far, which it continues then.
 #[cycle(write_apart_write_argument_write_sum_write_term_write_turn)]
 fn write_argument(
-    kinds: &[u8],
-    insides: &[u8],
-    numbers: &[[u64; 3]],
+    book: &Book,
     i: usize,
     n: usize,
     complex: bool,
     left: usize,
     b: &mut [u8],
     d: Draft,
-) -> Said
-    requires { Held (book kinds.now insides.now numbers.now) i (i + n) left × Ready b.old d 0 (10 * n + 2 + argument_front * (left + 1)) × (n ≤ sum_entries) }
-    ensures { OfOne (book kinds.now insides.now numbers.now) i (i + n) left (λ t. Spoken b.old b.new d result 0 (10 * n + 2) (λ ns. apart complex t ns)) }
+) -> Result<Draft, Refusal>
+    requires { Held (seen book.now) i (i + n) left × Ready b.old d 0 (10 * n + 2 + argument_front * (left + 1)) × (n ≤ sum_entries) }
+    ensures { OfOne (seen book.now) i (i + n) left (λ t. Spoken b.old b.new d result 0 (10 * n + 2) (λ ns. apart complex t ns)) }
 {
     let start = RECORD_BYTES * d.end;
-    match write_apart(
-        kinds,
-        insides,
-        numbers,
-        i,
-        n,
-        complex,
-        left,
-        &mut b[start..],
-    ) {
-        Said::Refused(q) => Said::Refused(q),
-        Said::Done(f) => Said::Done(Draft {
-            from: d.from,
-            end: d.end + f.end,
-        }),
-    }
+    let f = write_apart(book, i, n, complex, left, &mut b[start..])?;
+    Ok(Draft {
+        from: d.from,
+        end: d.end + f.end,
+    })
 }
 
 // The term of the entry x, whose inside lies from i on.
 #[cycle(write_apart_write_argument_write_sum_write_term_write_turn)]
 fn write_term(
-    kinds: &[u8],
-    insides: &[u8],
-    numbers: &[[u64; 3]],
+    book: &Book,
     x: Entry,
     i: usize,
     complex: bool,
     left: usize,
     b: &mut [u8],
     d: Draft,
-) -> Said
-    requires { Held (book kinds.now insides.now numbers.now) i (i + x.inside) left × Ready b.old d (2 * x.inside) (10 * x.inside + 5 + argument_front * (left + 1))
+) -> Result<Draft, Refusal>
+    requires { Held (seen book.now) i (i + x.inside) left × Ready b.old d (2 * x.inside) (10 * x.inside + 5 + argument_front * (left + 1))
         × T (finite x.num) × (x.inside ≤ sum_entries) }
-    ensures { OfOne (book kinds.now insides.now numbers.now) i (i + x.inside) left (λ t. TermApart complex x t b.old b.new d result) }
+    ensures { OfOne (seen book.now) i (i + x.inside) left (λ t. TermApart complex x t b.old b.new d result) }
 {
     if x.kind == sums::tree::X {
         return crate::write_power(b, d, x.num, complex, x.coef);
     }
-    match write_argument(
-        kinds,
-        insides,
-        numbers,
-        i,
-        x.inside as usize,
-        complex,
-        left,
-        b,
-        d,
-    ) {
-        Said::Refused(q) => Said::Refused(q),
-        Said::Done(e) => Said::Done(crate::write_function(b, e, x.kind, x.num, x.coef.is_one())),
-    }
+    let e = write_argument(book, i, x.inside as usize, complex, left, b, d)?;
+    Ok(crate::write_function(b, e, x.kind, x.num, x.coef.is_one()))
 }
 
 // One turn: the entry x, whose inside lies from i on.
 #[cycle(write_apart_write_argument_write_sum_write_term_write_turn)]
 fn write_turn(
-    kinds: &[u8],
-    insides: &[u8],
-    numbers: &[[u64; 3]],
+    book: &Book,
     x: Entry,
     i: usize,
     complex: bool,
@@ -147,62 +108,44 @@ fn write_turn(
     left: usize,
     b: &mut [u8],
     d: Draft,
-) -> Said
-    requires { Held (book kinds.now insides.now numbers.now) i (i + x.inside) left × Ready b.old d (2 * x.inside + 2) (10 * x.inside + 9 + argument_front * (left + 1))
+) -> Result<Draft, Refusal>
+    requires { Held (seen book.now) i (i + x.inside) left × Ready b.old d (2 * x.inside + 2) (10 * x.inside + 9 + argument_front * (left + 1))
         × T (finite x.num) × (x.inside ≤ sum_entries) }
-    ensures { OfOne (book kinds.now insides.now numbers.now) i (i + x.inside) left (λ t. TurnApart complex identity x t b.old b.new d result) }
+    ensures { OfOne (seen book.now) i (i + x.inside) left (λ t. TurnApart complex identity x t b.old b.new d result) }
 {
     if x.coef.is_zero() {
-        return Said::Done(d);
+        return Ok(d);
     }
     let first = !identity & (d.from == d.end);
     let e = crate::before(b, d, first);
-    match write_term(kinds, insides, numbers, x, i, complex, left, b, e) {
-        Said::Refused(q) => Said::Refused(q),
-        Said::Done(f) => crate::finish(b, f, x, complex, first),
-    }
+    let f = write_term(book, x, i, complex, left, b, e)?;
+    crate::finish(b, f, x, complex, first)
 }
 
 // The sum of m cells from j on, after what was written. `identity` says that x was met and nothing written for it.
 #[cycle(write_apart_write_argument_write_sum_write_term_write_turn)]
 fn write_sum(
-    kinds: &[u8],
-    insides: &[u8],
-    numbers: &[[u64; 3]],
+    book: &Book,
     j: usize,
     m: usize,
     complex: bool,
     left: usize,
     b: &mut [u8],
     d: Draft,
-) -> Said
-    requires { Held (book kinds.now insides.now numbers.now) j (j + m) left × Ready b.old d (2 * m) (10 * m + 2 + argument_front * left) × (m ≤ sum_entries) }
-    ensures { OfOne (book kinds.now insides.now numbers.now) j (j + m) left (λ s. Spoken b.old b.new d result (2 * m) (10 * m + 2) (λ ns. write_faithful complex s false ns)) }
+) -> Result<Draft, Refusal>
+    requires { Held (seen book.now) j (j + m) left × Ready b.old d (2 * m) (10 * m + 2 + argument_front * left) × (m ≤ sum_entries) }
+    ensures { OfOne (seen book.now) j (j + m) left (λ s. Spoken b.old b.new d result (2 * m) (10 * m + 2) (λ ns. write_faithful complex s false ns)) }
 {
     let mut q = j;
     let mut identity = false;
     let mut draft = d;
     while q < j + m {
-        let x = cells::load(kinds, insides, numbers, q);
-        match write_turn(
-            kinds,
-            insides,
-            numbers,
-            x,
-            q + 1,
-            complex,
-            identity,
-            left - 1,
-            b,
-            draft,
-        ) {
-            Said::Refused(r) => return Said::Refused(r),
-            Said::Done(next) => draft = next,
-        }
+        let x = book.load(q);
+        draft = write_turn(book, x, q + 1, complex, identity, left - 1, b, draft)?;
         identity = identity | crate::meets_x(x);
         q = q + 1 + x.inside as usize;
     }
-    Said::Done(crate::close(b, draft, identity))
+    Ok(crate::close(b, draft, identity))
 }
 
 // ---- the entry
@@ -215,43 +158,37 @@ const DRAFT_RECORDS: usize = FRONT + 10 * SUM_ENTRIES + 2 + SUM_LEVELS * ARGUMEN
 
 // A sum with functions in it.
 fn write_functions(
-    kinds: &[u8],
-    insides: &[u8],
-    numbers: &[[u64; 3]],
+    book: &Book,
     j: usize,
     m: usize,
     complex: bool,
     out: &mut [u8],
-) -> Wrote
-    requires { Held (book kinds.now insides.now numbers.now) j (j + m) sum_levels × (m ≤ sum_entries) }
-    ensures { OfOne (book kinds.now insides.now numbers.now) j (j + m) sum_levels (λ s. Answered out.old out.new result (faithful complex s)) }
+) -> Result<usize, Refusal>
+    requires { Held (seen book.now) j (j + m) sum_levels × (m ≤ sum_entries) }
+    ensures { OfOne (seen book.now) j (j + m) sum_levels (λ s. Answered out.old out.new result (faithful complex s)) }
 {
     let mut b = [0u8; RECORD_BYTES * DRAFT_RECORDS];
     let d = Draft {
         from: FRONT,
         end: FRONT,
     };
-    let s = write_sum(
-        kinds, insides, numbers, j, m, complex, SUM_LEVELS, &mut b, d,
-    );
+    let s = write_sum(book, j, m, complex, SUM_LEVELS, &mut b, d);
     crate::draft::answer(&b, s, out)
 }
 
 // The sum of m cells from j on goes to the front of out as a list that means what the sum says, or is refused as by the first writer. Of powers of x alone both write the same.
 pub fn expr_to_node(
-    kinds: &[u8],
-    insides: &[u8],
-    numbers: &[[u64; 3]],
+    book: &Book,
     j: usize,
     m: usize,
     complex: bool,
     out: &mut [u8],
-) -> Wrote
-    requires { Held (book kinds.now insides.now numbers.now) j (j + m) sum_levels × (m ≤ sum_entries) }
-    ensures { OfOne (book kinds.now insides.now numbers.now) j (j + m) sum_levels (λ s. Answered out.old out.new result (faithful complex s)) }
+) -> Result<usize, Refusal>
+    requires { Held (seen book.now) j (j + m) sum_levels × (m ≤ sum_entries) }
+    ensures { OfOne (seen book.now) j (j + m) sum_levels (λ s. Answered out.old out.new result (faithful complex s)) }
 {
-    if sums::order::powers_end(kinds, j, m) == j + m {
-        return crate::expr_to_node(kinds, insides, numbers, j, m, complex, out);
+    if sums::order::powers_end(book, j, m) == j + m {
+        return crate::expr_to_node(book, j, m, complex, out);
     }
-    write_functions(kinds, insides, numbers, j, m, complex, out)
+    write_functions(book, j, m, complex, out)
 }

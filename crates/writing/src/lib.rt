@@ -7,7 +7,7 @@ pub mod draft;
 pub mod faithful;
 
 ghost use Rattle.std.specs.Prelude.{◌+◌, ◌*◌, ◌≤◌, T, false, ◌≡◌};
-ghost use Rattle.cells.specs.Contract.Book.{book};
+ghost use Rattle.cells.specs.Contract.Book.{seen};
 ghost use Rattle.limits.specs.Limits.{sum_entries, sum_levels};
 ghost use Rattle.numbers.specs.Signs.{zero64};
 ghost use Rattle.sums.specs.Contract.Lies.{Held, OfOne};
@@ -20,10 +20,10 @@ ghost use Rattle.writing.specs.Draft.Writing.{push, does, append, two};
 ghost use Rattle.writing.specs.ToNodes.{form, constant, primitive_for, over, function_of, write_power, before, times_coef, plus, close, write, to_nodes};
 ghost use Rattle.std.specs.Float.Ieee.Scale.{finite};
 
-use crate::draft::{Draft, Said, Wrote};
-use cells::Entry;
+use crate::draft::Draft;
+use cells::{Book, Entry};
 use formats::record::Primitive;
-use limits::{RECORD_BYTES, SUM_ENTRIES, SUM_LEVELS};
+use limits::{RECORD_BYTES, Refusal, SUM_ENTRIES, SUM_LEVELS};
 use numbers::complex::Complex;
 
 // ---- two records at once
@@ -48,18 +48,16 @@ fn say_with(b: &mut [u8], d: Draft, x: f64, p: Primitive) -> Draft
 // ---- powers of x
 
 // x times 0, plus the coefficient.
-fn write_constant(b: &mut [u8], d: Draft, complex: bool, c: Complex) -> Said
+fn write_constant(b: &mut [u8], d: Draft, complex: bool, c: Complex) -> Result<Draft, Refusal>
     requires { Ready b.old d 0 4 }
     ensures { Spoken b.old b.new d result 0 4 (λ ns. write_power constant zero64 complex c ns) }
 {
     let e = say_with(b, d, 0.0, Primitive::Mul);
-    match crate::draft::say_number(b, e, complex, c) {
-        Said::Refused(q) => Said::Refused(q),
-        Said::Done(f) => Said::Done(crate::draft::say_primitive(b, f, Primitive::Add)),
-    }
+    let f = crate::draft::say_number(b, e, complex, c)?;
+    Ok(crate::draft::say_primitive(b, f, Primitive::Add))
 }
 
-fn write_power(b: &mut [u8], d: Draft, p: f64, complex: bool, c: Complex) -> Said
+fn write_power(b: &mut [u8], d: Draft, p: f64, complex: bool, c: Complex) -> Result<Draft, Refusal>
     requires { Ready b.old d 0 4 × T (finite p) }
     ensures { Spoken b.old b.new d result 0 4 (λ ns. write_power (form p) p complex c ns) }
 {
@@ -67,15 +65,15 @@ fn write_power(b: &mut [u8], d: Draft, p: f64, complex: bool, c: Complex) -> Sai
         return write_constant(b, d, complex, c);
     }
     if p == 0.5 {
-        return Said::Done(crate::draft::say_primitive(b, d, Primitive::Sqrt));
+        return Ok(crate::draft::say_primitive(b, d, Primitive::Sqrt));
     }
     if p == 1.0 {
-        return Said::Done(d);
+        return Ok(d);
     }
     if p == 2.0 {
-        return Said::Done(say_both(b, d, Primitive::Dup, Primitive::Mul));
+        return Ok(say_both(b, d, Primitive::Dup, Primitive::Mul));
     }
-    Said::Done(say_with(b, d, p, Primitive::Pow))
+    Ok(say_with(b, d, p, Primitive::Pow))
 }
 
 // ---- functions of a sum
@@ -140,17 +138,21 @@ fn before(b: &mut [u8], d: Draft, first: bool) -> Draft
     crate::draft::wrap(b, d)
 }
 
-fn times_coef(b: &mut [u8], d: Draft, times: bool, complex: bool, c: Complex) -> Said
+fn times_coef(
+    b: &mut [u8],
+    d: Draft,
+    times: bool,
+    complex: bool,
+    c: Complex,
+) -> Result<Draft, Refusal>
     requires { Ready b.old d 0 2 }
     ensures { Spoken b.old b.new d result 0 2 (λ ns. times_coef times complex c ns) }
 {
     if !times {
-        return Said::Done(d);
+        return Ok(d);
     }
-    match crate::draft::say_number(b, d, complex, c) {
-        Said::Refused(q) => Said::Refused(q),
-        Said::Done(e) => Said::Done(crate::draft::say_primitive(b, e, Primitive::Mul)),
-    }
+    let e = crate::draft::say_number(b, d, complex, c)?;
+    Ok(crate::draft::say_primitive(b, e, Primitive::Mul))
 }
 
 fn plus(b: &mut [u8], d: Draft, first: bool) -> Draft
@@ -195,57 +197,39 @@ fn with_coef(x: Entry) -> bool
 // ---- a sum
 
 // Times the coefficient, and plus what was written before.
-fn finish(b: &mut [u8], d: Draft, x: Entry, complex: bool, first: bool) -> Said
+fn finish(b: &mut [u8], d: Draft, x: Entry, complex: bool, first: bool) -> Result<Draft, Refusal>
     requires { Ready b.old d 0 3 }
     ensures { Spoken b.old b.new d result 0 3 (λ ns. finished complex first x ns) }
 {
-    match times_coef(b, d, with_coef(x), complex, x.coef) {
-        Said::Refused(q) => Said::Refused(q),
-        Said::Done(e) => Said::Done(plus(b, e, first)),
-    }
+    let e = times_coef(b, d, with_coef(x), complex, x.coef)?;
+    Ok(plus(b, e, first))
 }
 
 // The term of the entry x, whose inside lies from i on.
 #[cycle(write_sum_write_term_write_turn)]
 fn write_term(
-    kinds: &[u8],
-    insides: &[u8],
-    numbers: &[[u64; 3]],
+    book: &Book,
     x: Entry,
     i: usize,
     complex: bool,
     left: usize,
     b: &mut [u8],
     d: Draft,
-) -> Said
-    requires { Held (book kinds.now insides.now numbers.now) i (i + x.inside) left × Ready b.old d (2 * x.inside) (9 * x.inside + 5) × T (finite x.num) }
-    ensures { OfOne (book kinds.now insides.now numbers.now) i (i + x.inside) left (λ t. TermSpoken complex x t b.old b.new d result) }
+) -> Result<Draft, Refusal>
+    requires { Held (seen book.now) i (i + x.inside) left × Ready b.old d (2 * x.inside) (9 * x.inside + 5) × T (finite x.num) }
+    ensures { OfOne (seen book.now) i (i + x.inside) left (λ t. TermSpoken complex x t b.old b.new d result) }
 {
     if x.kind == sums::tree::X {
         return write_power(b, d, x.num, complex, x.coef);
     }
-    match write_sum(
-        kinds,
-        insides,
-        numbers,
-        i,
-        x.inside as usize,
-        complex,
-        left,
-        b,
-        d,
-    ) {
-        Said::Refused(q) => Said::Refused(q),
-        Said::Done(e) => Said::Done(write_function(b, e, x.kind, x.num, x.coef.is_one())),
-    }
+    let e = write_sum(book, i, x.inside as usize, complex, left, b, d)?;
+    Ok(write_function(b, e, x.kind, x.num, x.coef.is_one()))
 }
 
 // One turn: the entry x, whose inside lies from i on.
 #[cycle(write_sum_write_term_write_turn)]
 fn write_turn(
-    kinds: &[u8],
-    insides: &[u8],
-    numbers: &[[u64; 3]],
+    book: &Book,
     x: Entry,
     i: usize,
     complex: bool,
@@ -253,61 +237,43 @@ fn write_turn(
     left: usize,
     b: &mut [u8],
     d: Draft,
-) -> Said
-    requires { Held (book kinds.now insides.now numbers.now) i (i + x.inside) left × Ready b.old d (2 * x.inside + 2) (9 * x.inside + 9) × T (finite x.num) }
-    ensures { OfOne (book kinds.now insides.now numbers.now) i (i + x.inside) left (λ t. TurnSpoken complex identity x t b.old b.new d result) }
+) -> Result<Draft, Refusal>
+    requires { Held (seen book.now) i (i + x.inside) left × Ready b.old d (2 * x.inside + 2) (9 * x.inside + 9) × T (finite x.num) }
+    ensures { OfOne (seen book.now) i (i + x.inside) left (λ t. TurnSpoken complex identity x t b.old b.new d result) }
 {
     if x.coef.is_zero() {
-        return Said::Done(d);
+        return Ok(d);
     }
     let first = !identity & (d.from == d.end);
     let e = before(b, d, first);
-    match write_term(kinds, insides, numbers, x, i, complex, left, b, e) {
-        Said::Refused(q) => Said::Refused(q),
-        Said::Done(f) => finish(b, f, x, complex, first),
-    }
+    let f = write_term(book, x, i, complex, left, b, e)?;
+    finish(b, f, x, complex, first)
 }
 
 // The sum of m cells from j on, after what was written. `identity` says that x was met and nothing written for it.
 #[cycle(write_sum_write_term_write_turn)]
 fn write_sum(
-    kinds: &[u8],
-    insides: &[u8],
-    numbers: &[[u64; 3]],
+    book: &Book,
     j: usize,
     m: usize,
     complex: bool,
     left: usize,
     b: &mut [u8],
     d: Draft,
-) -> Said
-    requires { Held (book kinds.now insides.now numbers.now) j (j + m) left × Ready b.old d (2 * m) (9 * m + 2) }
-    ensures { OfOne (book kinds.now insides.now numbers.now) j (j + m) left (λ s. Spoken b.old b.new d result (2 * m) (9 * m + 2) (λ ns. write complex s false ns)) }
+) -> Result<Draft, Refusal>
+    requires { Held (seen book.now) j (j + m) left × Ready b.old d (2 * m) (9 * m + 2) }
+    ensures { OfOne (seen book.now) j (j + m) left (λ s. Spoken b.old b.new d result (2 * m) (9 * m + 2) (λ ns. write complex s false ns)) }
 {
     let mut q = j;
     let mut identity = false;
     let mut draft = d;
     while q < j + m {
-        let x = cells::load(kinds, insides, numbers, q);
-        match write_turn(
-            kinds,
-            insides,
-            numbers,
-            x,
-            q + 1,
-            complex,
-            identity,
-            left - 1,
-            b,
-            draft,
-        ) {
-            Said::Refused(r) => return Said::Refused(r),
-            Said::Done(next) => draft = next,
-        }
+        let x = book.load(q);
+        draft = write_turn(book, x, q + 1, complex, identity, left - 1, b, draft)?;
         identity = identity | meets_x(x);
         q = q + 1 + x.inside as usize;
     }
-    Said::Done(close(b, draft, identity))
+    Ok(close(b, draft, identity))
 }
 
 // ---- the entry
@@ -326,78 +292,68 @@ const FEW_RECORDS: usize = FEW_FRONT + 9 * FEW_ENTRIES + 2;
 
 // The sum of m cells from j on, written into a draft that begins at the place `front` of b.
 fn write_in(
-    kinds: &[u8],
-    insides: &[u8],
-    numbers: &[[u64; 3]],
+    book: &Book,
     j: usize,
     m: usize,
     complex: bool,
     b: &mut [u8],
     front: usize,
     out: &mut [u8],
-) -> Wrote
-    requires { Held (book kinds.now insides.now numbers.now) j (j + m) sum_levels × Spacious b.old front m }
-    ensures { OfOne (book kinds.now insides.now numbers.now) j (j + m) sum_levels (λ s. Answered out.old out.new result (to_nodes complex s)) }
+) -> Result<usize, Refusal>
+    requires { Held (seen book.now) j (j + m) sum_levels × Spacious b.old front m }
+    ensures { OfOne (seen book.now) j (j + m) sum_levels (λ s. Answered out.old out.new result (to_nodes complex s)) }
 {
     let d = Draft {
         from: front,
         end: front,
     };
-    let s = write_sum(kinds, insides, numbers, j, m, complex, SUM_LEVELS, b, d);
+    let s = write_sum(book, j, m, complex, SUM_LEVELS, b, d);
     crate::draft::answer(b, s, out)
 }
 
 // A sum of few entries.
 fn write_few(
-    kinds: &[u8],
-    insides: &[u8],
-    numbers: &[[u64; 3]],
+    book: &Book,
     j: usize,
     m: usize,
     complex: bool,
     out: &mut [u8],
-) -> Wrote
-    requires { Held (book kinds.now insides.now numbers.now) j (j + m) sum_levels × (m ≤ few_entries) }
-    ensures { OfOne (book kinds.now insides.now numbers.now) j (j + m) sum_levels (λ s. Answered out.old out.new result (to_nodes complex s)) }
+) -> Result<usize, Refusal>
+    requires { Held (seen book.now) j (j + m) sum_levels × (m ≤ few_entries) }
+    ensures { OfOne (seen book.now) j (j + m) sum_levels (λ s. Answered out.old out.new result (to_nodes complex s)) }
 {
     let mut b = [0u8; RECORD_BYTES * FEW_RECORDS];
-    write_in(
-        kinds, insides, numbers, j, m, complex, &mut b, FEW_FRONT, out,
-    )
+    write_in(book, j, m, complex, &mut b, FEW_FRONT, out)
 }
 
 // A sum of any size. The two drafts stand in functions of their own, so that the room that they take on the stack is not added up.
 fn write_many(
-    kinds: &[u8],
-    insides: &[u8],
-    numbers: &[[u64; 3]],
+    book: &Book,
     j: usize,
     m: usize,
     complex: bool,
     out: &mut [u8],
-) -> Wrote
-    requires { Held (book kinds.now insides.now numbers.now) j (j + m) sum_levels × (m ≤ sum_entries) }
-    ensures { OfOne (book kinds.now insides.now numbers.now) j (j + m) sum_levels (λ s. Answered out.old out.new result (to_nodes complex s)) }
+) -> Result<usize, Refusal>
+    requires { Held (seen book.now) j (j + m) sum_levels × (m ≤ sum_entries) }
+    ensures { OfOne (seen book.now) j (j + m) sum_levels (λ s. Answered out.old out.new result (to_nodes complex s)) }
 {
     let mut b = [0u8; RECORD_BYTES * DRAFT_RECORDS];
-    write_in(kinds, insides, numbers, j, m, complex, &mut b, FRONT, out)
+    write_in(book, j, m, complex, &mut b, FRONT, out)
 }
 
 // The sum of m cells from j on goes to the front of out as a list of records, or is refused: 15 where a number cannot be written, then 17 where there is no room.
 pub fn expr_to_node(
-    kinds: &[u8],
-    insides: &[u8],
-    numbers: &[[u64; 3]],
+    book: &Book,
     j: usize,
     m: usize,
     complex: bool,
     out: &mut [u8],
-) -> Wrote
-    requires { Held (book kinds.now insides.now numbers.now) j (j + m) sum_levels × (m ≤ sum_entries) }
-    ensures { OfOne (book kinds.now insides.now numbers.now) j (j + m) sum_levels (λ s. Answered out.old out.new result (to_nodes complex s)) }
+) -> Result<usize, Refusal>
+    requires { Held (seen book.now) j (j + m) sum_levels × (m ≤ sum_entries) }
+    ensures { OfOne (seen book.now) j (j + m) sum_levels (λ s. Answered out.old out.new result (to_nodes complex s)) }
 {
     if m <= FEW_ENTRIES {
-        return write_few(kinds, insides, numbers, j, m, complex, out);
+        return write_few(book, j, m, complex, out);
     }
-    write_many(kinds, insides, numbers, j, m, complex, out)
+    write_many(book, j, m, complex, out)
 }

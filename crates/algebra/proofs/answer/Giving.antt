@@ -12,15 +12,12 @@ use Rattle.limits.specs.declared.Refusal.{Refusal}
 use Rattle.limits.specs.declared.Refusal.TheVariants.{OutputRoom}
 use Rattle.sums.specs.Tree.Sums.{Sum, size}
 use Rattle.sums.specs.Tree.Map.{Outcome}
-use Rattle.sums.specs.declared.order.Formed.{Formed}
-use Rattle.sums.specs.declared.order.Formed.TheVariants as formed
+use Rattle.std.specs.Prelude.{Result, Ok, Err}
 use Rattle.sums.specs.Contract.Lies.{Lies, Held, Agrees}
 use Rattle.arithmetic.proofs.add.Lying.{agreed-done, agreed-refused}
 use Rattle.formats.specs.Tree as tree
 use Rattle.formats.specs.Tree.{records_in}
 use Rattle.sums.specs.Entry.Encoding.{entries_in, encode_sum}
-use Rattle.writing.specs.declared.draft.Wrote.{Wrote}
-use Rattle.writing.specs.declared.draft.Wrote.TheVariants as wrote
 use Rattle.writing.specs.Draft.Writing as writing
 use Rattle.writing.specs.Draft.Writing.{Written}
 use Rattle.writing.specs.Draft.Contract.Lying as drafts
@@ -47,16 +44,16 @@ module _ (room : List ℕ → ℕ) where
 
   -- ---- after a sum was formed, or refused
 
-  pub then-refused : {q : Refusal} {r : Formed} (b : Book) (p : ℕ) (o : Outcome) (f : Sum → Made) (out : List ℕ) → r ≡ formed.Refused q → Agrees r b p o
+  pub then-refused : {q : Refusal} {r : Result ℕ Refusal} (b : Book) (p : ℕ) (o : Outcome) (f : Sum → Made) (out : List ℕ) → r ≡ Err q → Agrees r b p o
       → Gives room (of_outcome o f) out out (answer.Refused q 0)
   then-refused {q} {r} b p o f out e a = rw (agreed-refused b p q r o a e) (gives-refusal q 0 out)
 
-  pub then-made : {m : ℕ} {r : Formed} (b : Book) (p : ℕ) (o : Outcome) {out out' : List ℕ} {a : Answer} (f : Sum → Made) → r ≡ formed.Done m → Agrees r b p o
+  pub then-made : {m : ℕ} {r : Result ℕ Refusal} (b : Book) (p : ℕ) (o : Outcome) {out out' : List ℕ} {a : Answer} (f : Sum → Made) → r ≡ Ok m → Agrees r b p o
       → ((s : Sum) → Lies b p (p + m) 4 s → Gives room (f s) out out' a) → Gives room (of_outcome o f) out out' a
   then-made {m} {r} b p o f e g h = let d = agreed-done b p m r o g e in rw d.is (h d.s d.lies)
 
 -- what was formed lies there
-pub then-held : {m : ℕ} {r : Formed} (b : Book) (p : ℕ) (o : Outcome) → r ≡ formed.Done m → Agrees r b p o → (m ≤ 64) × Held b p (p + m) 4
+pub then-held : {m : ℕ} {r : Result ℕ Refusal} (b : Book) (p : ℕ) (o : Outcome) → r ≡ Ok m → Agrees r b p o → (m ≤ 64) × Held b p (p + m) 4
 then-held {m} {r} b p o e g = let d = agreed-done b p m r o g e in (d.few, (d.s, d.lies))
 
 -- ---- a sum that lies in n cells
@@ -73,10 +70,10 @@ module _ {b : Book} {i n : ℕ} {s : Sum} (out : List ℕ) (l : Lies b i (i + n)
 
 -- ---- a list that was written, or refused
 
-pub list-given : {out out' : List ℕ} {r : Wrote} {w : Written} → Answered out out' r w → Gives records_in (of_list w) out out' (answer_of r)
+pub list-given : {out out' : List ℕ} {r : Result ℕ Refusal} {w : Written} → Answered out out' r w → Gives records_in (of_list w) out out' (answer_of r)
 list-given {out} {out'} {r} {w} a = go w a.answer a.bytes
   where
-    by-room : (n : ℕ) (b : Bool) → answer_of (cond b (wrote.List n) (wrote.Refused OutputRoom)) ≡ cond b (answer.Done n) (answer.Refused OutputRoom 0)
+    by-room : (n : ℕ) (b : Bool) → answer_of (cond b (Ok n) (Err OutputRoom)) ≡ cond b (answer.Done n) (answer.Refused OutputRoom 0)
     by-room n true = refl
     by-room n false = refl
 

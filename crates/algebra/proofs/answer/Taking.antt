@@ -8,8 +8,7 @@ use Rattle.limits.specs.declared.Refusal.{Refusal}
 use Rattle.sums.specs.Tree.Sums.{Sum, size}
 use Rattle.sums.specs.Tree.Good.{Good}
 use Rattle.sums.specs.Contract.Lies.{Lies, Held}
-use Rattle.sums.specs.declared.entry.Taken.{Taken}
-use Rattle.sums.specs.declared.entry.Taken.TheVariants as taken
+use Rattle.std.specs.Prelude.{Result, Ok, Err}
 use Rattle.sums.specs.Entry.Encoding.{encode_sum}
 use Rattle.sums.specs.Entry.Taking.{Weighed}
 use Rattle.sums.specs.Contract.Laid.{Laid}
@@ -23,8 +22,8 @@ use Rattle.algebra.specs.Answer.Making.{Made, Gives, OfBytes}
 use Rattle.algebra.proofs.answer.Giving.{gives-refusal}
 use Rattle.algebra.proofs.answer.Determined.{determined}
 
-module _ {room : List ℕ → ℕ} {f : Sum → Made} {l : List ℕ} {t : Taken} (w : Weighed l t) where
-  pub bytes-refused : {q : Refusal} (out : List ℕ) → t ≡ taken.Refused q → OfBytes room f l out out (answer.Refused q 0)
+module _ {room : List ℕ → ℕ} {f : Sum → Made} {l : List ℕ} {t : Result ℕ Refusal} (w : Weighed l t) where
+  pub bytes-refused : {q : Refusal} (out : List ℕ) → t ≡ Err q → OfBytes room f l out out (answer.Refused q 0)
   bytes-refused {q} out e =
       record {
         weight = t;
@@ -33,10 +32,10 @@ module _ {room : List ℕ → ℕ} {f : Sum → Made} {l : List ℕ} {t : Taken}
         takes = λ n g s d k. absurd (not-both e g);
       }
     where
-      refusal-same : {p q : Refusal} → taken.Refused p ≡ taken.Refused q → p ≡ q
+      refusal-same : {p q : Refusal} → ◌≡◌ {A = Result ℕ Refusal} (Err p) (Err q) → p ≡ q
       refusal-same g = cc
 
-  pub bytes-made : {n : ℕ} {b : Book} {out out' : List ℕ} {r : Answer} → t ≡ taken.Sum n → Laid l b n
+  pub bytes-made : {n : ℕ} {b : Book} {out out' : List ℕ} {r : Answer} → t ≡ Ok n → Laid l b n
       → ((s : Sum) → Lies b 0 (0 + n) 4 s → Gives room (f s) out out' r) → OfBytes room f l out out' r
   bytes-made {n} {b} e d g =
       record {
@@ -68,8 +67,8 @@ bytes-determined {room} {f} {l} {out} {out₁} {out₂} {r₁} {r₂} p q = go p
     same : q.weight ≡ p.weight
     same = settled l q.weight p.weight q.weighed p.weighed
 
-    go : (t : Taken) → p.weight ≡ t → (r₁ ≡ r₂) × (out₁ ≡ out₂)
-    go (taken.Refused z) e = determined (p.refuses z e) (q.refuses z (same ∙ e))
-    go (taken.Sum n) e =
+    go : (t : Result ℕ Refusal) → p.weight ≡ t → (r₁ ≡ r₂) × (out₁ ≡ out₂)
+    go (Err z) e = determined (p.refuses z e) (q.refuses z (same ∙ e))
+    go (Ok n) e =
         let s = (p.weighed.good n).0 e in
         determined (p.takes n e s.0 s.1 s.3) (q.takes n (same ∙ e) s.0 s.1 s.3)

@@ -14,8 +14,7 @@ use Rattle.sums.specs.Tree.Sums.{Sum, size}
 use Rattle.sums.specs.Tree.Map.{Outcome, sum, refused}
 use Rattle.formats.specs.Tree as tree
 use Rattle.formats.proofs.record.Bytes.{take-sets}
-use Rattle.sums.specs.declared.entry.Taken.{Taken}
-use Rattle.sums.specs.declared.entry.Taken.TheVariants as taken
+use Rattle.std.specs.Prelude.{Result, Ok, Err}
 use Rattle.sums.specs.Entry.Encoding.{encode_sum}
 use Rattle.writing.specs.Draft.Writing as writing
 use Rattle.algebra.specs.declared.answer.Answer.{Answer}
@@ -116,6 +115,6 @@ refusal-quiet room (made k bytes) {out} {out'} {a} {q} {at} g e = go (leb k (roo
 pub bytes-quiet : {room : List ℕ → ℕ} {f : Sum → Made} {l out out' : List ℕ} {a : Answer} {q : Refusal} {at : ℕ} → OfBytes room f l out out' a → a ≡ answer.Refused q at → out' ≡ out
 bytes-quiet {room} {f} {l} {out} {out'} {a} p e = go p.weight refl
   where
-    go : (t : Taken) → p.weight ≡ t → out' ≡ out
-    go (taken.Refused z) i = refusal-quiet room (refused_at z 0) (p.refuses z i) e
-    go (taken.Sum n) i = let s = (p.weighed.good n).0 i in refusal-quiet room (f s.0) (p.takes n i s.0 s.1 s.3) e
+    go : (t : Result ℕ Refusal) → p.weight ≡ t → out' ≡ out
+    go (Err z) i = refusal-quiet room (refused_at z 0) (p.refuses z i) e
+    go (Ok n) i = let s = (p.weighed.good n).0 i in refusal-quiet room (f s.0) (p.takes n i s.0 s.1 s.3) e

@@ -5,7 +5,8 @@ use mathlib.Core.Bool.{Bool}
 use mathlib.Core.List.{List}
 use Rattle.sums.specs.Tree.Sums.{Sum}
 use Rattle.formats.specs.Tree.{records_in}
-use Rattle.writing.specs.declared.draft.Wrote.{Wrote}
+use Rattle.std.specs.Prelude.{Result}
+use Rattle.limits.specs.declared.Refusal.{Refusal}
 use Rattle.writing.specs.Draft.Contract.Lying.{Answered}
 use Rattle.calculus.specs.Derivative as derivatives
 use Rattle.calculus.specs.Integral as integrals
@@ -35,5 +36,5 @@ pub given-as : {m k : Made} {out out' : List ℕ} {r : Answer} → m ≡ k → G
 given-as {out = out} {out' = out'} {r = r} e g = subst (λ (z : Made). Gives records_in z out out' r) e g
 
 -- another name for what answered
-pub answered-as : {w v : Writer} (flag : Bool) (s : Sum) {out out' : List ℕ} {r : Wrote} → w ≡ v → Answered out out' r (list_by v flag s) → Answered out out' r (list_by w flag s)
+pub answered-as : {w v : Writer} (flag : Bool) (s : Sum) {out out' : List ℕ} {r : Result ℕ Refusal} → w ≡ v → Answered out out' r (list_by v flag s) → Answered out out' r (list_by w flag s)
 answered-as flag s {out} {out'} {r} e a = subst (λ (w : Writer). Answered out out' r (list_by w flag s)) (sym e) a

@@ -4,6 +4,7 @@ use native.Mathlib.Omega.{arith}
 use mathlib.Core.Path.{◌≡◌, refl, subst}
 use mathlib.Core.Bool.{Bool, false}
 use mathlib.Core.List.{List}
+use Rattle.std.specs.Prelude.{Ok, Err}
 use Rattle.cells.specs.Contract.Book.{Book, Room}
 use Rattle.limits.specs.declared.Refusal.{Refusal}
 use Rattle.sums.specs.Tree.Sums.{Sum}
@@ -11,7 +12,6 @@ use Rattle.sums.specs.Contract.Lies.{Lies}
 use Rattle.cells.specs.Contract.Moves.{over}
 use Rattle.cells.proofs.Laws.{room-less}
 use Rattle.arithmetic.specs.Add.Contract.Operands.{Source}
-use Rattle.formats.specs.declared.record.Verdict.TheVariants as verdict
 use Rattle.formats.specs.Rules as rules
 use Rattle.formats.specs.Tree.{parse}
 use Rattle.stack.specs.State.{most_pairs}
@@ -23,12 +23,12 @@ use Rattle.reading.specs.Contract.Data.{DataAs}
 use Rattle.algebra.specs.Contract.Lists.{list_held}
 
 -- the list is refused as it stands
-pub list-refused : (h : ℕ) (l : List ℕ) (b : Book) {q : Refusal} → rules.verdict l ≡ verdict.Refused q → DataAs (gave.Refused q 0 false) b (list_held h l)
+pub list-refused : (h : ℕ) (l : List ℕ) (b : Book) {q : Refusal} → rules.verdict l ≡ Err q → DataAs (gave.Refused q 0 false) b (list_held h l)
 unfolding list_held
 list-refused h l b e = rw e (record { refusal = refl; place = refl; handled = refl })
 
 -- the list keeps the rules
-pub list-good : (h : ℕ) (l : List ℕ) → rules.verdict l ≡ verdict.Good → list_held h l ≡ read_held h (parse l)
+pub list-good : (h : ℕ) (l : List ℕ) → rules.verdict l ≡ Ok tt → list_held h l ≡ read_held h (parse l)
 unfolding list_held
 list-good h l e = rw e refl
 

@@ -7,12 +7,12 @@ use mathlib.Core.List.{List}
 use lib.Dec.{leb}
 use lib.Seq.{sets}
 use borrow.Author.Tests.{lt-leb, eqb-true}
+use Rattle.std.specs.Prelude.{Ok, Err}
+use Rattle.formats.specs.Rules.{Verdict}
 use Rattle.limits.specs.declared.Refusal.{Refusal}
 use Rattle.limits.specs.declared.Refusal.TheVariants.{OutputRoom}
 use Rattle.limits.specs.Refusals.{refusal_no}
 use Rattle.arithmetic.proofs.Steps.{differ}
-use Rattle.formats.specs.declared.record.Verdict.{Verdict}
-use Rattle.formats.specs.declared.record.Verdict.TheVariants as verdict
 use Rattle.formats.specs.Rules as rules
 use Rattle.formats.specs.Tree.{parse}
 use Rattle.modifiers.specs.Reading.{Read, done, refused_at, read_nodes}
@@ -68,8 +68,8 @@ unfolding list_held read_list
 list-small h l e = go (rules.verdict l) e
   where
     go : (v : Verdict) → is_full_read (by_verdict v (read_held h (parse l))) ≡ false → by_verdict v (read_nodes (parse l)) ≡ by_verdict v (read_held h (parse l))
-    go verdict.Good k = read_small h (parse l) k
-    go (verdict.Refused q) k = refl
+    go (Ok tt) k = read_small h (parse l) k
+    go (Err q) k = refl
 
 pub first-try : (w : Wanted) (h : ℕ) (l : List ℕ) {out out' : List ℕ} {r : ReadAnswer} → Makes w (list_held h l) out out' r → Tries w l out out' r
 first-try w h l {out} m =

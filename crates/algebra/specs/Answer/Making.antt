@@ -1,5 +1,5 @@
 -- What an entry makes, before there is room for it or not, and its answer.
-use Rattle.std.specs.Prelude.{ℕ, ◌≡◌, Bool, false, cond, List, leb}
+use Rattle.std.specs.Prelude.{ℕ, ◌≡◌, Bool, false, cond, List, leb, Result, Ok, Err}
 use Rattle.std.proofs.lemmas.List.Edits.{sets}
 use Rattle.limits.specs.Limits.{sum_levels}
 use Rattle.limits.specs.declared.Refusal.{Refusal}
@@ -9,14 +9,10 @@ use Rattle.sums.specs.Tree.Sums.{Sum, size}
 use Rattle.sums.specs.Tree.Good.{Good}
 use Rattle.sums.specs.Tree.Map.{Outcome, sum, refused}
 use Rattle.formats.specs.Tree as tree
-use Rattle.sums.specs.declared.entry.Taken.{Taken}
-use Rattle.sums.specs.declared.entry.Taken.TheVariants as taken
 use Rattle.sums.specs.Entry.Encoding.{encode_sum}
 use Rattle.sums.specs.Entry.Taking.{Weighed}
 use Rattle.calculus.specs.Derivative as derivatives
 use Rattle.calculus.specs.Integral as integrals
-use Rattle.writing.specs.declared.draft.Wrote.{Wrote}
-use Rattle.writing.specs.declared.draft.Wrote.TheVariants as wrote
 use Rattle.writing.specs.Draft.Writing as writing
 use Rattle.writing.specs.ToNodes.{to_nodes}
 use Rattle.writing.specs.Faithful.{faithful}
@@ -76,9 +72,9 @@ integrate_and_write_faithful flag s = of_outcome (integrals.integrate s) (λ d. 
 -- ---- answers
 
 -- a list that was written, or refused at place 0
-abbrev pub answer_of : Wrote → Answer
-answer_of (wrote.List n) = answer.Done n
-answer_of (wrote.Refused q) = answer.Refused q 0
+abbrev pub answer_of : Result ℕ Refusal → Answer
+answer_of (Ok n) = answer.Done n
+answer_of (Err q) = answer.Refused q 0
 
 -- 17 comes last, at place 0: `room` is how many there is room for
 abbrev pub answered : Made → ℕ → Answer
@@ -96,10 +92,10 @@ Gives room m out out' r = Promise (λ o. answered m (room o)) (λ o. written m (
 
 -- of a sum that is handed over: it is weighed first, and is refused, at place 0, or taken; f says what is made of it
 pub record OfBytes (room : List ℕ → ℕ) (f : Sum → Made) (l out out' : List ℕ) (r : Answer) : Type 0 where
-  pub weight : Taken
+  pub weight : Result ℕ Refusal
   pub weighed : Weighed l weight
-  pub refuses : (q : Refusal) → weight ≡ taken.Refused q → Gives room (refused_at q 0) out out' r
-  pub takes : (n : ℕ) → weight ≡ taken.Sum n → (s : Sum) → encode_sum s ≡ l → Good sum_levels s → Gives room (f s) out out' r
+  pub refuses : (q : Refusal) → weight ≡ Err q → Gives room (refused_at q 0) out out' r
+  pub takes : (n : ℕ) → weight ≡ Ok n → (s : Sum) → encode_sum s ≡ l → Good sum_levels s → Gives room (f s) out out' r
 
 -- document 01's numbers
 abbrev pub answer_numbers : Answer → Numbers

@@ -9,11 +9,14 @@ use Rattle.cells.specs.declared.Entry.{Entry}
 use Rattle.cells.specs.Contract.Book.{Book, at}
 use Rattle.cells.specs.Contract.Moves.{Kept}
 use Rattle.limits.specs.declared.Refusal.{Refusal}
+use Rattle.sums.specs.declared.tree.Merge.TheVariants.{Add}
 use Rattle.sums.specs.Tree.Sums.{Sum, and, size, entry}
-use Rattle.sums.specs.Tree.Map.{Outcome, each_into}
+use Rattle.sums.specs.Tree.Map.{Outcome, formed, each_into}
+use Rattle.arithmetic.specs.declared.Change.{Change}
+use Rattle.arithmetic.specs.Adding.{changed}
+use Rattle.arithmetic.specs.Singles.{with_coef}
 use Rattle.sums.proofs.tree.Keeps.{each_none, each-sum, each-refused}
-use Rattle.sums.specs.declared.order.Formed.{Formed}
-use Rattle.sums.specs.declared.order.Formed.TheVariants.{Done, Refused}
+use Rattle.std.specs.Prelude.{Result, Ok, Err}
 use Rattle.sums.specs.Contract.Lies.{Lies, Agrees}
 use Rattle.sums.proofs.order.Walk.{Next, next, lies-none}
 use Rattle.arithmetic.proofs.add.Lying.{Clear, clear-part, lies-clear, agreed-done, agreed-refused, agree-done, agree-refused}
@@ -22,6 +25,14 @@ use Rattle.arithmetic.proofs.add.Lying.{Clear, clear-part, lies-clear, agreed-do
 pub both : (a b : Bool) → a && b ≡ true → (a ≡ true) × (b ≡ true)
 both true b h = (refl, h)
 both false b h = (h, cc)
+
+-- nothing is asked of the entries
+abbrev pub any : Sum → Bool
+any v = true
+
+-- an entry's coefficient is changed, and it is added
+abbrev pub added : Change → Entry → Sum → Sum → Outcome
+added how x u v = formed Add (with_coef x (changed how x.coef)) u v
 
 -- so far s' was formed, n cells from p on, and v' is left of v, from q on; the test h of v holds of what is left
 pub record Folding (f : Entry → Sum → Sum → Outcome) (h : Sum → Bool) (b : Book) (p n q e left : ℕ) (s v : Sum) : Type 0 where
@@ -48,13 +59,13 @@ module _ (f : Entry → Sum → Sum → Outcome) (h : Sum → Bool) (g : ℕ →
   tests {x = x} w k a = both _ _ (sym (law _ _ _ _ _) ∙ ap h (sym k.is) ∙ w.able a)
 
   -- a step answered r, and left the book b'
-  module _ (b b' : Book) (p n q e left : ℕ) (s v : Sum) (x : Entry) (r : Formed) (w : Folding f h b p n q e left s v) (ex : x ≡ at b q) (l : q < e)
+  module _ (b b' : Book) (p n q e left : ℕ) (s v : Sum) (x : Entry) (r : Result ℕ Refusal) (w : Folding f h b p n q e left s v) (ex : x ≡ at b q) (l : q < e)
       (call : (i u : Sum) → Lies b (q + 1) (q + 1 + x.inside) (left - 1) i → Lies b p (p + n) 4 u → Agrees r b' p (f x i u)) where
     whole : (k : Next b q e left w.v' x) → entry x.kind (size k.inner) x.num x.coef ≡ x
     whole k = ap (λ (m : ℕ). entry x.kind m x.num x.coef) (sym k.inside)
 
     -- a sum: on to the rest
-    pub onward : (m : ℕ) → Kept b b' p (p + 64) → Clear q e p (p + 64) → r ≡ Done m → (m ≤ 64) × Folding f h b' p m (q + 1 + x.inside) e left s v
+    pub onward : (m : ℕ) → Kept b b' p (p + 64) → Clear q e p (p + 64) → r ≡ Ok m → (m ≤ 64) × Folding f h b' p m (q + 1 + x.inside) e left s v
     onward m kept apart er =
         let k = here x w ex l in
         let a = agreed-done b' p m r (f x k.inner w.s') (call k.inner w.s' k.lies-inner w.lies-s) er in
@@ -71,13 +82,13 @@ module _ (f : Entry → Sum → Sum → Outcome) (h : Sum → Bool) (g : ℕ →
         )
 
     -- a refusal ends it
-    pub stopped : (z : Refusal) (c : Book) → r ≡ Refused z → Agrees (Refused z) c p (each_into f s v)
+    pub stopped : (z : Refusal) (c : Book) → r ≡ Err z → Agrees (Err z) c p (each_into f s v)
     stopped z c er =
         let k = here x w ex l in
         let a = agreed-refused b' p z r (f x k.inner w.s') (call k.inner w.s' k.lies-inner w.lies-s) er in
         agree-refused c p z _ (w.same ∙ ap (each_into f w.s') k.is ∙ each-refused f _ _ _ _ _ _ _ (ap (λ (y : Entry). f y k.inner w.s') (whole k) ∙ a))
 
 -- nothing is left
-pub ended : (f : Entry → Sum → Sum → Outcome) (h : Sum → Bool) (b : Book) (p n q e left : ℕ) (s v : Sum) → Folding f h b p n q e left s v → n ≤ 64 → e ≤ q → Agrees (Done n) b p (each_into f s v)
+pub ended : (f : Entry → Sum → Sum → Outcome) (h : Sum → Bool) (b : Book) (p n q e left : ℕ) (s v : Sum) → Folding f h b p n q e left s v → n ≤ 64 → e ≤ q → Agrees (Ok n) b p (each_into f s v)
 ended f h b p n q e left s v w few l =
     agree-done b p n _ w.s' (w.same ∙ ap (each_into f w.s') (lies-none b q e left w.v' w.lies-v l) ∙ each_none f w.s') few w.lies-s

@@ -19,11 +19,10 @@ use Rattle.sums.specs.Tree.Sums.{Sum, none, size, entry}
 use Rattle.sums.specs.Tree.Good.{GoodEntry}
 use Rattle.sums.specs.Tree.Map.{Outcome, sum, refused, formed}
 use Rattle.arithmetic.proofs.Agree.{empty-size}
-use Rattle.sums.specs.declared.order.Formed.{Formed}
-use Rattle.sums.specs.declared.order.Formed.TheVariants.{Done, Refused}
+use Rattle.std.specs.Prelude.{Result, Ok, Err}
 use Rattle.sums.specs.Contract.Heads.{GoodHead}
 use Rattle.sums.specs.Contract.Lies.{Lies, Agrees}
-use Rattle.sums.proofs.order.Walk.{lies-none, plain_at, lies-below, lies-above}
+use Rattle.sums.proofs.order.Walk.{lies-none, lies_empty, plain_at, lies-below, lies-above}
 use Rattle.arithmetic.specs.Add.Contract.Operands.{Operand}
 
 -- ---- places
@@ -67,6 +66,10 @@ readable {b} {i} {e} {left} {s} k l lo hi = let ends = l.ends in (room-less {n =
 pub lies-deeper : {b : Book} {i e : ℕ} {s : Sum} → Lies b i e 3 s → Lies b i e 4 s
 lies-deeper {s = s} l = record { laid = l.laid; good = good_more 3 s l.good; ends = l.ends; room = l.room }
 
+-- nothing lies where a result is to be formed
+pub nothing : {b : Book} (p : ℕ) → Room b (p + 64) → Lies b p (p + 0) 4 none
+nothing {b} p r = lies_empty b p 4 (room-less {n = p + 64} (omega arith) r)
+
 -- a copy asks for less than a result does
 pub apart-copy : {i n p : ℕ} → Apart i n p (p + 64) → Apart i n p p
 apart-copy (under u) = under u
@@ -79,7 +82,7 @@ pub good-head : {k n : ℕ} {p : Float} {i : Sum} {c : Complex} (d : Complex) �
 good-head {i = i} d g e = record { least = g.least; most = g.most; none_else = g.none_else; inside = ap (λ (u : ℕ). eqb u 0) e ∙ sym (empty-size i) ∙ g.inside }
 
 -- a power of x has nothing inside, and is put in as one
-pub put-power-term : {b : Book} {i : ℕ} {x : Entry} {t : Sum} (b' : Book) (p : ℕ) (r : Formed) (how : Merge) (s : Sum) → GoodHead x → x.kind ≡ X → Lies b i (i + x.inside) 4 t
+pub put-power-term : {b : Book} {i : ℕ} {x : Entry} {t : Sum} (b' : Book) (p : ℕ) (r : Result ℕ Refusal) (how : Merge) (s : Sum) → GoodHead x → x.kind ≡ X → Lies b i (i + x.inside) 4 t
     → Agrees r b' p (formed how (entry X 0 x.num x.coef) none s) → Agrees r b' p (formed how x t s)
 put-power-term {b} {i} {x} {t} b' p r how s h e l a =
     let inside : x.inside ≡ 0 = eqb-true x.inside 0 (h.inside ∙ eq-eqb x.kind X e) in
@@ -97,24 +100,24 @@ pub record Agreed (b : Book) (p n : ℕ) (o : Outcome) : Type 0 where
   pub lies : Lies b p (p + n) 4 s
   pub sized : size s ≡ n
 
-pub agreed-done : (b : Book) (p n : ℕ) (r : Formed) (o : Outcome) → Agrees r b p o → r ≡ Done n → Agreed b p n o
+pub agreed-done : (b : Book) (p n : ℕ) (r : Result ℕ Refusal) (o : Outcome) → Agrees r b p o → r ≡ Ok n → Agreed b p n o
 agreed-done b p n r o a e = go o (rw e at a)
   where
-    go : (o : Outcome) → Agrees (Done n) b p o → Agreed b p n o
+    go : (o : Outcome) → Agrees (Ok n) b p o → Agreed b p n o
     go (sum s) a = let ends = a.1.ends in record { s = s; is = refl; few = a.0; lies = a.1; sized = omega arith }
     go (refused q) a = absurd a
 
 -- a refusal
-pub agreed-refused : (b : Book) (p : ℕ) (q : Refusal) (r : Formed) (o : Outcome) → Agrees r b p o → r ≡ Refused q → o ≡ refused q
+pub agreed-refused : (b : Book) (p : ℕ) (q : Refusal) (r : Result ℕ Refusal) (o : Outcome) → Agrees r b p o → r ≡ Err q → o ≡ refused q
 agreed-refused b p q r o a e = go o (rw e at a)
   where
-    go : (o : Outcome) → Agrees (Refused q) b p o → o ≡ refused q
+    go : (o : Outcome) → Agrees (Err q) b p o → o ≡ refused q
     go (sum s) a = absurd a
     go (refused z) a = ap refused (sym a)
 
 -- and the other way round
-pub agree-done : (b : Book) (p n : ℕ) (o : Outcome) (s : Sum) → o ≡ sum s → n ≤ 64 → Lies b p (p + n) 4 s → Agrees (Done n) b p o
+pub agree-done : (b : Book) (p n : ℕ) (o : Outcome) (s : Sum) → o ≡ sum s → n ≤ 64 → Lies b p (p + n) 4 s → Agrees (Ok n) b p o
 agree-done b p n o s e few l = rw e (few, l)
 
-pub agree-refused : (b : Book) (p : ℕ) (q : Refusal) (o : Outcome) → o ≡ refused q → Agrees (Refused q) b p o
+pub agree-refused : (b : Book) (p : ℕ) (q : Refusal) (o : Outcome) → o ≡ refused q → Agrees (Err q) b p o
 agree-refused b p q o e = rw e refl

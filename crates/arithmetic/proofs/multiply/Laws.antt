@@ -6,8 +6,8 @@ use mathlib.Core.Bool.{Bool, true, false, ◌&&◌, cond, true≢false}
 use lib.Dec.{eqb, lit≤}
 use lib.Ieee.{Float, of_bits}
 use borrow.Author.Tests.{eq-eqb, ne_eqb, eqb-true}
-use Rattle.numbers.specs.declared.Ordering.{Ordering}
-use Rattle.numbers.specs.declared.Ordering.TheVariants.{Less, Equal, Greater}
+use Rattle.std.specs.declared.cmp.Ordering.{Ordering}
+use Rattle.std.specs.declared.cmp.Ordering.TheVariants.{Less, Equal, Greater}
 use Rattle.numbers.specs.Ops.{◌⊕◌}
 use Rattle.numbers.specs.Signs.{zero64}
 use Rattle.numbers.specs.declared.complex.Complex.{Complex}
@@ -29,8 +29,7 @@ use Rattle.sums.specs.Tree.Map.{put_in, Outcome, sum, refused, and_then_sum, for
 use Rattle.sums.proofs.tree.Keeps.{put_by, formed-sum}
 use Rattle.arithmetic.specs.Outcomes.{product_code, add_powers}
 use Rattle.arithmetic.specs.Product.{pairable, rowable, mulable, mul_term, mul_into, product}
-use Rattle.sums.specs.declared.order.Formed.{Formed}
-use Rattle.sums.specs.declared.order.Formed.TheVariants.{Done, Refused}
+use Rattle.std.specs.Prelude.{Result, Ok, Err}
 use Rattle.sums.specs.Contract.Heads.{GoodHead}
 use Rattle.sums.specs.Contract.Lies.{Lies, Agrees}
 use Rattle.arithmetic.specs.Add.Contract.Operands.{Operand}
@@ -113,7 +112,8 @@ term-some x f y v s s' h = go (eqb x.kind X) (f v) h
 
 pub mul-some : (a b s' : Sum) → mul_into a b none ≡ sum s' → 0 < size a → 0 < size b → 0 < size s'
 mul-some a b s' h n m =
-    each-some (row_of b) (λ x i s u e. each-some (mul_term x (λ v. mul_into i v none)) (term-some x (λ v. mul_into i v none)) b s u e (omega arith)) a none s' (sym (mul-each a b none) ∙ h) (omega arith)
+    each-some (row_of b) (λ x i s u e. each-some (mul_term x (λ v. mul_into i v none)) (term-some x (λ v. mul_into i v none)) b s u e (omega arith)) a none s'
+    (sym (mul-each a b none) ∙ h) (omega arith)
 
 -- ---- what has a product
 
@@ -246,17 +246,17 @@ div-head k c n = record { least = lit≤ tt; most = lit≤ tt; none_else = λ h.
 -- ---- one pair
 
 -- X · X
-pub pair-x : (b : Book) (p : ℕ) (x y : Entry) (f : Sum → Outcome) (v s : Sum) (q : Float) (c : Complex) (r : Formed) → x.kind ≡ X → q ≡ x.num ⊕ y.num → c ≡ complex.times x.coef y.coef
+pub pair-x : (b : Book) (p : ℕ) (x y : Entry) (f : Sum → Outcome) (v s : Sum) (q : Float) (c : Complex) (r : Result ℕ Refusal) → x.kind ≡ X → q ≡ x.num ⊕ y.num → c ≡ complex.times x.coef y.coef
     → Agrees r b p (formed Add (entry X 0 q c) none s) → Agrees r b p (mul_term x f y v s)
 pair-x b p x y f v s q c r k eq ec a = rw (eq-eqb _ _ k, ← eq, ← ec) a
 
 -- Div · Div
-pub pair-div : (b : Book) (p : ℕ) (x y : Entry) (f : Sum → Outcome) (v s : Sum) (c : Complex) (r : Formed) → (x.kind ≡ X → ⊥) → c ≡ complex.times x.coef y.coef
+pub pair-div : (b : Book) (p : ℕ) (x y : Entry) (f : Sum → Outcome) (v s : Sum) (c : Complex) (r : Result ℕ Refusal) → (x.kind ≡ X → ⊥) → c ≡ complex.times x.coef y.coef
     → Agrees r b p (and_then_sum (f v) (λ w. formed Add (entry Div (size w) zero64 c) w s)) → Agrees r b p (mul_term x f y v s)
 pair-div b p x y f v s c r k ec a = rw (ne_eqb _ _ k, ← ec) a
 
 -- its inside was formed, as a sum of k entries
-pub div-done : (g b : Book) (p k : ℕ) (c : Complex) (o : Outcome) (s : Sum) (r r' : Formed) → Agrees r g 128 o → r ≡ Done k
+pub div-done : (g b : Book) (p k : ℕ) (c : Complex) (o : Outcome) (s : Sum) (r r' : Result ℕ Refusal) → Agrees r g 128 o → r ≡ Ok k
     → ((w : Sum) → Lies g 128 (128 + k) 4 w → Agrees r' b p (formed Add (entry Div k zero64 c) w s))
     → Agrees r' b p (and_then_sum o (λ w. formed Add (entry Div (size w) zero64 c) w s))
 div-done g b p k c o s r r' a e put =
@@ -264,7 +264,7 @@ div-done g b p k c o s r r' a e put =
     rw (d.is, d.sized) (put d.s d.lies)
 
 -- or refused
-pub div-refused : (g b : Book) (p : ℕ) (q : Refusal) (o : Outcome) (r : Formed) (next : Sum → Outcome) → Agrees r g 128 o → r ≡ Refused q → Agrees (Refused q) b p (and_then_sum o next)
+pub div-refused : (g b : Book) (p : ℕ) (q : Refusal) (o : Outcome) (r : Result ℕ Refusal) (next : Sum → Outcome) → Agrees r g 128 o → r ≡ Err q → Agrees (Err q) b p (and_then_sum o next)
 div-refused g b p q o r next a e = rw (agreed-refused g 128 q r o a e) refl
 
 -- ---- the whole
@@ -279,10 +279,10 @@ whole v w able =
       able = able;
     }
 
-pub product-able : (b : Book) (p : ℕ) (s t : Sum) (r : Formed) → mulable s t ≡ true → Agrees r b p (mul_into s t none) → Agrees r b p (product s t)
+pub product-able : (b : Book) (p : ℕ) (s t : Sum) (r : Result ℕ Refusal) → mulable s t ≡ true → Agrees r b p (mul_into s t none) → Agrees r b p (product s t)
 unfolding product
 product-able b p s t r e a = rw e a
 
-pub product-not : (b : Book) (p : ℕ) (s t : Sum) → mulable s t ≡ false → Agrees (Refused TooComplex) b p (product s t)
+pub product-not : (b : Book) (p : ℕ) (s t : Sum) → mulable s t ≡ false → Agrees (Err TooComplex) b p (product s t)
 unfolding product
 product-not b p s t e = rw e refl

@@ -20,21 +20,20 @@ use Rattle.arithmetic.proofs.Agree.{x-size}
 use Rattle.calculus.specs.Derivative.{slope, vanishes, prime_step, found_then, prime_from, prime}
 use Rattle.sums.specs.Contract.Lies.{Lies}
 use Rattle.sums.proofs.order.Walk.{Next, next, lies-none}
-use Rattle.arithmetic.specs.declared.add.Constant.{Constant}
-use Rattle.arithmetic.specs.declared.add.Constant.TheVariants.{Is, Other}
+use Rattle.std.specs.Prelude.{Option, Some, None}
 use Rattle.arithmetic.specs.Add.Contract.Operands.{constant_of}
 use Rattle.powers.proofs.divide.Divisors.{constant-is, constant-other}
 
 -- ---- one step
 
 module _ (acc : Complex) (p : Float) (c : Complex) {v : Bool} (e : v ≡ vanishes p c) where
-  pub step-skips : v ≡ true → Is acc ≡ constant_of (prime_step acc p c)
+  pub step-skips : v ≡ true → Some acc ≡ constant_of (prime_step acc p c)
   step-skips h = rw (← e) (rw h refl)
 
-  pub step-adds : {m a : Complex} → v ≡ false → eq (p ⊖ one64) zero64 ≡ true → m ≡ slope p c → a ≡ complex.plus acc m → Is a ≡ constant_of (prime_step acc p c)
+  pub step-adds : {m a : Complex} → v ≡ false → eq (p ⊖ one64) zero64 ≡ true → m ≡ slope p c → a ≡ complex.plus acc m → Some a ≡ constant_of (prime_step acc p c)
   step-adds h q s t = rw (← e) (rw h (rw q (rw t (rw s refl))))
 
-  pub step-none : v ≡ false → eq (p ⊖ one64) zero64 ≡ false → Other ≡ constant_of (prime_step acc p c)
+  pub step-none : v ≡ false → eq (p ⊖ one64) zero64 ≡ false → None ≡ constant_of (prime_step acc p c)
   step-none h q = rw (← e) (rw h (rw q refl))
 
 -- ---- all of them
@@ -50,7 +49,7 @@ prime-start {s = s} l = record { s' = s; lies = l; same = refl }
 
 module _ {b : Book} {q e : ℕ} {acc : Complex} {s : Sum} (w : Priming b q e acc s) where
   -- nothing is left
-  pub prime-end : e ≤ q → Is acc ≡ constant_of (prime s)
+  pub prime-end : e ≤ q → Some acc ≡ constant_of (prime s)
   unfolding prime_from
   prime-end h = sym (ap constant_of (w.same ∙ ap (prime_from acc) (lies-none b q e 4 w.s' w.lies h)))
 
@@ -67,20 +66,20 @@ module _ {b : Book} {q e : ℕ} {acc : Complex} {s : Sum} (w : Priming b q e acc
     opened = w.same ∙ ap (prime_from acc) entry_next.is
 
     -- the next is no power of x
-    pub prime-other : (x.kind ≡ X → ⊥) → Other ≡ constant_of (prime s)
+    pub prime-other : (x.kind ≡ X → ⊥) → None ≡ constant_of (prime s)
     prime-other k = sym (ap constant_of (opened ∙ ap (λ (t : Bool). cond t (onward (prime_step acc x.num x.coef)) absent) (ne_eqb x.kind X k)))
 
     -- it is
-    module _ (k : x.kind ≡ X) {o : Constant} (p : o ≡ constant_of (prime_step acc x.num x.coef)) where
+    module _ (k : x.kind ≡ X) {o : Option Complex} (p : o ≡ constant_of (prime_step acc x.num x.coef)) where
       stepped : prime s ≡ onward (prime_step acc x.num x.coef)
       stepped = opened ∙ ap (λ (t : Bool). cond t (onward (prime_step acc x.num x.coef)) absent) (eq-eqb x.kind X k)
 
       -- its derivative is no constant
-      pub prime-none : o ≡ Other → Other ≡ constant_of (prime s)
+      pub prime-none : o ≡ None → None ≡ constant_of (prime s)
       prime-none g = sym (ap constant_of (stepped ∙ ap onward (constant-other (prime_step acc x.num x.coef) (sym p ∙ g))))
 
       -- or is one: on to the rest
-      pub prime-next : {a : Complex} → o ≡ Is a → Priming b (q + 1) e a s
+      pub prime-next : {a : Complex} → o ≡ Some a → Priming b (q + 1) e a s
       prime-next {a} g =
           let n = entry_next in
           let nothing : x.inside ≡ 0 = n.inside ∙ x-size x.kind x.num n.inner x.coef n.first.entry-good (eq-eqb x.kind X k) in

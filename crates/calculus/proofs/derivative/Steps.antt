@@ -25,15 +25,10 @@ use Rattle.arithmetic.specs.Product.{product}
 use Rattle.arithmetic.proofs.Steps.{differ}
 use Rattle.arithmetic.proofs.Agree.{empty-size}
 use Rattle.arithmetic.proofs.Goodness.{good-product}
-use Rattle.calculus.specs.declared.Ln.{Ln}
-use Rattle.calculus.specs.declared.Ln.TheVariants as ln
+use Rattle.std.specs.Prelude.{Option, Some, None, Result, Ok, Err}
 use Rattle.calculus.specs.Derivative.{slope, vanishes, prime, by_prime, by_ln, ln_of, first_coef, turned_to, derive_x, derive_div, derive_log, derive_exp, derive_by, derive_into, or_zero, derive}
-use Rattle.sums.specs.declared.order.Formed.{Formed}
-use Rattle.sums.specs.declared.order.Formed.TheVariants.{Done, Refused}
 use Rattle.sums.specs.Contract.Lies.{Lies, Agrees}
 use Rattle.sums.proofs.order.Walk.{next, empty}
-use Rattle.arithmetic.specs.declared.add.Constant.{Constant}
-use Rattle.arithmetic.specs.declared.add.Constant.TheVariants.{Is, Other}
 use Rattle.arithmetic.specs.Add.Contract.Operands.{constant_of}
 use Rattle.arithmetic.proofs.add.Lying.{agreed-done, agreed-refused, agree-done, agree-refused}
 use Rattle.powers.proofs.divide.Divisors.{constant-is, constant-other}
@@ -58,19 +53,19 @@ pub turned_as : {k k' n : ℕ} {m m' : Merge} {c c' : Complex} (t s : Sum) → k
 turned_as t s ek em ec en = rw (ek, em, ec, en)
 
 -- the argument's derivative is no constant, or is one
-module _ (t : Sum) (f : Complex → Outcome) {o : Constant} (is : o ≡ constant_of (prime t)) where
-  pub prime-not : o ≡ Other → by_prime (prime t) f ≡ refused TooComplex
+module _ (t : Sum) (f : Complex → Outcome) {o : Option Complex} (is : o ≡ constant_of (prime t)) where
+  pub prime-not : o ≡ None → by_prime (prime t) f ≡ refused TooComplex
   prime-not h = ap (λ p. by_prime p f) (constant-other (prime t) (sym is ∙ h))
 
-  pub prime-is : {d : Complex} → o ≡ Is d → by_prime (prime t) f ≡ f d
+  pub prime-is : {d : Complex} → o ≡ Some d → by_prime (prime t) f ≡ f d
   prime-is h = ap (λ p. by_prime p f) (constant-is (prime t) (sym is ∙ h))
 
 -- the base's logarithm is not known, or is
-module _ (p : Float) (f : Float → Outcome) {o : Ln} (is : o ≡ ln_of p) where
-  pub ln-not : o ≡ ln.Other → by_ln (ln_of p) f ≡ refused NeedsMath
+module _ (p : Float) (f : Float → Outcome) {o : Option Float} (is : o ≡ ln_of p) where
+  pub ln-not : o ≡ None → by_ln (ln_of p) f ≡ refused NeedsMath
   ln-not h = ap (λ l. by_ln l f) (sym is ∙ h)
 
-  pub ln-is : {x : Float} → o ≡ ln.Is x → by_ln (ln_of p) f ≡ f x
+  pub ln-is : {x : Float} → o ≡ Some x → by_ln (ln_of p) f ≡ f x
   ln-is h = ap (λ l. by_ln l f) (sym is ∙ h)
 
 -- the argument is x, or is not
@@ -136,12 +131,12 @@ or_some none h = absurd (h refl)
 or_some (and k p i c r) h = refl
 
 -- each entry was derived
-module _ (b : Book) (w : ℕ) (o : Formed) (t : Sum) (a : Agrees o b w (each_into derive_into none t)) where
-  pub derive-refused : {q : Refusal} → o ≡ Refused q → Agrees (Refused q) b w (derive t)
+module _ (b : Book) (w : ℕ) (o : Result ℕ Refusal) (t : Sum) (a : Agrees o b w (each_into derive_into none t)) where
+  pub derive-refused : {q : Refusal} → o ≡ Err q → Agrees (Err q) b w (derive t)
   unfolding derive
   derive-refused {q} h = agree-refused b w q (derive t) (ap (λ (u : Outcome). and_then_sum u or_zero) (agreed-refused b w q o (each_into derive_into none t) a h))
 
-  module _ {k : ℕ} (h : o ≡ Done k) where
+  module _ {k : ℕ} (h : o ≡ Ok k) where
     -- nothing becomes constant 0
     pub derive-nothing : k ≡ 0 → alone kinds.X zero64 none complex.zero ≡ derive t
     unfolding derive
@@ -149,7 +144,7 @@ module _ (b : Book) (w : ℕ) (o : Formed) (t : Sum) (a : Agrees o b w (each_int
         let d = agreed-done b w k o (each_into derive_into none t) a h in
         sym (ap (λ (u : Outcome). and_then_sum u or_zero) (d.is ∙ ap sum (empty d.s (d.sized ∙ z))) ∙ sym zero_is)
 
-    pub derive-done : (k ≡ 0 → ⊥) → Agrees (Done k) b w (derive t)
+    pub derive-done : (k ≡ 0 → ⊥) → Agrees (Ok k) b w (derive t)
     unfolding derive
     derive-done z =
         let d = agreed-done b w k o (each_into derive_into none t) a h in

@@ -1,5 +1,5 @@
 -- What is asked for and done where an entry's derivative or integral goes into a sum of the same book.
-use Rattle.std.specs.Prelude.{ℕ, ◌+◌, ◌≤◌, cond, eqb}
+use Rattle.std.specs.Prelude.{ℕ, ◌+◌, ◌≤◌, cond, eqb, Result}
 use Rattle.limits.specs.Limits.{sum_entries, sum_levels}
 use Rattle.numbers.specs.declared.complex.Complex.{Complex}
 use Rattle.numbers.specs.Complex.Arith as complex
@@ -12,7 +12,7 @@ use Rattle.sums.specs.Tree.Map.{Outcome}
 use Rattle.calculus.specs.Derivative.{derive_by}
 use Rattle.calculus.specs.Integral.{x}
 use Rattle.calculus.specs.Contract.Turned.{turned_kind, turned_how}
-use Rattle.sums.specs.declared.order.Formed.{Formed}
+use Rattle.limits.specs.declared.Refusal.{Refusal}
 use Rattle.sums.specs.Contract.Lies.{Lies, Held, OfTwo, Agrees}
 use Rattle.sums.specs.Contract.Heads.{GoodHead}
 use Rattle.arithmetic.specs.Add.Contract.Operands.{Source}
@@ -26,7 +26,7 @@ pub record Ready (b : Book) (e : Entry) (i w len : ℕ) : Type 0 where
   pub held : Held b w (w + len) sum_levels
 
 -- f says what becomes of the entry, its argument and the sum; so many places from w on were written
-pub record Into (b b' : Book) (e : Entry) (i w len places : ℕ) (r : Formed) (f : Entry → Sum → Sum → Outcome) : Type 0 where
+pub record Into (b b' : Book) (e : Entry) (i w len places : ℕ) (r : Result ℕ Refusal) (f : Entry → Sum → Sum → Outcome) : Type 0 where
   pub kept : Kept b b' w (w + places)
   pub agrees : OfTwo b w (w + len) i (i + e.inside) sum_levels (λ s t. Agrees r b' w (f e t s))
 

@@ -1,11 +1,13 @@
 -- Numbers and their bytes, and parts of lists. Assumes nothing.
 use mathlib.Core.Path.{◌≡◌, refl, ap, ap₂, ◌∙◌, sym}
 use mathlib.Core.List.{List, [], ◌∷◌, ◌++◌, append_assoc}
-use Prim.Native.Nat.{ℕ, zero, suc, ◌+◌, ◌*◌, ◌/◌, ◌^◌, ◌≤◌, ◌<◌}
+use Prim.Native.Nat.{ℕ, zero, suc, ◌+◌, ◌*◌, ◌/◌, ◌%◌, ◌^◌, ◌≤◌, ◌<◌}
 use native.Mathlib.Omega.{arith}
 use native.Mathlib.Nat.{add-zero, pow-succ'}
 use lib.ListN.{length, get_or, set, take, drop, length-take, length-drop, length-append}
 use lib.Seq.{take-add, drop-drop, get_or-drop, drop-cons, take_at, drop_at, sets, sets-eq, length-take-le}
+use borrow.Rule.Slice.PartMut.{put_mid}
+use Rattle.std.specs.Int.{w32, w64, to_le_bytes}
 use Rattle.formats.specs.Bytes.{value, bytes, part, number, Bytes}
 
 -- ---- parts
@@ -88,9 +90,46 @@ number-eight s at h =
     let e = ap value (sym (part_join at 4 4 s) ∙ ap (λ (l : List ℕ). l ++ part (at + 4) 4 s) (part-four s at (omega arith))) in
     e ∙ omega (arith, number-four s at (omega arith))
 
+pub number-by-eight : (s : List ℕ) (at : ℕ) → at + 8 ≤ length s
+    → number 8 s at
+    ≡ get_or s at 0
+    + 256 * get_or s (at + 1) 0
+    + 65536 * get_or s (at + 2) 0
+    + 16777216 * get_or s (at + 3) 0
+    + 4294967296 * get_or s (at + 4) 0
+    + 1099511627776 * get_or s (at + 5) 0
+    + 281474976710656 * get_or s (at + 6) 0
+    + 72057594037927936 * get_or s (at + 7) 0
+number-by-eight s at h =
+    let p : at + 4 + 1 ≡ at + 5 = omega arith in
+    let q : at + 4 + 2 ≡ at + 6 = omega arith in
+    let r : at + 4 + 3 ≡ at + 7 = omega arith in
+    omega (arith, number-eight s at h, number-four s at (omega arith), rw (p, q, r) at (number-four s (at + 4) (omega arith)))
+
 pub bytes-eight : (v : ℕ) → bytes 8 v ≡ bytes 4 v ++ bytes 4 (v / 4294967296)
 unfolding bytes
 bytes-eight v = ap (λ (u : ℕ). bytes 4 v ++ bytes 4 u) (omega arith)
+
+-- std's bytes of a number are these
+pub bytes-le-four : (v : ℕ) → to_le_bytes w32 (v % 4294967296) ≡ bytes 4 v
+unfolding bytes
+bytes-le-four v =
+    let a : v % 4294967296 % 256 ≡ v % 256 = omega arith in
+    let b : v % 4294967296 / 256 % 256 ≡ v / 256 % 256 = omega arith in
+    let c : v % 4294967296 / 65536 % 256 ≡ v / 256 / 256 % 256 = omega arith in
+    let d : v % 4294967296 / 16777216 % 256 ≡ v / 256 / 256 / 256 % 256 = omega arith in
+    cc
+
+pub bytes-le-eight : (v : ℕ) → to_le_bytes w64 v ≡ bytes 8 v
+unfolding bytes
+bytes-le-eight v =
+    let b : v / 65536 ≡ v / 256 / 256 = omega arith in
+    let c : v / 16777216 ≡ v / 256 / 256 / 256 = omega arith in
+    let d : v / 4294967296 ≡ v / 256 / 256 / 256 / 256 = omega arith in
+    let e : v / 1099511627776 ≡ v / 256 / 256 / 256 / 256 / 256 = omega arith in
+    let f : v / 281474976710656 ≡ v / 256 / 256 / 256 / 256 / 256 / 256 = omega arith in
+    let g : v / 72057594037927936 ≡ v / 256 / 256 / 256 / 256 / 256 / 256 / 256 = omega arith in
+    cc
 
 -- ---- stores
 
@@ -100,6 +139,10 @@ sets-four s at a b c d =
     let q : at + 2 ≡ suc (suc at) = omega arith in
     let r : at + 3 ≡ suc (suc (suc at)) = omega arith in
     rw (p, q, r)
+
+-- a part that is written over by as many elements
+pub put_mid-sets : (s l m : List ℕ) (at k : ℕ) → at + k ≤ length s → length m ≡ k → l ≡ m → put_mid at k s l ≡ sets s at m
+put_mid-sets s l m at k h n e = ap (put_mid at k s) e ∙ rw (drop-drop, ← n) (sym (sets-eq m s at (omega arith) ∙ append_assoc (take at s) m (drop (at + length m) s)))
 
 pub sets-append : (l m s : List ℕ) (at : ℕ) → sets s at (l ++ m) ≡ sets (sets s at l) (at + length l) m
 sets-append [] m s at = rw add-zero

@@ -7,11 +7,10 @@ use Prim.Native.Nat.{ℕ}
 use native.Mathlib.Omega.{arith}
 use lib.Dec.{eqb}
 use borrow.Author.Tests.{eqb-true}
+use Rattle.std.specs.Prelude.{Option, Some, None}
 use Rattle.formats.specs.Names.{choose, named, kind_no, kind_of, kinds, primitive_no, primitive_of, primitives, modifier_no, modifier_of, modifiers}
 use Rattle.formats.specs.declared.record.Kind.{Kind}
 use Rattle.formats.specs.declared.record.Kind.TheVariants as kind
-use Rattle.formats.specs.declared.record.KindFound.{KindFound}
-use Rattle.formats.specs.declared.record.KindFound.TheVariants.{Known, Unknown}
 use Rattle.formats.specs.declared.record.Primitive.{Primitive}
 use Rattle.formats.specs.declared.record.Primitive.TheVariants as prim
 use Rattle.formats.specs.declared.record.Modifier.{Modifier}
@@ -30,7 +29,7 @@ module _ {A B : Type 0} (num : A → ℕ) (f : A → B) (z : B) (n : ℕ) where
 
 -- ---- kinds
 
-pub kind-back : (k : Kind) → kind_of (kind_no k) ≡ Known k
+pub kind-back : (k : Kind) → kind_of (kind_no k) ≡ Some k
 unfolding kind_of
 kind-back kind.RealPush = refl
 kind-back kind.ComplexPush = refl
@@ -46,11 +45,11 @@ kind-back kind.NoNormal = refl
 kind-back kind.UnderMarker = refl
 kind-back kind.AnythingElse = refl
 
-pub kind-found : (b : ℕ) (k : Kind) → kind_of b ≡ Known k → kind_no k ≡ b
+pub kind-found : (b : ℕ) (k : Kind) → kind_of b ≡ Some k → kind_no k ≡ b
 unfolding kind_of
-kind-found b k h = by (kind_of b) h (named-found kind_no Known Unknown b kinds)
+kind-found b k h = by (kind_of b) h (named-found kind_no Some None b kinds)
   where
-    by : (o : KindFound) → o ≡ Known k → (o ≡ Unknown) ⊎ ((x : Kind) × (o ≡ Known x) × (kind_no x ≡ b)) → kind_no k ≡ b
+    by : (o : Option Kind) → o ≡ Some k → (o ≡ None) ⊎ ((x : Kind) × (o ≡ Some x) × (kind_no x ≡ b)) → kind_no k ≡ b
     by o e (inl u) = let w : ◌≡◌ {A = ℕ} 0 1 = cc in absurd (omega arith)
     by o e (inr w) = let q : w.0 ≡ k = cc in rw (← q) w.2
 

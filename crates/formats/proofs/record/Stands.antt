@@ -13,7 +13,7 @@ use borrow.Author.Tests.{eqb-true, ltb-true, leb-true, le-leb}
 use Rattle.limits.specs.Limits.{list_levels}
 use Rattle.formats.specs.Bytes.{number, Bytes}
 use Rattle.formats.specs.Names.{kind_of}
-use Rattle.formats.specs.Tree.{height, rec_at, next_of, forest}
+use Rattle.formats.specs.Tree.{height, rec_at, next_of}
 use Rattle.formats.specs.Rules.{is_a, fields_ok}
 use Rattle.formats.specs.Contract.Measure.{Simple, Low, may_stand}
 use Rattle.formats.specs.declared.record.Record.{Record}

@@ -10,16 +10,14 @@ use lib.ListN.{length, take}
 use lib.Dec.{leb, eqb}
 use lib.Seq.{take-length}
 use borrow.Author.Tests.{eqb-true, leb-true, leb-false, eq-eqb, le-leb, lt-leb}
+use Rattle.std.specs.Prelude.{Some, None, Ok, Err}
 use Rattle.formats.specs.Bytes.{Bytes}
 use Rattle.formats.specs.Tree.{Nodes, size, height, forest, parse, encode}
-use Rattle.formats.specs.Rules.{WellFormed, ok_nodes, shape_of, judge, verdict, Judged}
+use Rattle.formats.specs.Rules.{WellFormed, ok_nodes, shape_of, judge, verdict, Judged, Verdict}
 use Rattle.formats.proofs.record.Forest.{size-forest}
 use Rattle.formats.proofs.record.Shapes.{and_left, and_right}
 use Rattle.formats.proofs.record.Fit.{ok-fit}
 use Rattle.formats.proofs.record.Codes.{encode-forest, forest-encode, fields-forest, length-encode}
-use Rattle.formats.specs.declared.record.Shape.TheVariants.{Bad, Tall}
-use Rattle.formats.specs.declared.record.Verdict.{Verdict}
-use Rattle.formats.specs.declared.record.Verdict.TheVariants.{Good, Refused}
 use Rattle.limits.specs.declared.Refusal.TheVariants.{BadRecord, TooDeep}
 
 -- ---- from trees to bytes
@@ -30,7 +28,7 @@ parse-encode t w =
     let e : length (encode t) / 24 ≡ 0 + size t = omega (arith, length-encode t) in
     rw e (ap (λ (l : List ℕ). forest l 0 (0 + size t)) (sym (append-nil (encode t))) ∙ forest-encode t 0 [] [] refl w.fields (ok-fit false t w.ok))
 
-pub verdict-encode : (t : Nodes) → WellFormed t → verdict (encode t) ≡ cond (leb (height t) 129) Good (Refused TooDeep)
+pub verdict-encode : (t : Nodes) → WellFormed t → verdict (encode t) ≡ cond (leb (height t) 129) (Ok tt) (Err TooDeep)
 unfolding verdict shape_of
 verdict-encode t w =
     rw (parse-encode t w, w.ok, eq-eqb (length (encode t) % 24) 0 (omega (arith, length-encode t)), le-leb (length (encode t) / 24) 2048 (omega (arith, length-encode t, w.few)))
@@ -41,21 +39,21 @@ verdict-encode t w =
 abbrev pub Sound : List ℕ → Type 0
 Sound s = ((eqb (length s % 24) 0 && leb (length s / 24) 2048) ≡ true) × (ok_nodes false (parse s) ≡ true)
 
-by-rules : (w o : Bool) (h : ℕ) → (cond w (judge (cond o (Tall h) Bad)) (Refused BadRecord) ≡ Refused BadRecord → ⊥) → (w ≡ true) × (o ≡ true)
+by-rules : (w o : Bool) (h : ℕ) → (cond w (judge (cond o (Some h) None)) (Err BadRecord) ≡ Err BadRecord → ⊥) → (w ≡ true) × (o ≡ true)
 by-rules true true h q = (refl, refl)
 by-rules true false h q = absurd (q refl)
 by-rules false o h q = absurd (q refl)
 
-unless-rules : (w o : Bool) (h : ℕ) → ((w ≡ true) × (o ≡ true) → ⊥) → cond w (judge (cond o (Tall h) Bad)) (Refused BadRecord) ≡ Refused BadRecord
+unless-rules : (w o : Bool) (h : ℕ) → ((w ≡ true) × (o ≡ true) → ⊥) → cond w (judge (cond o (Some h) None)) (Err BadRecord) ≡ Err BadRecord
 unless-rules true true h q = absurd (q (refl, refl))
 unless-rules true false h q = refl
 unless-rules false o h q = refl
 
-pub not-bad : (s : List ℕ) → (verdict s ≡ Refused BadRecord → ⊥) → Sound s
+pub not-bad : (s : List ℕ) → (verdict s ≡ Err BadRecord → ⊥) → Sound s
 unfolding verdict shape_of
 not-bad s n = by-rules (eqb (length s % 24) 0 && leb (length s / 24) 2048) (ok_nodes false (parse s)) (height (parse s)) n
 
-bad-unless : (s : List ℕ) → (Sound s → ⊥) → verdict s ≡ Refused BadRecord
+bad-unless : (s : List ℕ) → (Sound s → ⊥) → verdict s ≡ Err BadRecord
 unfolding verdict shape_of
 bad-unless s n = unless-rules (eqb (length s % 24) 0 && leb (length s / 24) 2048) (ok_nodes false (parse s)) (height (parse s)) n
 
@@ -71,7 +69,7 @@ module _ (s : List ℕ) (t : Sound s) where
   ok = t.1
 
   -- by how deep they go
-  pub parsed : verdict s ≡ cond (leb (height (parse s)) 129) Good (Refused TooDeep)
+  pub parsed : verdict s ≡ cond (leb (height (parse s)) 129) (Ok tt) (Err TooDeep)
   unfolding verdict shape_of
   parsed = rw (t.0, t.1)
 
@@ -95,45 +93,48 @@ module _ (s : List ℕ) (t : Sound s) where
 
 -- ---- the two together
 
-is-good : (h : Bool) → cond h Good (Refused TooDeep) ≡ Good → h ≡ true
+abbrev by_depth : Bool → Verdict
+by_depth low = cond low (Ok tt) (Err TooDeep)
+
+is-good : (h : Bool) → by_depth h ≡ Ok tt → h ≡ true
 is-good true q = refl
 is-good false q = let z : false ≡ true = cc in z
 
-is-deep : (h : Bool) → cond h Good (Refused TooDeep) ≡ Refused TooDeep → h ≡ false
+is-deep : (h : Bool) → by_depth h ≡ Err TooDeep → h ≡ false
 is-deep true q = let z : true ≡ false = cc in z
 is-deep false q = refl
 
-never : {v : Verdict} → v ≡ Good → v ≡ Refused BadRecord → ⊥
+never : {v : Verdict} → v ≡ Ok tt → v ≡ Err BadRecord → ⊥
 never p q = let z : ◌≡◌ {A = ℕ} 0 1 = cc in omega arith
 
-never-deep : {v : Verdict} → v ≡ Refused TooDeep → v ≡ Refused BadRecord → ⊥
+never-deep : {v : Verdict} → v ≡ Err TooDeep → v ≡ Err BadRecord → ⊥
 never-deep p q = let z : ◌≡◌ {A = ℕ} 0 1 = cc in omega arith
 
-not-both : (h : Bool) → cond h Good (Refused TooDeep) ≡ Refused BadRecord → ⊥
+not-both : (h : Bool) → by_depth h ≡ Err BadRecord → ⊥
 not-both true q = never refl q
 not-both false q = never-deep refl q
 
-pub good-sound : (s : List ℕ) → verdict s ≡ Good → Sound s
+pub good-sound : (s : List ℕ) → verdict s ≡ Ok tt → Sound s
 good-sound s q = not-bad s (never q)
 
-pub good-height : (s : List ℕ) → verdict s ≡ Good → height (forest s 0 (length s / 24)) ≤ 129
+pub good-height : (s : List ℕ) → verdict s ≡ Ok tt → height (forest s 0 (length s / 24)) ≤ 129
 unfolding parse
 good-height s q = leb-true (height (parse s)) 129 (is-good (leb (height (parse s)) 129) (sym (parsed s (good-sound s q)) ∙ q))
 
-good-iff : (s : List ℕ) → Bytes s → (verdict s ≡ Good) ↔ ((t : Nodes) × (encode t ≡ s) × WellFormed t × (height t ≤ 129))
+good-iff : (s : List ℕ) → Bytes s → (verdict s ≡ Ok tt) ↔ ((t : Nodes) × (encode t ≡ s) × WellFormed t × (height t ≤ 129))
 unfolding parse
 good-iff s b = (
   λ q. let t = good-sound s q in (parse s, encode-parse s t b, parse-formed s t b, good-height s q),
   λ w. ap verdict (sym w.1) ∙ verdict-encode w.0 w.2 ∙ rw (le-leb (height w.0) 129 w.3),
 )
 
-deep-iff : (s : List ℕ) → Bytes s → (verdict s ≡ Refused TooDeep) ↔ ((t : Nodes) × (encode t ≡ s) × WellFormed t × (129 < height t))
+deep-iff : (s : List ℕ) → Bytes s → (verdict s ≡ Err TooDeep) ↔ ((t : Nodes) × (encode t ≡ s) × WellFormed t × (129 < height t))
 deep-iff s b = (
   λ q. let t = not-bad s (never-deep q) in (parse s, encode-parse s t b, parse-formed s t b, leb-false (height (parse s)) 129 (is-deep (leb (height (parse s)) 129) (sym (parsed s t) ∙ q))),
   λ w. ap verdict (sym w.1) ∙ verdict-encode w.0 w.2 ∙ rw (lt-leb (height w.0) 129 w.3),
 )
 
-bad-iff : (s : List ℕ) → Bytes s → (verdict s ≡ Refused BadRecord) ↔ ((t : Nodes) → encode t ≡ s → WellFormed t → ⊥)
+bad-iff : (s : List ℕ) → Bytes s → (verdict s ≡ Err BadRecord) ↔ ((t : Nodes) → encode t ≡ s → WellFormed t → ⊥)
 bad-iff s b = (
   λ q t e w. not-both (leb (height t) 129) (sym (verdict-encode t w) ∙ ap verdict e ∙ q),
   λ f. bad-unless s (λ t. f (parse s) (encode-parse s t b) (parse-formed s t b)),

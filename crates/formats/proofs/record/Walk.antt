@@ -7,6 +7,7 @@ use Prim.Native.Nat.{ℕ, suc, ◌+◌, ◌-◌, ◌/◌, ◌≤◌, ◌<◌}
 use native.Mathlib.Omega.{arith}
 use lib.Dec.{eqb}
 use lib.ListN.{length}
+use Rattle.std.specs.Prelude.{Option, Some, None, Ok}
 use Rattle.formats.specs.Names.{kind_of}
 use Rattle.formats.specs.Tree.{rec, count, rec_at, next_of, forest}
 use Rattle.formats.specs.Rules.{is_a, is_known, one_of, used_or_zero, fields_ok, verdict}
@@ -18,22 +19,19 @@ use Rattle.formats.proofs.record.Theorem.{good-sound, good-height, whole, few, o
 use Rattle.formats.specs.declared.record.Record.{Record}
 use Rattle.formats.specs.declared.record.Kind.{Kind}
 use Rattle.formats.specs.declared.record.Kind.TheVariants as kind
-use Rattle.formats.specs.declared.record.KindFound.{KindFound}
-use Rattle.formats.specs.declared.record.KindFound.TheVariants.{Known, Unknown}
-use Rattle.formats.specs.declared.record.Verdict.TheVariants.{Good}
 
 -- the whole of a good list
-pub whole-stretch : (s : List ℕ) → verdict s ≡ Good → Stretch s 0 (length s / 24) false 129
+pub whole-stretch : (s : List ℕ) → verdict s ≡ Ok tt → Stretch s 0 (length s / 24) false 129
 whole-stretch s q =
     let t = good-sound s q in
     record { order = omega arith; room = omega (arith, whole s t); few = few s t; ok = ok s t; low = good-height s q }
 
 -- a record that keeps the rules has a kind
-found : (o : KindFound) → is_known o ≡ true → (k : Kind) × (o ≡ Known k)
-found (Known k) h = (k, refl)
-found Unknown h = let z : ◌≡◌ {A = ℕ} 0 1 = cc in absurd (omega arith)
+found : (o : Option Kind) → is_known o ≡ true → (k : Kind) × (o ≡ Some k)
+found (Some k) h = (k, refl)
+found None h = let z : ◌≡◌ {A = ℕ} 0 1 = cc in absurd (omega arith)
 
-pub fields-kind : (r : Record) → fields_ok r ≡ true → (k : Kind) × (kind_of r.kind ≡ Known k)
+pub fields-kind : (r : Record) → fields_ok r ≡ true → (k : Kind) × (kind_of r.kind ≡ Some k)
 unfolding fields_ok
 fields-kind r h = found (kind_of r.kind) (and_left (is_known (kind_of r.kind)) _ (and_left _ _ (and_left _ _ (and_left _ _ (and_left _ _ (and_left _ _ h))))))
 
@@ -62,7 +60,7 @@ module _ (s : List ℕ) (a e : ℕ) (b : Bool) (levels : ℕ) (t : Stretch s a e
     pub stretch-told : Told b (rec_at s a) (forest s (a + 1) (next_of s a)) (forest s (next_of s a) e)
     stretch-told = ok-told s a e h b t.ok
 
-    pub stretch-kind : (k : Kind) × (kind_of (rec_at s a).kind ≡ Known k)
+    pub stretch-kind : (k : Kind) × (kind_of (rec_at s a).kind ≡ Some k)
     stretch-kind = fields-kind (rec_at s a) stretch-told.fields
 
     pub stretch-split : forest s a e ≡ rec (rec_at s a) (forest s (a + 1) (next_of s a)) (forest s (next_of s a) e)

@@ -1,13 +1,13 @@
 -- The steps by which a sum is undone, named for the contracts of the functions that take them.
-use Rattle.std.specs.Prelude.{ℕ, ◌+◌, ◌≡◌, Bool, ◌&&◌, cond, List, eqb, Float, length}
+use Rattle.std.specs.Prelude.{ℕ, ◌+◌, ◌≡◌, Bool, ◌&&◌, cond, List, eqb, Float, length, Result, Ok, Err}
 use Rattle.numbers.specs.declared.complex.Complex.{Complex}
 use Rattle.numbers.specs.Complex.Arith as complex
 use Rattle.cells.specs.declared.Entry.{Entry}
 use Rattle.limits.specs.declared.Refusal.TheVariants.{TooComplex}
 use Rattle.sums.specs.Tree.Kinds as kinds
 use Rattle.sums.specs.Tree.Sums.{Sum, none, and}
-use Rattle.writing.specs.declared.draft.Said.{Said}
-use Rattle.writing.specs.declared.draft.Said.TheVariants as said
+use Rattle.limits.specs.declared.Refusal.{Refusal}
+use Rattle.writing.specs.declared.draft.Draft.{Draft}
 use Rattle.writing.specs.Draft.Writing.{Written, refused, and_then}
 use Rattle.writing.specs.Draft.Contract.Lying.{SaidAs}
 use Rattle.writing.specs.Draft.Contract.Growing.{Ready}
@@ -43,17 +43,17 @@ by_others flag a b c TooMuch = refused TooComplex
 
 -- ---- words, one after the other; nothing follows a refusal
 
-abbrev pub ReadyTo : List ℕ → Said → ℕ → Type 0
-ReadyTo b (said.Done d) n = Ready b d 0 n
-ReadyTo b (said.Refused q) n = Unit {0}
+abbrev pub ReadyTo : List ℕ → Result Draft Refusal → ℕ → Type 0
+ReadyTo b (Ok d) n = Ready b d 0 n
+ReadyTo b (Err q) n = Unit {0}
 
 -- at most n words are said
-pub record Spelt (b b' : List ℕ) (s r : Said) (n : ℕ) (flag : Bool) (ws : List Word) : Type 0 where
+pub record Spelt (b b' : List ℕ) (s r : Result Draft Refusal) (n : ℕ) (flag : Bool) (ws : List Word) : Type 0 where
   pub ready : (more : ℕ) → ReadyTo b s (n + more) → ReadyTo b' r more
   pub long : length b' ≡ length b
   pub lies : (w : Written) → SaidAs s b w → SaidAs r b' (and_then w (λ ns. spell flag ws ns))
 
 -- a whole list is said
-pub record Told (b b' : List ℕ) (r : Said) (w : Written) : Type 0 where
+pub record Told (b b' : List ℕ) (r : Result Draft Refusal) (w : Written) : Type 0 where
   pub long : length b' ≡ length b
   pub lies : SaidAs r b' w

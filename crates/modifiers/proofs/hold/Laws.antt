@@ -1,22 +1,19 @@
 -- What is held, in numbers. Assumes nothing.
-use Prim.Native.Nat.{ℕ, ◌+◌, ◌-◌, ◌≤◌, ◌<◌}
+use Prim.Native.Nat.{ℕ, ◌-◌}
 use native.Mathlib.Omega.{arith}
 use native.Mathlib.Decide.{dec_le}
-use mathlib.Core.Path.{◌≡◌, sym, ap, subst, ◌∙◌}
-use mathlib.Core.Bool.{Bool, false, cond, or-false}
-use mathlib.Core.List.{List, [], ◌∷◌, ◌++◌}
-use lib.Dec.{leb}
-use lib.ListN.{length, take, drop}
+use mathlib.Core.Path.{◌≡◌, sym, subst, ◌∙◌}
+use mathlib.Core.Bool.{false}
+use mathlib.Core.List.{List}
+use lib.ListN.{length, take}
 use lib.Seq.{length-take-le}
-use borrow.Author.Tests.{le-leb, lt-leb}
-use Rattle.limits.specs.declared.Refusal.TheVariants.{TooManyVariables, NoRoom}
+use Rattle.limits.specs.declared.Refusal.TheVariants.{NoRoom}
 use Rattle.sums.specs.Tree.Sums.{Sum}
 use Rattle.stack.specs.Contract.Arena.{Arena}
-use Rattle.stack.specs.Stack.{total, any_complex}
 use Rattle.stack.specs.Contract.Stacked.{Stacked}
 use Rattle.stack.specs.Contract.Blocks.{Outside}
 use Rattle.stack.proofs.slots.Laws.{space-less, space-same}
-use Rattle.stack.specs.State.{State, Walked, went, stopped, with_stack, taking_if, taking, lend}
+use Rattle.stack.specs.State.{State, Walked, stopped, taking}
 use Rattle.stack.specs.Contract.Agree.{Ready}
 use Rattle.stack.specs.declared.state.AlgebraEnv.{AlgebraEnv}
 use Rattle.stack.proofs.Laws.{taking-some, taking-short}

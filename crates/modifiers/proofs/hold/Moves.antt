@@ -14,10 +14,8 @@ use Rattle.stack.specs.Contract.Arena.{Arena, slot, Space}
 use Rattle.stack.specs.Stack.{total}
 use Rattle.stack.specs.Contract.Stacked.{Stacked, Sized, sizes_of, deep}
 use Rattle.stack.specs.Contract.Blocks.{Raised, Sunk}
-use Rattle.stack.specs.declared.slots.Deep.{Deep}
-use Rattle.stack.specs.declared.slots.Deep.TheVariants.{From, Short}
-use Rattle.stack.proofs.slots.Laws.{space-less, space-same, outside_refl, outside_trans, outside_wider, stacked-none, stacked-total, stacked-le, stacked-sized, stacked-moved}
-use Rattle.stack.proofs.slots.Laws.{stacked-join, stacked-above, stacked-raised, stacked-sunk, deep-from, deep-few}
+use Rattle.std.specs.Prelude.{Option, Some, None}
+use Rattle.stack.proofs.slots.Laws.{space-less, space-same, outside_refl, outside_trans, outside_wider, stacked-none, stacked-total, stacked-le, stacked-sized, stacked-moved, stacked-join, stacked-above, stacked-raised, stacked-sunk, deep-from, deep-few}
 use Rattle.stack.specs.State.{State, Walked, went, stopped, and_then, with_stack, taking, lend}
 use Rattle.stack.specs.Contract.Agree.{Stands, Ready, Agree, Does}
 use Rattle.stack.specs.declared.state.AlgebraEnv.{AlgebraEnv}
@@ -32,13 +30,13 @@ use Rattle.stack.proofs.Laws.{total-append, taking-some, taking-short}
 use Rattle.modifiers.proofs.Laws.{lend-fits, lend-full}
 
 -- the search of the sizes from lo up to hi for the top k found r
-abbrev pub Found : Arena → ℕ → ℕ → ℕ → Deep → Type 0
+abbrev pub Found : Arena → ℕ → ℕ → ℕ → Option ℕ → Type 0
 Found a lo hi k r = (ns : List ℕ) → Sized a.sizes lo hi ns → r ≡ deep k ns hi
 
-pub found-is : (a : Arena) (lo hi k : ℕ) {r r' : Deep} → r ≡ r' → Found a lo hi k r → Found a lo hi k r'
+pub found-is : (a : Arena) (lo hi k : ℕ) {r r' : Option ℕ} → r ≡ r' → Found a lo hi k r → Found a lo hi k r'
 found-is a lo hi k e f ns s = sym e ∙ f ns s
 
-pub found-for : (a : Arena) (lo hi : ℕ) {n n' : ℕ} (r : Deep) → n ≡ n' → Found a lo hi n r → Found a lo hi n' r
+pub found-for : (a : Arena) (lo hi : ℕ) {n n' : ℕ} (r : Option ℕ) → n ≡ n' → Found a lo hi n r → Found a lo hi n' r
 found-for a lo hi r e f = subst (λ (n : ℕ). Found a lo hi n r) e f
 
 -- the top k begin at w
@@ -51,12 +49,12 @@ pub record Cut (a : Arena) (lo w hi k : ℕ) (ss : List Sum) : Type 0 where
   pub top_cells : w + total (take k ss) ≡ hi
   pub rest_cells : lo + total (drop k ss) ≡ w
 
-pub cut : {a : Arena} {lo hi : ℕ} (k w : ℕ) (ss : List Sum) → Found a lo hi k (From w) → Stacked a lo hi ss → Cut a lo w hi k ss
+pub cut : {a : Arena} {lo hi : ℕ} (k w : ℕ) (ss : List Sum) → Found a lo hi k (Some w) → Stacked a lo hi ss → Cut a lo w hi k ss
 cut k w ss f st =
     let d = deep-from k ss w (sym (f (sizes_of ss) (stacked-sized st))) st in
     record { enough = d.0; top = d.1; rest = d.2; low = stacked-le d.2; high = stacked-le d.1; top_cells = stacked-total d.1; rest_cells = stacked-total d.2 }
 
-pub too_few : {a : Arena} {lo hi : ℕ} (k : ℕ) (ss : List Sum) → Found a lo hi k Short → Stacked a lo hi ss → length ss < k
+pub too_few : {a : Arena} {lo hi : ℕ} (k : ℕ) (ss : List Sum) → Found a lo hi k None → Stacked a lo hi ss → length ss < k
 too_few k ss f st = deep-few k ss (sym (f (sizes_of ss) (stacked-sized st))) st
 
 -- what the search of the stack asks for, and of what is held
@@ -70,14 +68,14 @@ pub search-held : {a : Arena} (lo hi : ℕ) (ss : List Sum) → Space a hi → S
     → (hi ≤ length a.sizes) × ((ns : List ℕ) × Sized a.sizes lo hi ns)
 search-held lo hi ss space st = (space.sizes, (sizes_of ss, stacked-sized st))
 
-pub raise-asks : {a : Arena} {v : ℕ} {env : AlgebraEnv} (k w : ℕ) → Ready a v env → Found a 128 env.used k (From w) → (w ≤ env.used) × Space a (env.used + (v - env.used))
+pub raise-asks : {a : Arena} {v : ℕ} {env : AlgebraEnv} (k w : ℕ) → Ready a v env → Found a 128 env.used k (Some w) → (w ≤ env.used) × Space a (env.used + (v - env.used))
 raise-asks k w ready found =
     let s = ready.some.1 in
     let below = s.below in
     ((cut k w ready.some.0.stack found s.stack).high, space-less (omega arith) ready.space)
 
 -- the same of the top k
-pub search-top : {a : Arena} {v : ℕ} {env : AlgebraEnv} (k w : ℕ) → Ready a v env → Found a 128 env.used k (From w)
+pub search-top : {a : Arena} {v : ℕ} {env : AlgebraEnv} (k w : ℕ) → Ready a v env → Found a 128 env.used k (Some w)
     → (env.used ≤ length a.sizes) × ((ns : List ℕ) × Sized a.sizes w env.used ns)
 search-top {env = env} k w ready found =
     let s = ready.some.1 in
@@ -90,15 +88,15 @@ halted : (a : Arena) (v at : ℕ) (env : AlgebraEnv) (G : State → (List Sum �
 halted a v at env G r e h = subst (λ (x : Begun). Begins a a v env x G) (sym e) (record { kept = outside_refl a 0 v; begins = h })
 
 -- there are fewer than k
-short : {a : Arena} {v : ℕ} {env : AlgebraEnv} (at k : ℕ) → Found a 128 env.used k Short → (st : State) → Stands a v env st → (f : List Sum → State → Walked)
+short : {a : Arena} {v : ℕ} {env : AlgebraEnv} (at k : ℕ) → Found a 128 env.used k None → (st : State) → Stands a v env st → (f : List Sum → State → Walked)
     → taking at k st f ≡ stopped TooManyVariables at (leb 2 env.handled)
 short at k found st s f = taking-short at k st f (too_few k st.stack found s.stack) ∙ ap (λ (n : ℕ). stopped TooManyVariables at (leb 2 n)) (sym s.handled)
 
-pub held-short : {a : Arena} {v : ℕ} {env : AlgebraEnv} (at k : ℕ) (r : Begun) → r ≡ Halted TooManyVariables at (leb 2 env.handled) → Found a 128 env.used k Short
+pub held-short : {a : Arena} {v : ℕ} {env : AlgebraEnv} (at k : ℕ) (r : Begun) → r ≡ Halted TooManyVariables at (leb 2 env.handled) → Found a 128 env.used k None
     → Begins a a v env r (λ st f. taking at k st f)
 held-short {a} {v} {env} at k r e found = halted a v at env (λ st f. taking at k st f) r e (short at k found)
 
-pub held-under : {a a' : Arena} {v : ℕ} {env : AlgebraEnv} (at k w : ℕ) → Ready a v env → Found a 128 env.used k (From w) → Raised a a' w env.used (v - env.used)
+pub held-under : {a a' : Arena} {v : ℕ} {env : AlgebraEnv} (at k w : ℕ) → Ready a v env → Found a 128 env.used k (Some w) → Raised a a' w env.used (v - env.used)
     → Begins a a' v env (Held (up_to w env) (env.used - w)) (λ st f. taking at k st f)
 held-under {a} {a'} {v} {env} at k w ready found moved =
     let below = ready.some.1.below in
@@ -121,7 +119,7 @@ held-under {a} {a'} {v} {env} at k w ready found moved =
     }
 
 -- the top is taken off and nothing held
-pub dropped-short : {a : Arena} {v : ℕ} {env : AlgebraEnv} (at : ℕ) (r : Begun) → r ≡ Halted TooManyVariables at (leb 2 env.handled) → Found a 128 env.used 1 Short
+pub dropped-short : {a : Arena} {v : ℕ} {env : AlgebraEnv} (at : ℕ) (r : Begun) → r ≡ Halted TooManyVariables at (leb 2 env.handled) → Found a 128 env.used 1 None
     → Begins a a v env r (λ st f. dropping at st f)
 dropped-short {a} {v} {env} at r e found = halted a v at env (λ st f. dropping at st f) r e (λ st s f. short at 1 found st s (λ ss st'. f [] st'))
 
@@ -140,7 +138,7 @@ nothing-held {a} {v} st s same = record {
   same = same;
 }
 
-pub dropped : {a : Arena} {v : ℕ} {env : AlgebraEnv} (at w : ℕ) → Found a 128 env.used 1 (From w) → Begins a a v env (Held (up_to w env) 0) (λ st f. dropping at st f)
+pub dropped : {a : Arena} {v : ℕ} {env : AlgebraEnv} (at w : ℕ) → Found a 128 env.used 1 (Some w) → Begins a a v env (Held (up_to w env) 0) (λ st f. dropping at st f)
 dropped {a} {v} {env} at w found = record {
   kept = outside_refl a 0 v;
   begins = λ st s.
@@ -154,24 +152,24 @@ dropped {a} {v} {env} at w found = record {
 -- ---- lent
 
 -- the deepest of some sums, of which there are k
-pub lowest : {a : Arena} {lo hi : ℕ} (k c w : ℕ) (ss : List Sum) → Found a lo hi (k - c) (From w) → length ss ≡ k → Stacked a lo hi ss → Stacked a lo w (deepest c ss)
+pub lowest : {a : Arena} {lo hi : ℕ} (k c w : ℕ) (ss : List Sum) → Found a lo hi (k - c) (Some w) → length ss ≡ k → Stacked a lo hi ss → Stacked a lo w (deepest c ss)
 lowest {a} {lo} k c w ss found len st = subst (λ (n : ℕ). Stacked a lo w (drop (n - c) ss)) (sym len) (cut (k - c) w ss found st).rest
 
 -- they lie from v on, in w - v cells
-pub lowest-at : {a : Arena} {v hi : ℕ} (k c w : ℕ) (ss : List Sum) → Found a v hi (k - c) (From w) → length ss ≡ k → Stacked a v hi ss → Stacked a v (v + (w - v)) (deepest c ss)
+pub lowest-at : {a : Arena} {v hi : ℕ} (k c w : ℕ) (ss : List Sum) → Found a v hi (k - c) (Some w) → length ss ≡ k → Stacked a v hi ss → Stacked a v (v + (w - v)) (deepest c ss)
 lowest-at k c w ss found len st =
     let low = lowest k c w ss found len st in
     let p = stacked-le low in
     stacked-at refl (omega arith) low
 
-pub lowest-within : {a : Arena} {v hi : ℕ} (k w : ℕ) (ss : List Sum) → Found a v hi k (From w) → Stacked a v hi ss → (v ≤ w) × (v + (w - v) ≤ hi)
+pub lowest-within : {a : Arena} {v hi : ℕ} (k w : ℕ) (ss : List Sum) → Found a v hi k (Some w) → Stacked a v hi ss → (v ≤ w) × (v + (w - v) ≤ hi)
 lowest-within k w ss found st =
     let c = cut k w ss found st in
     let low = c.low in
     let high = c.high in
     (low, omega arith)
 
-pub lent_never : {a : Arena} {lo hi : ℕ} (k c : ℕ) (ss : List Sum) → Found a lo hi (k - c) Short → length ss ≡ k → Stacked a lo hi ss → ⊥
+pub lent_never : {a : Arena} {lo hi : ℕ} (k c : ℕ) (ss : List Sum) → Found a lo hi (k - c) None → length ss ≡ k → Stacked a lo hi ss → ⊥
 lent_never k c ss found len st = let few = too_few (k - c) ss found st in omega arith
 
 agree-went : {a : Arena} {v : ℕ} {env : AlgebraEnv} {x : Walked} (st : State) → x ≡ went st → Stands a v env st → Agree (Went env) a v x
@@ -312,15 +310,15 @@ begun-same a v (Held env m) e h = record { sums = h.sums; state = h.state; held 
 begun-same a v (Halted q at b) e h = λ f. e f ∙ h f
 
 -- the deepest of the top k, from w up to u
-pub deepest-one : {a : Arena} {lo hi : ℕ} (k w u : ℕ) (ss : List Sum) → Found a lo hi k (From w) → Found a w hi (k - 1) (From u) → Stacked a lo hi ss → Stacked a w u (deepest 1 (take k ss))
+pub deepest-one : {a : Arena} {lo hi : ℕ} (k w u : ℕ) (ss : List Sum) → Found a lo hi k (Some w) → Found a w hi (k - 1) (Some u) → Stacked a lo hi ss → Stacked a w u (deepest 1 (take k ss))
 deepest-one k w u ss found next st = let c = cut k w ss found st in lowest k 1 u (take k ss) next (length-take-le k ss c.enough) c.top
 
-pub copied-asks : {a : Arena} {v : ℕ} {env : AlgebraEnv} (k w u : ℕ) → Ready a v env → Found a 128 env.used k (From w) → Found a w env.used (k - 1) (From u) → (w ≤ u) × (w + (u - w) ≤ env.used)
+pub copied-asks : {a : Arena} {v : ℕ} {env : AlgebraEnv} (k w u : ℕ) → Ready a v env → Found a 128 env.used k (Some w) → Found a w env.used (k - 1) (Some u) → (w ≤ u) × (w + (u - w) ≤ env.used)
 copied-asks k w u ready found next =
     let s = ready.some.1 in
     lowest-within (k - 1) u (take k ready.some.0.stack) next (cut k w ready.some.0.stack found s.stack).top
 
-pub copied : {a a' : Arena} {v : ℕ} {env : AlgebraEnv} (at k w u : ℕ) (r : Begun) → Found a 128 env.used k (From w) → Found a w env.used (k - 1) (From u)
+pub copied : {a a' : Arena} {v : ℕ} {env : AlgebraEnv} (at k w u : ℕ) (r : Begun) → Found a 128 env.used k (Some w) → Found a w env.used (k - 1) (Some u)
     → CopiesBelow a a' w (u - w) at v env r → Begins a a' v env r (λ st f. copying at k (1152 - v) st f)
 copied {a} {a'} {v} {env} at k w u r found next did = record {
   kept = did.kept;
@@ -335,12 +333,12 @@ copied {a} {a'} {v} {env} at k w u r found next did = record {
       (record { stack = c.rest; below = omega arith; handled = s.handled; complex = s.complex; pairs = s.pairs }));
 }
 
-pub copied-short : {a : Arena} {v : ℕ} {env : AlgebraEnv} (at k : ℕ) (r : Begun) → r ≡ Halted TooManyVariables at (leb 2 env.handled) → Found a 128 env.used k Short
+pub copied-short : {a : Arena} {v : ℕ} {env : AlgebraEnv} (at k : ℕ) (r : Begun) → r ≡ Halted TooManyVariables at (leb 2 env.handled) → Found a 128 env.used k None
     → Begins a a v env r (λ st f. copying at k (1152 - v) st f)
 copied-short {a} {v} {env} at k r e found = halted a v at env (λ st f. copying at k (1152 - v) st f) r e
     (λ st s f. short at k found st s (λ ss st'. and_then (lend at (1152 - v) (ss ++ deepest 1 ss) st') (λ st''. f [] st'')))
 
-pub copied-never : {a : Arena} {lo hi : ℕ} (k w : ℕ) (ss : List Sum) → Found a lo hi k (From w) → Found a w hi (k - 1) Short → Stacked a lo hi ss → ⊥
+pub copied-never : {a : Arena} {lo hi : ℕ} (k w : ℕ) (ss : List Sum) → Found a lo hi k (Some w) → Found a w hi (k - 1) None → Stacked a lo hi ss → ⊥
 copied-never k w ss found next st = let c = cut k w ss found st in lent_never k 1 (take k ss) next (length-take-le k ss c.enough) c.top
 
 -- ---- put back

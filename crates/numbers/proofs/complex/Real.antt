@@ -1,13 +1,13 @@
 -- Imaginary parts that are zero stay zero, or the result isn't finite; and there each operation acts on the real parts as the real operation
 -- does. A quotient by a pair is the exception that the Rust has: it is (a ⊗ b) ⊘ (b ⊗ b) and not a ⊘ b. Assumes nothing.
 use mathlib.Core.Path.{◌≡◌, refl, ap, ap₂, ◌∙◌}
-use mathlib.Core.Bool.{Bool, true, false, ◌&&◌, cond}
+use mathlib.Core.Bool.{Bool, true, false, cond}
 use Prim.Native.Nat.{ℕ, zero, suc, ◌+◌, ◌*◌, ◌^◌}
 use lib.Dec.{T, ltb}
 use lib.Ieee.{Float, nan, inf, fin, binary64, mul, neg, unlike, odd, units, round, up, down}
 use lib.Ieee.Scale.{finite}
 use lib.Ieee.Fits.{mul-fits, and_r, round_is}
-use Rattle.numbers.specs.Ops.{◌⊕◌, ◌⊖◌, ◌⊗◌, ◌⊘◌}
+use Rattle.numbers.specs.Ops.{◌⊖◌, ◌⊗◌, ◌⊘◌}
 use Rattle.numbers.specs.Signs.{Zero, sign}
 use Rattle.numbers.proofs.Bools.{and-false}
 use Rattle.numbers.proofs.Zeros.{zero_of, zero-finite, add-zeros, sub-zeros, neg-zero, mul-zero-left, mul-zero-right, zero-div, plus-zero, minus-zero}

@@ -21,20 +21,19 @@ use Rattle.arithmetic.specs.Power.{reciprocal}
 use Rattle.arithmetic.proofs.Agree.{empty-size, quotient-one, quotient-several}
 use Rattle.sums.specs.Contract.Lies.{Lies}
 use Rattle.sums.proofs.order.Walk.{next, lies-none}
-use Rattle.arithmetic.specs.declared.add.Constant.TheVariants.{Is, Other}
-use Rattle.arithmetic.specs.Add.Contract.Operands.{constant_of}
+use Rattle.std.specs.Prelude.{Some, None}
+use Rattle.arithmetic.specs.Add.Contract.Operands.{constant_of, Source}
 use Rattle.arithmetic.proofs.add.Lying.{apart-part}
-use Rattle.arithmetic.specs.Add.Contract.Operands.{Source}
 use Rattle.powers.specs.Divide.Contract.Dividing.{Divisor, By}
 use Rattle.powers.proofs.divide.Terms.{one_term, one-by}
 
 -- ---- what the code reads off a constant
 
-pub constant-is : (f : map.Found) {c : Complex} → constant_of f ≡ Is c → f ≡ map.at c
+pub constant-is : (f : map.Found) {c : Complex} → constant_of f ≡ Some c → f ≡ map.at c
 constant-is (map.at d) e = cc
 constant-is map.absent e = cc
 
-pub constant-other : (f : map.Found) → constant_of f ≡ Other → f ≡ map.absent
+pub constant-other : (f : map.Found) → constant_of f ≡ None → f ≡ map.absent
 constant-other (map.at d) e = cc
 constant-other map.absent e = cc
 

@@ -27,7 +27,8 @@ module _ (x y : Entry) (v s : Sum) where
   by-div e = rw e
 
   -- by neither Div nor another kind
-  pub by-power : (code : ℕ) → quotient_code x.kind y.kind ≡ code → (code ≡ x_by_div → ⊥) → (code ≡ x_by_other → ⊥) → div_term y v x s ≡ formed Add (entry X 0 (power_of code x y) (ratio_one x y)) none s
+  pub by-power : (code : ℕ) → quotient_code x.kind y.kind ≡ code → (code ≡ x_by_div → ⊥) → (code ≡ x_by_other → ⊥)
+      → div_term y v x s ≡ formed Add (entry X 0 (power_of code x y) (ratio_one x y)) none s
   by-power code e d o = rw (e, ne_eqb code x_by_div d, ne_eqb code x_by_other o) (go (eqb code x_by_x))
     where
       go : (b : Bool) → cond b (formed Add (entry X 0 (cond (is_one x.kind x.num) (neg y.num) (x.num ⊖ y.num)) (ratio_one x y)) none s) (formed Add (entry X 0 one64 (ratio_one x y)) none s)

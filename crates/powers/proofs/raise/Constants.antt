@@ -24,8 +24,7 @@ use Rattle.arithmetic.specs.Power.{power, is_euler, pow, log}
 use Rattle.arithmetic.proofs.Goodness.{good-constant}
 use Rattle.sums.specs.Contract.Lies.{At, Lies}
 use Rattle.arithmetic.specs.Add.Contract.Operands.{constant_of}
-use Rattle.arithmetic.specs.declared.add.Constant.TheVariants as read
-use Rattle.powers.specs.declared.raise.Real.TheVariants.{Is}
+use Rattle.std.specs.Prelude.{Some}
 use Rattle.powers.specs.Raise.Contract.Reals.{real_of, euler_is}
 use Rattle.powers.proofs.raise.Reals.{pow-real, log-real}
 
@@ -41,7 +40,7 @@ zero_one : eq zero64 one64 ≡ false
 unfolding of_bits eq
 zero_one = refl
 
-pub constant_real : (x : Float) → real_of (constant_of (as_constant (constant (complex.real x)))) ≡ Is x
+pub constant_real : (x : Float) → real_of (constant_of (as_constant (constant (complex.real x)))) ≡ Some x
 unfolding as_constant
 constant_real x = rw (zero-zero, zero-small)
 
@@ -67,7 +66,7 @@ constant-found : (c : Complex) → as_constant (constant c) ≡ at c
 unfolding as_constant
 constant-found c = rw zero-zero
 
-pub constant-euler : (c : Complex) → euler_is (read.Is c) ≡ is_euler (as_constant (constant c))
+pub constant-euler : (c : Complex) → euler_is (Some c) ≡ is_euler (as_constant (constant c))
 constant-euler c = rw (constant-found c) refl
 
 -- ---- a constant in a cell

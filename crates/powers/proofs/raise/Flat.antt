@@ -4,8 +4,8 @@ use borrow.Author.Tests.{eq-eqb}
 use mathlib.Core.Path.{◌≡◌, refl, sym, subst, ◌∙◌}
 use mathlib.Core.Bool.{true}
 use lib.Dec.{eqb}
-use Rattle.numbers.specs.declared.Ordering.{Ordering}
-use Rattle.numbers.specs.declared.Ordering.TheVariants.{Less, Equal, Greater}
+use Rattle.std.specs.declared.cmp.Ordering.{Ordering}
+use Rattle.std.specs.declared.cmp.Ordering.TheVariants.{Less, Equal, Greater}
 use Rattle.numbers.specs.Complex.Arith as complex
 use Rattle.numbers.specs.Ops.{◌⊕◌}
 use Rattle.cells.specs.declared.Entry.{Entry}

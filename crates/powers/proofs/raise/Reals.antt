@@ -24,19 +24,17 @@ use Rattle.arithmetic.specs.Power.{whole_power, rootable, unit_coefs, rooted, po
 use Rattle.arithmetic.specs.Pairs.{whole_pairs, power_pairs, real_pairs, pow_pairs}
 use Rattle.arithmetic.proofs.Steps.{differ}
 use Rattle.sums.specs.Contract.Heads.{GoodHead}
-use Rattle.arithmetic.specs.declared.add.Constant.{Constant}
-use Rattle.arithmetic.specs.declared.add.Constant.TheVariants as constant
+use Rattle.std.specs.Prelude.{Option, Some, None}
 use Rattle.arithmetic.specs.Add.Contract.Operands.{constant_of}
-use Rattle.powers.specs.declared.raise.Real.TheVariants.{Is, Other}
 use Rattle.powers.specs.Raise.Contract.Reals.{real_of, euler_is}
 
 -- ---- what is asked of a constant
 
-module _ (k : Constant) (c : Complex) (e : k ≡ constant.Is c) where
-  pub real-yes : complex.is_real c ≡ true → Is c.re ≡ real_of k
+module _ (k : Option Complex) (c : Complex) (e : k ≡ Some c) where
+  pub real-yes : complex.is_real c ≡ true → Some c.re ≡ real_of k
   real-yes h = rw (e, h)
 
-  pub real-no : complex.is_real c ≡ false → Other ≡ real_of k
+  pub real-no : complex.is_real c ≡ false → None ≡ real_of k
   real-no h = rw (e, h)
 
   pub euler-test : {r : Bool} {x : Float} → x ≡ euler → r ≡ complex.same c (complex.complex x zero64) → r ≡ euler_is k
@@ -47,42 +45,42 @@ euler-is (at c) = refl
 euler-is absent = refl
 
 -- the constant whose real number it is
-found : (f : Found) (e : Float) → real_of (constant_of f) ≡ Is e → (c : Complex) × (f ≡ at c) × (complex.is_real c ≡ true) × (c.re ≡ e)
+found : (f : Found) (e : Float) → real_of (constant_of f) ≡ Some e → (c : Complex) × (f ≡ at c) × (complex.is_real c ≡ true) × (c.re ≡ e)
 found absent e h = absurd (let z : ◌≡◌ {A = ℕ} 0 1 = cc in omega arith)
 found (at c) e h = go (complex.is_real c) refl h
   where
-    go : (b : Bool) → complex.is_real c ≡ b → cond b (Is c.re) Other ≡ Is e → (d : Complex) × (at c ≡ at d) × (complex.is_real d ≡ true) × (d.re ≡ e)
+    go : (b : Bool) → complex.is_real c ≡ b → cond b (Some c.re) None ≡ Some e → (d : Complex) × (at c ≡ at d) × (complex.is_real d ≡ true) × (d.re ≡ e)
     go true z h = (c, refl, z, cc)
     go false z h = absurd (let z : ◌≡◌ {A = ℕ} 0 1 = cc in omega arith)
 
 -- a real number
-pub by-real-is : (f : Found) (g : Float → Outcome) (e : Float) → real_of (constant_of f) ≡ Is e → by_real f g ≡ g e
+pub by-real-is : (f : Found) (g : Float → Outcome) (e : Float) → real_of (constant_of f) ≡ Some e → by_real f g ≡ g e
 by-real-is f g e h = let w = found f e h in rw (w.1, w.2) (ap g w.3)
 
 -- and the pairs by it
-real-pairs-is : (f : Found) (g : Float → ℕ) (e : Float) → real_of (constant_of f) ≡ Is e → real_pairs f g ≡ g e
+real-pairs-is : (f : Found) (g : Float → ℕ) (e : Float) → real_of (constant_of f) ≡ Some e → real_pairs f g ≡ g e
 real-pairs-is f g e h = let w = found f e h in rw (w.1, w.2) (ap g w.3)
 
 -- none
-pub by-real-not : (f : Found) (g : Float → Outcome) → real_of (constant_of f) ≡ Other → by_real f g ≡ refused TooComplex
+pub by-real-not : (f : Found) (g : Float → Outcome) → real_of (constant_of f) ≡ None → by_real f g ≡ refused TooComplex
 by-real-not absent g h = refl
 by-real-not (at c) g h = go (complex.is_real c) h
   where
-    go : (b : Bool) → cond b (Is c.re) Other ≡ Other → unless b TooComplex (g c.re) ≡ refused TooComplex
+    go : (b : Bool) → cond b (Some c.re) None ≡ None → unless b TooComplex (g c.re) ≡ refused TooComplex
     go true h = absurd (let z : ◌≡◌ {A = ℕ} 0 1 = cc in omega arith)
     go false h = refl
 
 -- it is finite, where the sum is good
-pub real-finite : (t : Sum) (e : Float) → Good 4 t → real_of (constant_of (as_constant t)) ≡ Is e → finite e ≡ true
+pub real-finite : (t : Sum) (e : Float) → Good 4 t → real_of (constant_of (as_constant t)) ≡ Some e → finite e ≡ true
 unfolding as_constant Good
 real-finite none e g h = absurd (let z : ◌≡◌ {A = ℕ} 0 1 = cc in omega arith)
 real-finite (and k p i c none) e g h = go (is_one k p) h
   where
-    found : (b : Bool) → cond b (Is c.re) Other ≡ Is e → finite e ≡ true
+    found : (b : Bool) → cond b (Some c.re) None ≡ Some e → finite e ≡ true
     found true h = ap finite (let same : e ≡ c.re = cc in same) ∙ is_true _ (and_l (finite c.re) (fits binary64 c.re) g.0.re)
     found false h = absurd (let z : ◌≡◌ {A = ℕ} 0 1 = cc in omega arith)
 
-    go : (b : Bool) → real_of (constant_of (cond b (at c) absent)) ≡ Is e → finite e ≡ true
+    go : (b : Bool) → real_of (constant_of (cond b (at c) absent)) ≡ Some e → finite e ≡ true
     go true h = found (complex.is_real c) h
     go false h = absurd (let z : ◌≡◌ {A = ℕ} 0 1 = cc in omega arith)
 real-finite (and k p i c (and l q j d r)) e g h = absurd (let z : ◌≡◌ {A = ℕ} 0 1 = cc in omega arith)
@@ -123,25 +121,25 @@ module _ (s t : Sum) where
 
   module _ (h : is_euler (as_constant s) && is_x t ≡ false) where
     -- a real power
-    pub pow-real : (e : Float) → real_of (constant_of (as_constant t)) ≡ Is e → pow s t ≡ power s e
+    pub pow-real : (e : Float) → real_of (constant_of (as_constant t)) ≡ Some e → pow s t ≡ power s e
     unfolding pow
     pow-real e r = rw h (by-real-is (as_constant t) (power s) e r)
 
-    pub pow-pairs-real : (e : Float) → real_of (constant_of (as_constant t)) ≡ Is e → pow_pairs s t ≡ power_pairs s e
+    pub pow-pairs-real : (e : Float) → real_of (constant_of (as_constant t)) ≡ Some e → pow_pairs s t ≡ power_pairs s e
     unfolding pow_pairs
     pow-pairs-real e r = rw h (real-pairs-is (as_constant t) (power_pairs s) e r)
 
     -- any other
-    pub pow-not : real_of (constant_of (as_constant t)) ≡ Other → pow s t ≡ refused TooComplex
+    pub pow-not : real_of (constant_of (as_constant t)) ≡ None → pow s t ≡ refused TooComplex
     unfolding pow
     pow-not r = rw h (by-real-not (as_constant t) (power s) r)
 
   -- a real base
-  pub log-real : (e : Float) → real_of (constant_of (as_constant t)) ≡ Is e → log s t ≡ alone Log e s complex.one
+  pub log-real : (e : Float) → real_of (constant_of (as_constant t)) ≡ Some e → log s t ≡ alone Log e s complex.one
   unfolding log
   log-real e r = by-real-is (as_constant t) (λ base. alone Log base s complex.one) e r
 
-  pub log-not : real_of (constant_of (as_constant t)) ≡ Other → log s t ≡ refused TooComplex
+  pub log-not : real_of (constant_of (as_constant t)) ≡ None → log s t ≡ refused TooComplex
   unfolding log
   log-not r = by-real-not (as_constant t) (λ base. alone Log base s complex.one) r
 

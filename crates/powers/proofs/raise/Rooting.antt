@@ -21,7 +21,7 @@ use Rattle.limits.specs.declared.Refusal.TheVariants.{PowerNotFinite}
 use Rattle.sums.specs.Tree.Kinds.{X}
 use Rattle.sums.specs.Tree.Sums.{Sum}
 use Rattle.arithmetic.specs.Power.{rooted}
-use Rattle.sums.specs.declared.order.Formed.TheVariants.{Done, Refused}
+use Rattle.std.specs.Prelude.{Ok, Err}
 use Rattle.sums.specs.Contract.Lies.{Agrees}
 use Rattle.sums.proofs.order.Walk.{plain_at, lies-copied}
 use Rattle.powers.specs.Raise.Contract.Roots.{Rooting, root_entry}
@@ -40,7 +40,7 @@ halfway-start e b p = record { begun = omega arith; below = λ j h. refl; done =
 
 module _ {e : Float} (fe : finite e ≡ true) {b b' : Book} {p k n : ℕ} {s : Sum} (R : Rooting b p n s) (H : Halfway e b b' p k) where
   -- every cell was made its root
-  pub root-done : p + n ≤ k → Agrees (Done n) b' p (rooted e s)
+  pub root-done : p + n ≤ k → Agrees (Ok n) b' p (rooted e s)
   root-done h =
       let few = R.few in
       let ends = R.lies.ends in
@@ -66,7 +66,7 @@ module _ {e : Float} (fe : finite e ≡ true) {b b' : Book} {p k n : ℕ} {s : S
       spot = let ends = R.lies.ends in let begun = H.begun in root-spot e (T_of fe) (at b) p 4 s R.lies.laid R.lies.good R.single R.units k (omega arith) (omega arith)
 
       -- its root's power isn't finite
-      pub root-stops : finite x.num ≡ false → Agrees (Refused PowerNotFinite) b' p (rooted e s)
+      pub root-stops : finite x.num ≡ false → Agrees (Err PowerNotFinite) b' p (rooted e s)
       root-stops h = rw (spot.stops (ap (λ (u : Entry). finite u.num) (sym is) ∙ h)) refl
 
       module _ (h : finite x.num ≡ true) where

@@ -24,7 +24,8 @@ use Rattle.arithmetic.proofs.multiply.Singles.{product-put}
 
 -- a power of x put into nothing: 18 for its power, then 15 for its coefficient, which starts from +0
 formed-alone : (p : Float) (c : Complex)
-    → formed Add (entry X 0 p c) none none ≡ unless (finite p) PowerNotFinite (unless (complex.all_finite (complex.plus complex.zero c)) NotFinite (sum (single X p none (complex.plus complex.zero c))))
+    → formed Add (entry X 0 p c) none none
+    ≡ unless (finite p) PowerNotFinite (unless (complex.all_finite (complex.plus complex.zero c)) NotFinite (sum (single X p none (complex.plus complex.zero c))))
 unfolding formed put_in coef_in levels size
 formed-alone p c = refl
 

@@ -1,5 +1,5 @@
 -- Products by turns: where they lie, and what is left to do. Assumes nothing.
-use Prim.Native.Nat.{ℕ, suc, ◌+◌, ◌*◌, ◌-◌, ◌%◌, ◌≤◌, ◌<◌}
+use Prim.Native.Nat.{ℕ, suc, ◌+◌, ◌*◌, ◌%◌, ◌≤◌, ◌<◌}
 use native.Mathlib.Omega.{arith}
 use borrow.Author.Tests.{eqb-true, eqb-false}
 use mathlib.Core.Path.{◌≡◌, refl, sym, ap, subst, ◌∙◌}
@@ -14,8 +14,7 @@ use Rattle.arithmetic.specs.Power.{raised}
 use Rattle.arithmetic.specs.Pairs.{raised_pairs}
 use Rattle.arithmetic.proofs.Agree.{raised-none, raised-sum, raised-refused}
 use Rattle.arithmetic.proofs.Pairs.{pairs_len, raised-pairs-none, raised-pairs-more}
-use Rattle.sums.specs.declared.order.Formed.{Formed}
-use Rattle.sums.specs.declared.order.Formed.TheVariants.{Done, Refused}
+use Rattle.std.specs.Prelude.{Result, Ok, Err}
 use Rattle.sums.specs.Contract.Lies.{Lies, Agrees}
 use Rattle.arithmetic.specs.Add.Contract.Operands.{Operand, Source}
 use Rattle.arithmetic.proofs.add.Lying.{clear, lies-clear, agreed-done, agreed-refused, agree-done, agree-refused}
@@ -79,8 +78,9 @@ pub record So-far (b : Book) (from n left times k : ℕ) (s : Sum) : Type 0 wher
   pub counts : raised_pairs times s s ≡ k + raised_pairs left acc s
   pub flat : Flat s → Flat acc
 
-pub so-far-start : {b : Book} {i n : ℕ} (times : ℕ) {s : Sum} → Lies b i (i + n) 4 s → So-far b i n times times 0 s
-so-far-start times {s} l = record { acc = s; made = l; same = refl; counts = omega arith; flat = λ e. e }
+pub so-far-start : {b : Book} {i n left times : ℕ} {s : Sum} → left ≡ times → Lies b i (i + n) 4 s → So-far b i n left times 0 s
+so-far-start {s = s} e l =
+    record { acc = s; made = l; same = ap (λ (m : ℕ). raised m s s) (sym e); counts = omega (arith, ap (λ (m : ℕ). raised_pairs m s s) e); flat = λ f. f }
 
 -- the product so far, where a turn goes
 pub turn-so-far : {b : Book} {w i n times from len left p k : ℕ} {s : Sum} → Source b i n w → len ≤ 64 → Place w i n times from len left → So-far b from len left times k s → p ≡ turn_place w left
@@ -91,23 +91,21 @@ turn-so-far {b} {w} {from = from} {len = len} {left = left} S few (turned z) F e
     (record { few = few; held = (F.acc, F.made); apart = subst (λ (k : ℕ). Apart k len (turn_place w left) (turn_place w left + 64)) (sym z) (turn-apart w left len few) })
 
 -- where the next turn finds it
-pub turn-next : {w i n times len left p : ℕ} → 0 < left → p ≡ turn_place w left → Place w i n times p len (left - 1)
-turn-next {w} {left = left} h e = let same : left ≡ left - 1 + 1 = omega arith in turned (e ∙ ap (turn_place w) same)
+pub turn-next : {w i n times len left less p : ℕ} → left ≡ suc less → p ≡ turn_place w left → Place w i n times p len less
+turn-next {w} {less = less} h e = let next : suc less ≡ less + 1 = omega arith in turned (e ∙ ap (turn_place w) (h ∙ next))
 
 -- the last product lies at w
 pub last-place : {w i n times from len left : ℕ} → 0 < times → left ≡ 0 → Place w i n times from len left → from ≡ w
 last-place h z (first e) = absurd (omega (arith, e))
 last-place {w} h z (turned e) = e ∙ ap (λ (m : ℕ). turn_place w (m + 1)) z
 
-module _ {b : Book} (b' : Book) (p : ℕ) {from n left times k : ℕ} {s : Sum} (h : 0 < left) (F : So-far b from n left times k s) (r : Formed) (a : Agrees r b' p (product F.acc s)) where
-  again : left ≡ suc (left - 1)
-  again = omega arith
-
-  one_more : raised times s s ≡ raised (suc (left - 1)) F.acc s
+module _ {b : Book} (b' : Book) (p : ℕ) {from n left less times k : ℕ} {s : Sum} (again : left ≡ suc less) (F : So-far b from n left times k s) (r : Result ℕ Refusal)
+    (a : Agrees r b' p (product F.acc s)) where
+  one_more : raised times s s ≡ raised (suc less) F.acc s
   one_more = F.same ∙ ap (λ (m : ℕ). raised m F.acc s) again
 
   -- a product was formed, of each term so far with each of the base
-  pub so_far_more : (m more : ℕ) → r ≡ Done m → more ≡ len F.acc * len s → (m ≤ 64) × So-far b' p m (left - 1) times (k + more) s
+  pub so_far_more : (m more : ℕ) → r ≡ Ok m → more ≡ len F.acc * len s → (m ≤ 64) × So-far b' p m less times (k + more) s
   so_far_more m more e f =
       let d = agreed-done b' p m r (product F.acc s) a e in
       let left_over = F.counts ∙ ap (λ (m : ℕ). k + raised_pairs m F.acc s) again in (
@@ -115,18 +113,18 @@ module _ {b : Book} (b' : Book) (p : ℕ) {from n left times k : ℕ} {s : Sum} 
         record {
           acc = d.s;
           made = d.lies;
-          same = one_more ∙ raised-sum (left - 1) F.acc s d.s d.is;
-          counts = omega (arith, left_over, raised-pairs-more (left - 1) F.acc s d.s d.is, pairs_len F.acc s, f);
+          same = one_more ∙ raised-sum less F.acc s d.s d.is;
+          counts = omega (arith, left_over, raised-pairs-more less F.acc s d.s d.is, pairs_len F.acc s, f);
           flat = λ e. flat-product F.acc s d.s F.made.good (F.flat e) d.is;
         },
       )
 
   -- or none
-  pub so-far-stops : (w : ℕ) (q : Refusal) → r ≡ Refused q → Agrees (Refused q) b' w (raised times s s)
-  so-far-stops w q e = agree-refused b' w q _ (one_more ∙ raised-refused (left - 1) F.acc s q (agreed-refused b' p q r (product F.acc s) a e))
+  pub so-far-stops : (w : ℕ) (q : Refusal) → r ≡ Err q → Agrees (Err q) b' w (raised times s s)
+  so-far-stops w q e = agree-refused b' w q _ (one_more ∙ raised-refused less F.acc s q (agreed-refused b' p q r (product F.acc s) a e))
 
 -- nothing is left
-pub so-far-done : {b : Book} {w from n left times k : ℕ} {s : Sum} → n ≤ 64 → left ≡ 0 → from ≡ w → So-far b from n left times k s → Agrees (Done n) b w (raised times s s)
+pub so-far-done : {b : Book} {w from n left times k : ℕ} {s : Sum} → n ≤ 64 → left ≡ 0 → from ≡ w → So-far b from n left times k s → Agrees (Ok n) b w (raised times s s)
 so-far-done {b} {w} {from} {n} {left} {times} {k} {s} few z e F =
     agree-done b w n _ F.acc (F.same ∙ ap (λ (m : ℕ). raised m F.acc s) z ∙ raised-none F.acc s) few (subst (λ (j : ℕ). Lies b j (j + n) 4 F.acc) e F.made)
 

@@ -3,8 +3,8 @@ use Prim.Native.Nat.{ℕ, zero, suc, ◌-◌}
 use native.Mathlib.Omega.{arith}
 use mathlib.Core.Path.{◌≡◌, refl, sym, ap}
 use mathlib.Core.Bool.{true, false}
+use Rattle.std.specs.Prelude.{Some, None}
 use Rattle.numbers.specs.Signs.{zero64}
-use Rattle.numbers.specs.declared.SmallWhole.TheVariants as small
 use Rattle.numbers.proofs.Values.{bits-0}
 use Rattle.numbers.specs.Complex.Arith as complex
 use Rattle.limits.specs.declared.Refusal.TheVariants.{TooComplex, BigPower}
@@ -22,26 +22,26 @@ unfolding formed coef_in put_in levels size
 zero_is = rw bits-0
 
 -- above 64
-pub whole-not : (s : Sum) → mulable s s ≡ false → whole_power s small.Other ≡ refused TooComplex
+pub whole-not : (s : Sum) → mulable s s ≡ false → whole_power s None ≡ refused TooComplex
 whole-not s h = rw h
 
-pub whole-big : (s : Sum) → mulable s s ≡ true → whole_power s small.Other ≡ refused BigPower
+pub whole-big : (s : Sum) → mulable s s ≡ true → whole_power s None ≡ refused BigPower
 whole-big s h = rw h
 
 -- 0
-pub whole-zero : (s : Sum) (k : ℕ) → k ≡ 0 → whole_power s (small.Is k) ≡ alone X zero64 none complex.zero
+pub whole-zero : (s : Sum) (k : ℕ) → k ≡ 0 → whole_power s (Some k) ≡ alone X zero64 none complex.zero
 whole-zero s k h = rw h (sym zero_is)
 
 -- 1 to 64
-pub whole-some : (s : Sum) (k : ℕ) → (k ≡ 0 → ⊥) → whole_power s (small.Is k) ≡ raised (k - 1) s s
+pub whole-some : (s : Sum) (k : ℕ) → (k ≡ 0 → ⊥) → whole_power s (Some k) ≡ raised (k - 1) s s
 whole-some s zero h = absurd (h refl)
 whole-some s (suc k) h = ap (λ (n : ℕ). raised n s s) (omega arith)
 
 -- ---- their pairs
 
-pub whole-pairs-zero : (s : Sum) (k : ℕ) → k ≡ 0 → whole_pairs s (small.Is k) ≡ 0
+pub whole-pairs-zero : (s : Sum) (k : ℕ) → k ≡ 0 → whole_pairs s (Some k) ≡ 0
 whole-pairs-zero s k h = rw h
 
-pub whole-pairs-some : (s : Sum) (k : ℕ) → (k ≡ 0 → ⊥) → whole_pairs s (small.Is k) ≡ raised_pairs (k - 1) s s
+pub whole-pairs-some : (s : Sum) (k : ℕ) → (k ≡ 0 → ⊥) → whole_pairs s (Some k) ≡ raised_pairs (k - 1) s s
 whole-pairs-some s zero h = absurd (h refl)
 whole-pairs-some s (suc k) h = ap (λ (n : ℕ). raised_pairs n s s) (omega arith)

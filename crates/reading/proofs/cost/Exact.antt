@@ -1,8 +1,7 @@
 -- A reading in which no record is refused runs exactly as many records as the list costs. Assumes nothing.
 use Prim.Native.Nat.{ℕ, ◌+◌, ◌*◌}
 use native.Mathlib.Omega.{arith}
-use mathlib.Core.Path.{◌≡◌, refl, sym, ap, subst, ◌∙◌}
-use mathlib.Core.Bool.{Bool}
+use mathlib.Core.Path.{◌≡◌, refl, ap, subst, ◌∙◌}
 use mathlib.Core.List.{List, [], ◌∷◌}
 use Rattle.sums.specs.Tree.Sums.{Sum}
 use Rattle.formats.specs.declared.record.Record.{Record}
@@ -12,14 +11,13 @@ use Rattle.formats.specs.Names.{kind_of, modifier_of}
 use Rattle.formats.specs.Tree as tree
 use Rattle.stack.specs.Stack.{total}
 use Rattle.stack.specs.State.{State, Walked, went, stopped, and_then, taking, lend}
-use Rattle.modifiers.specs.Holding.{deepest, back_to, holding, dropping, copying}
+use Rattle.modifiers.specs.Holding.{deepest, back_to}
 use Rattle.modifiers.specs.declared.Inside.{Inside}
 use Rattle.modifiers.specs.declared.Inside.TheVariants.{Nothing, Nodes, Bodies}
 use Rattle.modifiers.specs.Modifiers.{Runner, run_all, around, forked, most, one_body, two_bodies, modifier}
 use Rattle.modifiers.specs.Reading.{inside_of, by_inside, step_of, runners, start}
 use Rattle.reading.specs.Cost.Cost.{where_asked, times_of, inside_times, own_cost, cost_of}
-use Rattle.reading.specs.Cost.Counting.{Counter, nodes_of, after, count_all, Begun, begun, taken_off, opened, dropped, copied, BeginsAs}
-use Rattle.reading.specs.Cost.Counting.{count_around, count_forked, count_fork, of_one_body, of_two_bodies, nothing, count_modifier, count_inside, counters, ran}
+use Rattle.reading.specs.Cost.Counting.{Counter, nodes_of, after, count_all, Begun, begun, taken_off, opened, dropped, copied, BeginsAs, count_around, count_forked, count_fork, of_one_body, of_two_bodies, nothing, count_modifier, count_inside, counters, ran}
 use Rattle.reading.proofs.cost.Each.{Each, each}
 use Rattle.reading.proofs.cost.Begins.{hold-begins, drop-begins, copy-begins, fork-begins, never, opens}
 

@@ -7,10 +7,9 @@ use mathlib.Core.List.{List}
 use Rattle.limits.specs.Limits.{list_levels}
 use Rattle.limits.specs.declared.Refusal.{Refusal}
 use Rattle.formats.specs.declared.record.Record.{Record}
-use Rattle.formats.specs.declared.record.Verdict.TheVariants as verdicts
 use Rattle.formats.specs.declared.record.Modifier as modifiers
 use Rattle.formats.specs.Names.{kind_of, modifier_of}
-use Rattle.formats.specs.Tree.{Nodes, count, rec_at, next_of, forest, parse, records_in}
+use Rattle.formats.specs.Tree.{Nodes, count, rec_at, forest, parse, records_in}
 use Rattle.formats.specs.declared.record.Kind.TheVariants.{Modifier}
 use Rattle.formats.specs.Rules.{is_a, verdict}
 use Rattle.formats.specs.Contract.Walk.{Stretch}
@@ -18,7 +17,7 @@ use Rattle.formats.proofs.record.Forest.{forest-none}
 use Rattle.formats.proofs.record.Walk.{whole-stretch, stretch-next, stretch-split, stretch-levels, stretch-inside, stretch-after}
 use Rattle.modifiers.specs.declared.Inside.TheVariants as inside
 use Rattle.modifiers.specs.Reading.{inside_of}
-use Rattle.reading.specs.declared.cost.CostAnswer.TheVariants.{Steps, Refused}
+use Rattle.std.specs.Prelude.{Ok, Err}
 use Rattle.reading.specs.Cost.Cost.{most_steps, times_of, inside_times, own_cost, cost_of, cost_list}
 use Rattle.reading.proofs.cost.Without.{inside-twice}
 
@@ -87,14 +86,14 @@ module _ (s : List ℕ) (a e : ℕ) (b : Bool) (left : ℕ) (t : Stretch s a e b
 
 -- ---- the whole list
 
-pub list-refused : (l : List ℕ) (q : Refusal) → verdict l ≡ verdicts.Refused q → Refused q ≡ cost_list l
+pub list-refused : (l : List ℕ) (q : Refusal) → verdict l ≡ Err q → Err q ≡ cost_list l
 unfolding cost_list
 list-refused l q v = rw v
 
-module _ (l : List ℕ) (v : verdict l ≡ verdicts.Good) where
+module _ (l : List ℕ) (v : verdict l ≡ Ok tt) where
   pub list-stretch : {n : ℕ} → n ≡ records_in l → Stretch l 0 n false list_levels
   list-stretch e = rw e (whole-stretch l v)
 
-  pub list_steps : {n steps : ℕ} → n ≡ records_in l → steps ≡ min most_steps (cost_of (forest l 0 n)) → Steps steps ≡ cost_list l
+  pub list_steps : {n steps : ℕ} → n ≡ records_in l → steps ≡ min most_steps (cost_of (forest l 0 n)) → Ok steps ≡ cost_list l
   unfolding cost_list parse
-  list_steps e d = rw v (ap Steps (d ∙ ap (λ (k : ℕ). min most_steps (cost_of (forest l 0 k))) e))
+  list_steps e d = rw v (ap Ok (d ∙ ap (λ (k : ℕ). min most_steps (cost_of (forest l 0 k))) e))

@@ -1,7 +1,7 @@
 -- A reading runs at most as many records as the list costs. Assumes nothing.
 use Prim.Native.Nat.{ℕ, ◌+◌, ◌*◌, ◌≤◌}
 use native.Mathlib.Omega.{arith}
-use mathlib.Core.Path.{◌≡◌, subst}
+use mathlib.Core.Path.{subst}
 use mathlib.Core.List.{List, [], ◌∷◌}
 use Rattle.sums.specs.Tree.Sums.{Sum}
 use Rattle.formats.specs.declared.record.Record.{Record}
@@ -17,8 +17,7 @@ use Rattle.modifiers.specs.declared.Inside.TheVariants.{Nothing, Nodes, Bodies}
 use Rattle.modifiers.specs.Modifiers.{forked, most}
 use Rattle.modifiers.specs.Reading.{inside_of, start}
 use Rattle.reading.specs.Cost.Cost.{where_asked, times_of, inside_times, own_cost, cost_of}
-use Rattle.reading.specs.Cost.Counting.{Counter, nodes_of, after, count_all, Begun, begun, halted, opened, dropped, copied, taken_off}
-use Rattle.reading.specs.Cost.Counting.{count_around, count_forked, count_fork, of_one_body, of_two_bodies, nothing, count_modifier, count_inside, counters, ran}
+use Rattle.reading.specs.Cost.Counting.{Counter, nodes_of, after, count_all, Begun, begun, halted, opened, dropped, copied, taken_off, count_around, count_forked, count_fork, of_one_body, of_two_bodies, nothing, count_modifier, count_inside, counters, ran}
 use Rattle.reading.proofs.cost.Each.{Each, each}
 
 -- a count that is at most n, whatever is held and whatever the state is

@@ -24,8 +24,7 @@ use Rattle.modifiers.specs.Reading.{inside_of, by_inside, step_of, runners, star
 use Rattle.modifiers.proofs.Keeps.{each_take, each-drop, each_append, each-deepest}
 use Rattle.modifiers.proofs.Good.{x-good}
 use Rattle.modifiers.proofs.Pairs.{Fine, Within, within_more, lend-within, leaf-within}
-use Rattle.reading.specs.Cost.Counting.{Counter, nodes_of, after, count_all, Begun, begun, halted, with_held, taken_off, opened, dropped, copied, BeginsAs}
-use Rattle.reading.specs.Cost.Counting.{count_around, count_forked, count_fork, of_one_body, of_two_bodies, nothing, count_modifier, count_inside, counter_of, counters, ran}
+use Rattle.reading.specs.Cost.Counting.{Counter, nodes_of, after, count_all, Begun, begun, halted, with_held, taken_off, opened, dropped, copied, BeginsAs, count_around, count_forked, count_fork, of_one_body, of_two_bodies, nothing, count_modifier, count_inside, counter_of, counters, ran}
 use Rattle.reading.specs.Cost.Theorem.{PairsMost}
 use Rattle.reading.proofs.cost.Begins.{hold-begins, drop-begins, copy-begins, fork-begins}
 use Rattle.reading.proofs.cost.Exact.{nodes-runners}

@@ -1,7 +1,7 @@
 -- What the cost of a list says of reading it. Assumes nothing.
 use Prim.Native.Nat.{ℕ, ◌%◌, ◌≤◌, ◌<◌, min}
 use native.Mathlib.Omega.{arith}
-use mathlib.Core.Path.{◌≡◌, refl, sym, ◌∙◌}
+use mathlib.Core.Path.{◌≡◌, refl, ◌∙◌}
 use mathlib.Core.Bool.{Bool, true, false, ◌&&◌, cond}
 use mathlib.Core.List.{List}
 use mathlib.Core.Logic.{◌⊎◌, inl, inr}
@@ -11,17 +11,12 @@ use Rattle.limits.specs.declared.Refusal.{Refusal}
 use Rattle.limits.specs.declared.Refusal.TheVariants.{BadRecord, TooDeep}
 use Rattle.limits.specs.Refusals.{refusal_no}
 use Rattle.sums.specs.Tree.Sums.{Sum}
-use Rattle.formats.specs.declared.record.Verdict.{Verdict}
-use Rattle.formats.specs.declared.record.Verdict.TheVariants as verdicts
-use Rattle.formats.specs.declared.record.Shape.{Shape}
-use Rattle.formats.specs.declared.record.Shape.TheVariants as shape
-use Rattle.formats.specs.Rules.{shape_of, judge, verdict}
+use Rattle.formats.specs.Rules.{shape_of, judge, verdict, Verdict}
 use Rattle.formats.specs.Tree.{Nodes, parse, records_in}
 use Rattle.stack.specs.State.{State, Walked, went, stopped}
 use Rattle.modifiers.specs.Modifiers.{run_all}
 use Rattle.modifiers.specs.Reading.{runners, start, done, ended, read_nodes}
-use Rattle.reading.specs.declared.cost.CostAnswer.{CostAnswer}
-use Rattle.reading.specs.declared.cost.CostAnswer.TheVariants.{Steps, Refused}
+use Rattle.std.specs.Prelude.{Result, Ok, Err, Option, Some, None}
 use Rattle.reading.specs.Cost.Cost.{cost_of, most_steps, judged, cost_list, cost_numbers}
 use Rattle.reading.specs.Cost.Counting.{ran}
 use Rattle.reading.specs.Cost.Theorem.{CountsReading, Costs, Tells}
@@ -44,11 +39,11 @@ pub costs : Costs
 costs = record { most = ran-most; exact = ran-exact; read = read-exact }
 
 -- what is told of a list that keeps the rules
-steps-told : (v : Verdict) (ns : Nodes) (n : ℕ) → judged v ns ≡ Steps n → min most_steps (cost_of ns) ≡ n
-steps-told verdicts.Good ns n e = cc
-steps-told (verdicts.Refused q) ns n e = let z : ◌≡◌ {A = ℕ} 0 1 = cc in absurd (omega arith)
+steps-told : (v : Verdict) (ns : Nodes) (n : ℕ) → judged v ns ≡ Ok n → min most_steps (cost_of ns) ≡ n
+steps-told (Ok tt) ns n e = cc
+steps-told (Err q) ns n e = let z : ◌≡◌ {A = ℕ} 0 1 = cc in absurd (omega arith)
 
-told-steps : (l : List ℕ) (n : ℕ) → cost_list l ≡ Steps n → n < most_steps → cost_of (parse l) ≡ n
+told-steps : (l : List ℕ) (n : ℕ) → cost_list l ≡ Ok n → n < most_steps → cost_of (parse l) ≡ n
 unfolding cost_list
 told-steps l n e k = let m = steps-told (verdict l) (parse l) n e in omega arith
 
@@ -62,21 +57,21 @@ tells =
 -- ---- refusals
 
 -- 11 or 13, and nothing else, is told where a list is refused
-pub refuses-only : (l : List ℕ) (q : Refusal) → cost_list l ≡ Refused q → (q ≡ BadRecord) ⊎ (q ≡ TooDeep)
+pub refuses-only : (l : List ℕ) (q : Refusal) → cost_list l ≡ Err q → (q ≡ BadRecord) ⊎ (q ≡ TooDeep)
 unfolding cost_list verdict
 refuses-only l q e = either (eqb (length l % 24) 0 && leb (records_in l) 2048) (shape_of false (parse l)) e
   where
-    same : {p : Refusal} → Refused p ≡ Refused q → q ≡ p
+    same : {p : Refusal} → ◌≡◌ {A = Result ℕ Refusal} (Err p) (Err q) → q ≡ p
     same d = cc
 
-    tall : (b : Bool) → judged (cond b verdicts.Good (verdicts.Refused TooDeep)) (parse l) ≡ Refused q → (q ≡ BadRecord) ⊎ (q ≡ TooDeep)
+    tall : (b : Bool) → judged (cond b (Ok tt) (Err TooDeep)) (parse l) ≡ Err q → (q ≡ BadRecord) ⊎ (q ≡ TooDeep)
     tall true d = let z : ◌≡◌ {A = ℕ} 0 1 = cc in absurd (omega arith)
     tall false d = inr (same d)
 
-    either : (b : Bool) (s : Shape) → judged (cond b (judge s) (verdicts.Refused BadRecord)) (parse l) ≡ Refused q → (q ≡ BadRecord) ⊎ (q ≡ TooDeep)
+    either : (b : Bool) (s : Option ℕ) → judged (cond b (judge s) (Err BadRecord)) (parse l) ≡ Err q → (q ≡ BadRecord) ⊎ (q ≡ TooDeep)
     either false s d = inl (same d)
-    either true shape.Bad d = inl (same d)
-    either true (shape.Tall h) d = tall (leb h 129) d
+    either true None d = inl (same d)
+    either true (Some h) d = tall (leb h 129) d
 
 pub cost-number : (l : List ℕ) → (cost_numbers (cost_list l)).number ≤ 13
 cost-number l = go (cost_list l) refl
@@ -85,6 +80,6 @@ cost-number l = go (cost_list l) refl
     few q (inl e) = rw e (omega arith)
     few q (inr e) = rw e (omega arith)
 
-    go : (a : CostAnswer) → cost_list l ≡ a → (cost_numbers a).number ≤ 13
-    go (Steps n) e = omega arith
-    go (Refused q) e = few q (refuses-only l q e)
+    go : (a : Result ℕ Refusal) → cost_list l ≡ a → (cost_numbers a).number ≤ 13
+    go (Ok n) e = omega arith
+    go (Err q) e = few q (refuses-only l q e)

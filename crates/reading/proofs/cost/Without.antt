@@ -1,17 +1,16 @@
 -- A list without Both costs at most as many steps as it has records. Assumes nothing.
-use Prim.Native.Nat.{ℕ, ◌+◌, ◌*◌, ◌≤◌}
+use Prim.Native.Nat.{ℕ, ◌*◌, ◌≤◌}
 use native.Mathlib.Omega.{arith}
 use native.Mathlib.Nat.{mul-le-mul_right}
 use mathlib.Core.Path.{◌≡◌, refl, sym, ◌∙◌}
-use mathlib.Core.Bool.{Bool, true, false, ◌&&◌, ◌||◌, cond, true≢false}
+use mathlib.Core.Bool.{Bool, true, false, ◌||◌, cond, true≢false}
 use mathlib.Core.Logic.{◌⊎◌, inl, inr}
 use lib.Dec.{eqb}
 use borrow.Author.Tests.{eq-eqb}
-use Rattle.formats.specs.declared.record.Record.{Record}
 use Rattle.formats.specs.declared.record.Kind.{Kind}
+use Rattle.std.specs.Prelude.{Option, Some, None}
+use Rattle.formats.specs.declared.record.Record.{Record}
 use Rattle.formats.specs.declared.record.Kind.TheVariants as kind
-use Rattle.formats.specs.declared.record.KindFound.{KindFound}
-use Rattle.formats.specs.declared.record.KindFound.TheVariants.{Known, Unknown}
 use Rattle.formats.specs.declared.record.Modifier.{Modifier}
 use Rattle.formats.specs.declared.record.Modifier.TheVariants.{Dip, Gap, On, By, Both, Bracket, Fork, Unlisted}
 use Rattle.formats.specs.Names.{kind_of, modifier_of, modifier_no}
@@ -59,22 +58,22 @@ code_of c e = go (modifier-found c)
 
 module _ (r : Record) (ns : Nodes) where
   -- never, once, or as the modifier has it
-  of-kind : (P : ℕ → Type 0) → P 0 → P 1 → ((kind_of r.kind ≡ Known kind.Modifier) → P (times_of (modifier_of r.code) (count ns)))
-      → (k : KindFound) → kind_of r.kind ≡ k → P (inside_times (inside_of k) r ns)
-  of-kind P none once m (Known kind.Modifier) e = m e
-  of-kind P none once m (Known kind.Body) e = once
-  of-kind P none once m (Known kind.Run) e = once
-  of-kind P none once m (Known kind.CustomInverse) e = once
-  of-kind P none once m (Known kind.RealPush) e = none
-  of-kind P none once m (Known kind.ComplexPush) e = none
-  of-kind P none once m (Known kind.ArrayPush) e = none
-  of-kind P none once m (Known kind.OtherPush) e = none
-  of-kind P none once m (Known kind.Primitive) e = none
-  of-kind P none once m (Known kind.Obverse) e = none
-  of-kind P none once m (Known kind.NoNormal) e = none
-  of-kind P none once m (Known kind.UnderMarker) e = none
-  of-kind P none once m (Known kind.AnythingElse) e = none
-  of-kind P none once m Unknown e = none
+  of-kind : (P : ℕ → Type 0) → P 0 → P 1 → ((kind_of r.kind ≡ Some kind.Modifier) → P (times_of (modifier_of r.code) (count ns)))
+      → (k : Option Kind) → kind_of r.kind ≡ k → P (inside_times (inside_of k) r ns)
+  of-kind P none once m (Some kind.Modifier) e = m e
+  of-kind P none once m (Some kind.Body) e = once
+  of-kind P none once m (Some kind.Run) e = once
+  of-kind P none once m (Some kind.CustomInverse) e = once
+  of-kind P none once m (Some kind.RealPush) e = none
+  of-kind P none once m (Some kind.ComplexPush) e = none
+  of-kind P none once m (Some kind.ArrayPush) e = none
+  of-kind P none once m (Some kind.OtherPush) e = none
+  of-kind P none once m (Some kind.Primitive) e = none
+  of-kind P none once m (Some kind.Obverse) e = none
+  of-kind P none once m (Some kind.NoNormal) e = none
+  of-kind P none once m (Some kind.UnderMarker) e = none
+  of-kind P none once m (Some kind.AnythingElse) e = none
+  of-kind P none once m None e = none
 
   pub inside-twice : inside_times (inside_of (kind_of r.kind)) r ns ≤ 2
   inside-twice = of-kind (λ n. n ≤ 2) (omega arith) (omega arith) (λ e. times-most (modifier_of r.code) (count ns)) (kind_of r.kind) refl

@@ -1,8 +1,8 @@
 -- Laws of the start and the end of reading: x lies in the first cell of the stack, and one sum must be left. Assumes nothing.
-use Prim.Native.Nat.{ℕ, ◌+◌, ◌-◌, ◌/◌, ◌≤◌, ◌<◌, min}
+use Prim.Native.Nat.{ℕ, ◌+◌, ◌-◌, ◌≤◌, ◌<◌, min}
 use native.Mathlib.Omega.{arith}
 use native.Mathlib.Nat.{eq-or-lt_of_le}
-use mathlib.Core.Path.{◌≡◌, refl, sym, ◌∙◌}
+use mathlib.Core.Path.{◌≡◌, refl, sym}
 use mathlib.Core.Logic.{⊎_elim}
 use mathlib.Core.Bool.{Bool, false, ◌||◌}
 use mathlib.Core.List.{List, [], ◌∷◌}
@@ -11,19 +11,19 @@ use lib.Ieee.{binary64, of_bits, fits}
 use lib.Ieee.Bits.{of_bits-fits}
 use lib.Ieee.Fits.{and_i}
 use lib.Ieee.Scale.{finite}
-use lib.ListN.{length, get_or, set, length-set}
+use lib.ListN.{get_or, set, length-set}
 use lib.Seq.{get_or-set_same}
+use Rattle.std.specs.Prelude.{Ok}
 use Rattle.numbers.specs.Signs.{zero64, one64}
 use Rattle.numbers.specs.Complex.Arith as complex
 use Rattle.cells.specs.declared.Entry.{Entry}
-use Rattle.cells.specs.Contract.Book.{Book, Room, at, Plain}
+use Rattle.cells.specs.Contract.Book.{Book, Room, Plain}
 use Rattle.cells.specs.Contract.Moves.{Put}
 use Rattle.cells.proofs.Laws.{Fitting, put-at, room-less, room-same}
 use Rattle.limits.specs.declared.Refusal.{Refusal}
 use Rattle.limits.specs.declared.Refusal.TheVariants.{NoOutput, TooManyOutputs}
 use Rattle.formats.specs.Tree.{parse, records_in}
 use Rattle.formats.specs.Rules.{verdict}
-use Rattle.formats.specs.declared.record.Verdict.TheVariants.{Good}
 use Rattle.formats.specs.Contract.Walk.{Stretch}
 use Rattle.formats.proofs.record.Walk.{whole-stretch}
 use Rattle.sums.specs.Tree.Kinds as kinds
@@ -151,7 +151,7 @@ some-used y filled = ⊎_elim (λ e. absurd (filled (sym e))) (λ l. l) (eq-or-l
 -- ---- the whole
 
 -- all records of a good list
-pub all-records : (s : List ℕ) {n : ℕ} → n ≡ records_in s → verdict s ≡ Good → Stretch s 0 n false 129
+pub all-records : (s : List ℕ) {n : ℕ} → n ≡ records_in s → verdict s ≡ Ok tt → Stretch s 0 n false 129
 all-records s e g = rw e (whole-stretch s g)
 
 module _ {a b : Arena} {v : ℕ} {env : AlgebraEnv} (s : List ℕ) {n : ℕ} (all : n ≡ records_in s) (h : Stands a v env start) where

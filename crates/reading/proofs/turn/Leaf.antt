@@ -3,10 +3,10 @@ use Prim.Native.Nat.{ℕ, suc, ◌+◌, min}
 use native.Mathlib.Omega.{arith}
 use mathlib.Core.Path.{◌≡◌, refl, subst}
 use mathlib.Core.Bool.{Bool, true, false, ◌||◌, cond}
+use Rattle.formats.specs.declared.record.Kind.{Kind}
+use Rattle.std.specs.Prelude.{Option, Some, None}
 use Rattle.limits.specs.declared.Refusal.{Refusal}
 use Rattle.formats.specs.declared.record.Record.{Record}
-use Rattle.formats.specs.declared.record.KindFound.{KindFound}
-use Rattle.formats.specs.declared.record.KindFound.TheVariants.{Known, Unknown}
 use Rattle.formats.specs.declared.record.Kind.TheVariants as kind
 use Rattle.stack.specs.Steps.{leaf_step}
 use Rattle.modifiers.specs.Reading.{inside_of}
@@ -38,13 +38,13 @@ prepared y =
     }
 
 -- the code's step, with what is counted of it
-pub leaf-after : {a b : Arena} {v : ℕ} (env : AlgebraEnv) (e : Stepped) (at : ℕ) (r : Record) (k : KindFound) (h : ℕ)
+pub leaf-after : {a b : Arena} {v : ℕ} (env : AlgebraEnv) (e : Stepped) (at : ℕ) (r : Record) (k : Option Kind) (h : ℕ)
     → Acts a b v env.used env.handled at e (λ st. leaf_act at r k h st) → Does a b v env (after r k at e env) (λ st. leaf_step at r k h st)
 leaf-after env (Went u m) at r k h d = leaf-finished at r k h (d env.complex env.pairs)
 leaf-after env (Stopped q b) at r k h d = leaf-finished at r k h (d env.complex env.pairs)
 
 -- where it is known which of both it is
-module _ {a b : Arena} {v : ℕ} (env : AlgebraEnv) (e : Stepped) (at : ℕ) (r : Record) (k : KindFound) (h : ℕ) (d : Acts a b v env.used env.handled at e (λ st. leaf_act at r k h st)) where
+module _ {a b : Arena} {v : ℕ} (env : AlgebraEnv) (e : Stepped) (at : ℕ) (r : Record) (k : Option Kind) (h : ℕ) (d : Acts a b v env.used env.handled at e (λ st. leaf_act at r k h st)) where
   told : (s : Stepped) → e ≡ s → Does a b v env (after r k at s env) (λ st. leaf_step at r k h st)
   told s is = subst (λ (x : Stepped). Does a b v env (after r k at x env) (λ st. leaf_step at r k h st)) is (leaf-after env e at r k h d)
 
@@ -62,18 +62,18 @@ counted-enough false e = refl
 
 -- ---- a record that takes the quick way
 
-pub quick-inside : (k : KindFound) → is_quick k ≡ true → inside_of k ≡ Nothing
-quick-inside (Known kind.RealPush) e = refl
-quick-inside (Known kind.ComplexPush) e = refl
-quick-inside (Known kind.ArrayPush) e = refl
-quick-inside (Known kind.OtherPush) e = refl
-quick-inside (Known kind.Primitive) e = refl
-quick-inside (Known kind.Modifier) e = let z : ◌≡◌ {A = ℕ} 0 1 = cc in absurd (omega arith)
-quick-inside (Known kind.Body) e = let z : ◌≡◌ {A = ℕ} 0 1 = cc in absurd (omega arith)
-quick-inside (Known kind.Run) e = let z : ◌≡◌ {A = ℕ} 0 1 = cc in absurd (omega arith)
-quick-inside (Known kind.CustomInverse) e = let z : ◌≡◌ {A = ℕ} 0 1 = cc in absurd (omega arith)
-quick-inside (Known kind.Obverse) e = refl
-quick-inside (Known kind.NoNormal) e = refl
-quick-inside (Known kind.UnderMarker) e = refl
-quick-inside (Known kind.AnythingElse) e = refl
-quick-inside Unknown e = refl
+pub quick-inside : (k : Option Kind) → is_quick k ≡ true → inside_of k ≡ Nothing
+quick-inside (Some kind.RealPush) e = refl
+quick-inside (Some kind.ComplexPush) e = refl
+quick-inside (Some kind.ArrayPush) e = refl
+quick-inside (Some kind.OtherPush) e = refl
+quick-inside (Some kind.Primitive) e = refl
+quick-inside (Some kind.Modifier) e = let z : ◌≡◌ {A = ℕ} 0 1 = cc in absurd (omega arith)
+quick-inside (Some kind.Body) e = let z : ◌≡◌ {A = ℕ} 0 1 = cc in absurd (omega arith)
+quick-inside (Some kind.Run) e = let z : ◌≡◌ {A = ℕ} 0 1 = cc in absurd (omega arith)
+quick-inside (Some kind.CustomInverse) e = let z : ◌≡◌ {A = ℕ} 0 1 = cc in absurd (omega arith)
+quick-inside (Some kind.Obverse) e = refl
+quick-inside (Some kind.NoNormal) e = refl
+quick-inside (Some kind.UnderMarker) e = refl
+quick-inside (Some kind.AnythingElse) e = refl
+quick-inside None e = refl

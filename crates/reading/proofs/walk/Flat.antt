@@ -6,10 +6,10 @@ use mathlib.Core.Bool.{Bool, true, false, beq}
 use mathlib.Core.Logic.{⊎_elim}
 use mathlib.Core.List.{List}
 use borrow.Author.Tests.{eq-eqb, eqb-true, ne_eqb}
+use Rattle.formats.specs.declared.record.Kind.{Kind}
+use Rattle.std.specs.Prelude.{Option, Some, None}
 use Rattle.formats.specs.declared.record.Record.{Record}
 use Rattle.formats.specs.declared.record.Kind.TheVariants as kind
-use Rattle.formats.specs.declared.record.KindFound.{KindFound}
-use Rattle.formats.specs.declared.record.KindFound.TheVariants.{Known, Unknown}
 use Rattle.formats.specs.Names.{kind_of, kind_no}
 use Rattle.formats.specs.Tree.{Nodes, rec, size, rec_at, next_of}
 use Rattle.formats.specs.Rules.{is_a, ok_nodes}
@@ -124,21 +124,21 @@ nothing-else r x p q h = by (kind_of r.kind) (λ e. no-modifier (eq-eqb r.kind (
     no-modifier : is_a r kind.Modifier ≡ true → ⊥
     no-modifier e = let z : ◌≡◌ {A = ℕ} 0 1 = cc in omega arith
 
-    by : (k : KindFound) → (k ≡ Known kind.Modifier → ⊥) → has_nodes (inside_of k) ≡ false → inside_of k ≡ inside.Nothing
-    by (Known kind.Modifier) n e = absurd (n refl)
-    by (Known kind.Body) n e = let z : ◌≡◌ {A = ℕ} 0 1 = cc in absurd (omega arith)
-    by (Known kind.Run) n e = let z : ◌≡◌ {A = ℕ} 0 1 = cc in absurd (omega arith)
-    by (Known kind.CustomInverse) n e = let z : ◌≡◌ {A = ℕ} 0 1 = cc in absurd (omega arith)
-    by (Known kind.RealPush) n e = refl
-    by (Known kind.ComplexPush) n e = refl
-    by (Known kind.ArrayPush) n e = refl
-    by (Known kind.OtherPush) n e = refl
-    by (Known kind.Primitive) n e = refl
-    by (Known kind.Obverse) n e = refl
-    by (Known kind.NoNormal) n e = refl
-    by (Known kind.UnderMarker) n e = refl
-    by (Known kind.AnythingElse) n e = refl
-    by Unknown n e = refl
+    by : (k : Option Kind) → (k ≡ Some kind.Modifier → ⊥) → has_nodes (inside_of k) ≡ false → inside_of k ≡ inside.Nothing
+    by (Some kind.Modifier) n e = absurd (n refl)
+    by (Some kind.Body) n e = let z : ◌≡◌ {A = ℕ} 0 1 = cc in absurd (omega arith)
+    by (Some kind.Run) n e = let z : ◌≡◌ {A = ℕ} 0 1 = cc in absurd (omega arith)
+    by (Some kind.CustomInverse) n e = let z : ◌≡◌ {A = ℕ} 0 1 = cc in absurd (omega arith)
+    by (Some kind.RealPush) n e = refl
+    by (Some kind.ComplexPush) n e = refl
+    by (Some kind.ArrayPush) n e = refl
+    by (Some kind.OtherPush) n e = refl
+    by (Some kind.Primitive) n e = refl
+    by (Some kind.Obverse) n e = refl
+    by (Some kind.NoNormal) n e = refl
+    by (Some kind.UnderMarker) n e = refl
+    by (Some kind.AnythingElse) n e = refl
+    by None n e = refl
 
 -- a modifier has bodies inside
 pub bodies-inside : (r : Record) (x : Bool) → x ≡ is_a r kind.Modifier → x ≡ true → inside_of (kind_of r.kind) ≡ inside.Bodies

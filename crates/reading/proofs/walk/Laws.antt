@@ -8,14 +8,14 @@ use lib.Dec.{leb}
 use borrow.Author.Tests.{leb-true}
 use lib.ListN.{length}
 use lib.Seq.{length-take-le}
+use Rattle.formats.specs.declared.record.Kind.{Kind}
+use Rattle.std.specs.Prelude.{Option, Some, None}
 use Rattle.limits.specs.declared.Refusal.{Refusal}
 use Rattle.limits.specs.declared.Refusal.TheVariants.{NoRoom}
 use Rattle.limits.specs.Refusals.{refusal_no}
 use Rattle.sums.specs.Tree.Sums.{Sum}
 use Rattle.formats.specs.declared.record.Record.{Record}
 use Rattle.formats.specs.declared.record.Kind.TheVariants as kind
-use Rattle.formats.specs.declared.record.KindFound.{KindFound}
-use Rattle.formats.specs.declared.record.KindFound.TheVariants.{Known, Unknown}
 use Rattle.formats.specs.Rules.{is_a}
 use Rattle.formats.proofs.record.Names.{kind-found}
 use Rattle.formats.specs.declared.record.Modifier.TheVariants.{Fork}
@@ -496,21 +496,21 @@ module _ (at : ℕ) (r : Record) (fs : List Runner) {x : Inside} (p : x ≡ insi
     step-bodies q d = does-step inside.Bodies q d
 
 -- what has bodies inside is a modifier
-modifier-only : (k : KindFound) → inside_of k ≡ inside.Bodies → k ≡ Known kind.Modifier
-modifier-only (Known kind.RealPush) e = let z : ◌≡◌ {A = ℕ} 0 1 = cc in absurd (omega arith)
-modifier-only (Known kind.ComplexPush) e = let z : ◌≡◌ {A = ℕ} 0 1 = cc in absurd (omega arith)
-modifier-only (Known kind.ArrayPush) e = let z : ◌≡◌ {A = ℕ} 0 1 = cc in absurd (omega arith)
-modifier-only (Known kind.OtherPush) e = let z : ◌≡◌ {A = ℕ} 0 1 = cc in absurd (omega arith)
-modifier-only (Known kind.Primitive) e = let z : ◌≡◌ {A = ℕ} 0 1 = cc in absurd (omega arith)
-modifier-only (Known kind.Modifier) e = refl
-modifier-only (Known kind.Body) e = let z : ◌≡◌ {A = ℕ} 0 1 = cc in absurd (omega arith)
-modifier-only (Known kind.Run) e = let z : ◌≡◌ {A = ℕ} 0 1 = cc in absurd (omega arith)
-modifier-only (Known kind.CustomInverse) e = let z : ◌≡◌ {A = ℕ} 0 1 = cc in absurd (omega arith)
-modifier-only (Known kind.Obverse) e = let z : ◌≡◌ {A = ℕ} 0 1 = cc in absurd (omega arith)
-modifier-only (Known kind.NoNormal) e = let z : ◌≡◌ {A = ℕ} 0 1 = cc in absurd (omega arith)
-modifier-only (Known kind.UnderMarker) e = let z : ◌≡◌ {A = ℕ} 0 1 = cc in absurd (omega arith)
-modifier-only (Known kind.AnythingElse) e = let z : ◌≡◌ {A = ℕ} 0 1 = cc in absurd (omega arith)
-modifier-only Unknown e = let z : ◌≡◌ {A = ℕ} 0 1 = cc in absurd (omega arith)
+modifier-only : (k : Option Kind) → inside_of k ≡ inside.Bodies → k ≡ Some kind.Modifier
+modifier-only (Some kind.RealPush) e = let z : ◌≡◌ {A = ℕ} 0 1 = cc in absurd (omega arith)
+modifier-only (Some kind.ComplexPush) e = let z : ◌≡◌ {A = ℕ} 0 1 = cc in absurd (omega arith)
+modifier-only (Some kind.ArrayPush) e = let z : ◌≡◌ {A = ℕ} 0 1 = cc in absurd (omega arith)
+modifier-only (Some kind.OtherPush) e = let z : ◌≡◌ {A = ℕ} 0 1 = cc in absurd (omega arith)
+modifier-only (Some kind.Primitive) e = let z : ◌≡◌ {A = ℕ} 0 1 = cc in absurd (omega arith)
+modifier-only (Some kind.Modifier) e = refl
+modifier-only (Some kind.Body) e = let z : ◌≡◌ {A = ℕ} 0 1 = cc in absurd (omega arith)
+modifier-only (Some kind.Run) e = let z : ◌≡◌ {A = ℕ} 0 1 = cc in absurd (omega arith)
+modifier-only (Some kind.CustomInverse) e = let z : ◌≡◌ {A = ℕ} 0 1 = cc in absurd (omega arith)
+modifier-only (Some kind.Obverse) e = let z : ◌≡◌ {A = ℕ} 0 1 = cc in absurd (omega arith)
+modifier-only (Some kind.NoNormal) e = let z : ◌≡◌ {A = ℕ} 0 1 = cc in absurd (omega arith)
+modifier-only (Some kind.UnderMarker) e = let z : ◌≡◌ {A = ℕ} 0 1 = cc in absurd (omega arith)
+modifier-only (Some kind.AnythingElse) e = let z : ◌≡◌ {A = ℕ} 0 1 = cc in absurd (omega arith)
+modifier-only None e = let z : ◌≡◌ {A = ℕ} 0 1 = cc in absurd (omega arith)
 
 is-modifier : (r : Record) {x : Inside} → x ≡ inside_of (kind_of r.kind) → x ≡ inside.Bodies → is_a r kind.Modifier ≡ true
 is-modifier r p q = rw (← kind-found r.kind kind.Modifier (modifier-only (kind_of r.kind) (sym p ∙ q))) refl
@@ -524,7 +524,7 @@ halt-asks y = (omega (arith, y.space.sizes, y.some.1.below), (y.some.0.stack, y.
 
 -- ---- a turn over the bodies of a Fork, in the words of the code
 
-module _ {a b : Arena} {v m k : ℕ} {env cur : AlgebraEnv} (s : List ℕ) (at from to left i : ℕ) (t : Stretch s from to true left) (pos : 0 < i)
+module _ {a b : Arena} {v m k : ℕ} {env cur : AlgebraEnv} {s : List ℕ} {at from to left i : ℕ} (t : Stretch s from to true left) (pos : 0 < i)
     (top : i ≤ count (forest s from to)) (g : Forking a b v m k env cur s at from to i) where
   again : Forking a b v m k env cur s at from to (suc (i - 1))
   again = let e : i ≡ suc (i - 1) = omega arith in subst (λ j. Forking a b v m k env cur s at from to j) e g
@@ -532,7 +532,7 @@ module _ {a b : Arena} {v m k : ℕ} {env cur : AlgebraEnv} (s : List ℕ) (at f
   low : i - 1 < count (forest s from to)
   low = omega arith
 
-  module _ (place : ℕ) (r : Record) (n : ℕ) (p : place ≡ place_of s from (i - 1)) (q : r ≡ rec_at s place) (w : n ≡ r.args) where
+  module _ {place : ℕ} {r : Record} {n : ℕ} (p : place ≡ place_of s from (i - 1)) (q : r ≡ rec_at s place) (w : n ≡ r.args) where
     pub turn_body : Stretch s place (place + 1 + r.inside) true left
     turn_body = rw q (rw p (forking-body s at from to left t (i - 1) low again))
 
@@ -577,8 +577,8 @@ pub forking-done : {a b : Arena} {v m k : ℕ} {env cur : AlgebraEnv} (s : List 
 forking-done {a} {b} {v} {m} {k} {env} {cur} s at from to left t e g = forking-end s at from to left t (subst (λ j. Forking a b v m k env cur s at from to j) e g)
 
 -- the body before the i-th is there
-pub turn-room : (s : List ℕ) (from to left i place : ℕ) → Stretch s from to true left → 0 < i → i ≤ count (forest s from to) → place ≡ place_of s from (i - 1) → (place < to) × (24 * to ≤ length s)
-turn-room s from to left i place t l h p = rw p (let w = place-on s from to (i - 1) (true, left, t) (omega arith) in (w.0, w.1))
+pub turn-room : {s : List ℕ} {from to left i place : ℕ} → Stretch s from to true left → 0 < i → i ≤ count (forest s from to) → place ≡ place_of s from (i - 1) → (place < to) × (24 * to ≤ length s)
+turn-room {s} {from} {to} {left} {i} t l h p = rw p (let w = place-on s from to (i - 1) (true, left, t) (omega arith) in (w.0, w.1))
 
 -- ---- a turn of the walk
 
@@ -601,3 +601,6 @@ turn s at to b left r t one l e =
       low = inner-low s at to b left r t l e;
       on = walk-on s at to b left r t l e;
     }
+
+pub turn-here : {s : List ℕ} {at to left : ℕ} {r : Record} (k : (b : Bool) × Stretch s at to b left × OneBody s at to b) → at < to → r ≡ rec_at s at → Turn s at to k.0 left r
+turn-here {s} {at} {to} {left} {r} k l e = turn s at to k.0 left r k.1 k.2 l e

@@ -1,19 +1,16 @@
 -- What reading a list costs: how many records it runs where no refusal is met. A record is a step each time it runs, and so is a body.
-use Rattle.std.specs.Prelude.{ℕ, suc, ◌+◌, ◌*◌, min, cond, List, eqb}
+use Rattle.std.specs.Prelude.{ℕ, suc, ◌+◌, ◌*◌, min, cond, List, eqb, Ok, Err, Result}
 use Rattle.limits.specs.Refusals.{refusal_no}
 use Rattle.formats.specs.declared.record.Record.{Record}
 use Rattle.formats.specs.declared.record.Modifier.{Modifier}
 use Rattle.formats.specs.declared.record.Modifier.TheVariants.{Dip, Gap, On, By, Both, Bracket, Fork, Unlisted}
-use Rattle.formats.specs.declared.record.Verdict.{Verdict}
-use Rattle.formats.specs.declared.record.Verdict.TheVariants as verdicts
 use Rattle.formats.specs.Names.{kind_of, modifier_of}
-use Rattle.formats.specs.Rules.{verdict}
+use Rattle.formats.specs.Rules.{verdict, Verdict}
 use Rattle.formats.specs.Tree.{Nodes, end, rec, count, parse}
 use Rattle.modifiers.specs.declared.Inside.{Inside}
 use Rattle.modifiers.specs.declared.Inside.TheVariants as inside
 use Rattle.modifiers.specs.Reading.{inside_of}
-use Rattle.reading.specs.declared.cost.CostAnswer.{CostAnswer}
-use Rattle.reading.specs.declared.cost.CostAnswer.TheVariants.{Steps, Refused}
+use Rattle.limits.specs.declared.Refusal.{Refusal}
 use Rattle.reading.specs.declared.cost.CostNumbers.{CostNumbers}
 
 -- so often, where there are as many bodies as the modifier asks for; with another number it is refused before a body runs
@@ -52,14 +49,14 @@ abbrev pub most_steps : ℕ
 most_steps = 18446744073709551615
 
 -- 11 and 13 come first, over the whole list
-abbrev pub judged : Verdict → Nodes → CostAnswer
-judged (verdicts.Refused q) ns = Refused q
-judged verdicts.Good ns = Steps (min most_steps (cost_of ns))
+abbrev pub judged : Verdict → Nodes → Result ℕ Refusal
+judged (Err q) ns = Err q
+judged (Ok tt) ns = Ok (min most_steps (cost_of ns))
 
-unfoldable pub cost_list : List ℕ → CostAnswer
+unfoldable pub cost_list : List ℕ → Result ℕ Refusal
 cost_list l = judged (verdict l) (parse l)
 
 -- number, place and steps; everything is at place 0, and a refusal has no steps
-abbrev pub cost_numbers : CostAnswer → CostNumbers
-cost_numbers (Steps n) = record { number = 0; place = 0; steps = n }
-cost_numbers (Refused q) = record { number = refusal_no q; place = 0; steps = 0 }
+abbrev pub cost_numbers : Result ℕ Refusal → CostNumbers
+cost_numbers (Ok n) = record { number = 0; place = 0; steps = n }
+cost_numbers (Err q) = record { number = refusal_no q; place = 0; steps = 0 }

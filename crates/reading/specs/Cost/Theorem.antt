@@ -1,5 +1,5 @@
 -- What the cost of a list says of reading it.
-use Rattle.std.specs.Prelude.{ℕ, ◌*◌, ◌≤◌, ◌<◌, ◌≡◌, Bool, false, ◌&&◌, ◌||◌, List, eqb}
+use Rattle.std.specs.Prelude.{ℕ, ◌*◌, ◌≤◌, ◌<◌, ◌≡◌, Bool, false, ◌&&◌, ◌||◌, List, eqb, Ok}
 use Rattle.sums.specs.Tree.Sums.{Sum}
 use Rattle.formats.specs.declared.record.Record.{Record}
 use Rattle.formats.specs.declared.record.Kind.TheVariants.{Modifier}
@@ -10,7 +10,6 @@ use Rattle.formats.specs.Tree.{Nodes, end, rec, size, parse}
 use Rattle.stack.specs.State.{State, went}
 use Rattle.modifiers.specs.Modifiers.{run_all}
 use Rattle.modifiers.specs.Reading.{runners, start, read_nodes, done}
-use Rattle.reading.specs.declared.cost.CostAnswer.TheVariants.{Steps}
 use Rattle.reading.specs.Cost.Cost.{cost_of, most_steps, cost_list}
 use Rattle.reading.specs.Cost.Counting.{nodes_of, counters, ran}
 
@@ -26,8 +25,8 @@ pub record Costs : Type 0 where
 
 -- of a list of bytes: what is told is the most that is run, unless it is the largest number, and where a sum is read it is what is run
 pub record Tells : Type 0 where
-  pub most : (l : List ℕ) (n : ℕ) → cost_list l ≡ Steps n → n < most_steps → ran (parse l) ≤ n
-  pub read : (l : List ℕ) (n : ℕ) (s : Sum) (c h : Bool) (k : ℕ) → cost_list l ≡ Steps n → n < most_steps → read_nodes (parse l) ≡ done s c h k → ran (parse l) ≡ n
+  pub most : (l : List ℕ) (n : ℕ) → cost_list l ≡ Ok n → n < most_steps → ran (parse l) ≤ n
+  pub read : (l : List ℕ) (n : ℕ) (s : Sum) (c h : Bool) (k : ℕ) → cost_list l ≡ Ok n → n < most_steps → read_nodes (parse l) ≡ done s c h k → ran (parse l) ≡ n
 
 -- a reading multiplies at most 258,048 pairs of outermost terms for each record that it runs
 abbrev pub PairsMost : Type 0

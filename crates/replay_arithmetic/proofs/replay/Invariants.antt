@@ -1,8 +1,8 @@
-use Rattle.std.proofs.Common.{◌-◌, ◌≤◌}
+use Rattle.std.proofs.Common.{◌+◌, ◌≤◌, length}
 use Rattle.replay_arithmetic.proofs.replay.Given as goal
 
-abbrev pub invariant-loop-p : goal.invariant-loop-p
-invariant-loop-p g l = (l.agree ≤ l.cases) × (l.cases ≤ l.p) × (l.p ≤ l.n)
+abbrev pub invariant-loop-head : goal.invariant-loop-head
+invariant-loop-head g l = (l.wrong ≤ l.cases) × (l.cases + length l.rest ≤ length l.bytes)
 
-abbrev pub decreases-loop-p : goal.decreases-loop-p
-decreases-loop-p g l = l.n - l.p
+abbrev pub decreases-loop-head : goal.decreases-loop-head
+decreases-loop-head g l = length l.rest

@@ -7,14 +7,13 @@ use mathlib.Core.List.{List, [], ◌∷◌}
 use lib.Dec.{eqb}
 use types.Run.{OneOf, miss}
 use denote.Enum.Declared.{tag_of}
+use Rattle.std.specs.Prelude.{Option, Some, None}
 use Rattle.limits.specs.declared.Refusal.{Refusal}
 use Rattle.limits.specs.declared.Refusal.TheVariants.{NotSupported}
 use Rattle.formats.specs.declared.record.Primitive.{Primitive}
 use Rattle.formats.specs.declared.record.Record.{Record}
 use Rattle.formats.specs.declared.record.Kind.{Kind}
 use Rattle.formats.specs.declared.record.Kind.TheVariants as kind
-use Rattle.formats.specs.declared.record.KindFound.{KindFound}
-use Rattle.formats.specs.declared.record.KindFound.TheVariants.{Known, Unknown}
 use Rattle.formats.specs.Names.{primitive_no, primitive_of}
 use Rattle.formats.specs.Table.{row}
 use Rattle.formats.specs.contracts.record.Kind.{the_type}
@@ -28,10 +27,6 @@ use Rattle.stack.specs.Contract.Agree.{Does}
 use Rattle.stack.proofs.state.Laws.{does-as}
 use Rattle.stack.specs.Contract.Acting.{why_not, leaf_act, of_kind}
 use Rattle.stack.proofs.one_operand.Table.{rows}
-
--- the numbers of the kinds that are refused
-abbrev pub refused-kinds : List ℕ
-refused-kinds = 2 ∷ 3 ∷ 5 ∷ 6 ∷ 7 ∷ 8 ∷ 9 ∷ 10 ∷ 12 ∷ []
 
 module _ {a b : Arena} {v : ℕ} {env : AlgebraEnv} {r : Ran} (at h : ℕ) where
   -- ---- primitives
@@ -49,49 +44,51 @@ module _ {a b : Arena} {v : ℕ} {env : AlgebraEnv} {r : Ran} (at h : ℕ) where
 
   module _ (e : Record) where
     -- the kind as the code finds it
-    pub leaf-kind : {f g : KindFound} → f ≡ g → Does a b v env r (λ st. leaf_act at e f h st) → Does a b v env r (λ st. leaf_act at e g h st)
-    leaf-kind q d = subst (λ (f : KindFound). Does a b v env r (λ st. leaf_act at e f h st)) q d
+    pub leaf-kind : {f g : Option Kind} → f ≡ g → Does a b v env r (λ st. leaf_act at e f h st) → Does a b v env r (λ st. leaf_act at e g h st)
+    leaf-kind q d = subst (λ (f : Option Kind). Does a b v env r (λ st. leaf_act at e f h st)) q d
 
-    pub leaf-unknown : Does a b v env r (stop at NotSupported) → Does a b v env r (λ st. leaf_act at e Unknown h st)
+    pub leaf-unknown : Does a b v env r (stop at NotSupported) → Does a b v env r (λ st. leaf_act at e None h st)
     unfolding leaf_act
     leaf-unknown d = d
 
-    pub leaf-real : Does a b v env r (push at h (constant_of e.re 0)) → Does a b v env r (λ st. leaf_act at e (Known kind.RealPush) h st)
+    pub leaf-real : Does a b v env r (push at h (constant_of e.re 0)) → Does a b v env r (λ st. leaf_act at e (Some kind.RealPush) h st)
     unfolding leaf_act
     leaf-real d = d
 
-    pub leaf-complex : Does a b v env r (push at h (constant_of e.re e.im)) → Does a b v env r (λ st. leaf_act at e (Known kind.ComplexPush) h st)
+    pub leaf-complex : Does a b v env r (push at h (constant_of e.re e.im)) → Does a b v env r (λ st. leaf_act at e (Some kind.ComplexPush) h st)
     unfolding leaf_act
     leaf-complex d = d
 
     pub leaf-primitive : Does a b v env r (λ st. taking at (row (primitive_of e.code)).taken st (leaves at h (primitive_of e.code)))
-        → Does a b v env r (λ st. leaf_act at e (Known kind.Primitive) h st)
+        → Does a b v env r (λ st. leaf_act at e (Some kind.Primitive) h st)
     unfolding leaf_act
     leaf-primitive d = d
 
-    pub leaf-marker : Does a b v env r went → Does a b v env r (λ st. leaf_act at e (Known kind.UnderMarker) h st)
+    pub leaf-marker : Does a b v env r went → Does a b v env r (λ st. leaf_act at e (Some kind.UnderMarker) h st)
     unfolding leaf_act
     leaf-marker d = d
 
     -- a kind that is refused
-    pub leaf-refused : (k : Kind) {q : Refusal} → OneOf refused-kinds (tag_of the_type k) → q ≡ why_not k → Does a b v env r (stop at q) → Does a b v env r (λ st. leaf_act at e (Known k) h st)
-    unfolding leaf_act
-    leaf-refused k o q d = leaf-stop k o (subst (λ (x : Refusal). Does a b v env r (stop at x)) q d)
-      where
-        leaf-stop : (k : Kind) → OneOf refused-kinds (tag_of the_type k) → Does a b v env r (stop at (why_not k)) → Does a b v env r (λ st. leaf_act at e (Known k) h st)
-        leaf-stop kind.RealPush o d = absurd (miss refused-kinds _ tt o)
-        leaf-stop kind.ComplexPush o d = absurd (miss refused-kinds _ tt o)
-        leaf-stop kind.ArrayPush o d = d
-        leaf-stop kind.OtherPush o d = d
-        leaf-stop kind.Primitive o d = absurd (miss refused-kinds _ tt o)
-        leaf-stop kind.Modifier o d = d
-        leaf-stop kind.Body o d = d
-        leaf-stop kind.Run o d = d
-        leaf-stop kind.CustomInverse o d = d
-        leaf-stop kind.Obverse o d = d
-        leaf-stop kind.NoNormal o d = d
-        leaf-stop kind.UnderMarker o d = absurd (miss refused-kinds _ tt o)
-        leaf-stop kind.AnythingElse o d = d
+    module _ (k : Kind) (real : k ≡ kind.RealPush → ⊥) (complex : k ≡ kind.ComplexPush → ⊥) (primitive : k ≡ kind.Primitive → ⊥) (marker : k ≡ kind.UnderMarker → ⊥) where
+      pub leaf-refused : {q : Refusal} → q ≡ why_not k → Does a b v env r (stop at q) → Does a b v env r (λ st. leaf_act at e (Some k) h st)
+      unfolding leaf_act
+      leaf-refused q d = leaf-stop k real complex primitive marker (subst (λ (x : Refusal). Does a b v env r (stop at x)) q d)
+        where
+          leaf-stop : (k : Kind) → (k ≡ kind.RealPush → ⊥) → (k ≡ kind.ComplexPush → ⊥) → (k ≡ kind.Primitive → ⊥) → (k ≡ kind.UnderMarker → ⊥)
+              → Does a b v env r (stop at (why_not k)) → Does a b v env r (λ st. leaf_act at e (Some k) h st)
+          leaf-stop kind.RealPush w x y z d = absurd (w refl)
+          leaf-stop kind.ComplexPush w x y z d = absurd (x refl)
+          leaf-stop kind.ArrayPush w x y z d = d
+          leaf-stop kind.OtherPush w x y z d = d
+          leaf-stop kind.Primitive w x y z d = absurd (y refl)
+          leaf-stop kind.Modifier w x y z d = d
+          leaf-stop kind.Body w x y z d = d
+          leaf-stop kind.Run w x y z d = d
+          leaf-stop kind.CustomInverse w x y z d = d
+          leaf-stop kind.Obverse w x y z d = d
+          leaf-stop kind.NoNormal w x y z d = d
+          leaf-stop kind.UnderMarker w x y z d = absurd (z refl)
+          leaf-stop kind.AnythingElse w x y z d = d
 
 -- two, where it is neither none nor one
 pub taken-two : (p : Primitive) {n : ℕ} → n ≡ (row p).taken → (n ≡ 0 → ⊥) → (n ≡ 1 → ⊥) → (row p).taken ≡ 2
@@ -128,7 +125,7 @@ other-kind kind.AnythingElse o = refl
 abbrev pub uncounted-kinds : List ℕ
 uncounted-kinds = 0 ∷ 2 ∷ 3 ∷ 5 ∷ 6 ∷ 7 ∷ 8 ∷ 9 ∷ 10 ∷ 11 ∷ 12 ∷ []
 
-pub of-no-kind : (k : Kind) (primitive complex : Bool) → OneOf uncounted-kinds (tag_of the_type k) → false ≡ of_kind (Known k) primitive complex
+pub of-no-kind : (k : Kind) (primitive complex : Bool) → OneOf uncounted-kinds (tag_of the_type k) → false ≡ of_kind (Some k) primitive complex
 of-no-kind kind.RealPush p c o = refl
 of-no-kind kind.ComplexPush p c o = absurd (miss uncounted-kinds _ tt o)
 of-no-kind kind.ArrayPush p c o = refl
@@ -147,7 +144,7 @@ of-no-kind kind.AnythingElse p c o = refl
 abbrev pub unhandled-kinds : List ℕ
 unhandled-kinds = 0 ∷ 1 ∷ 2 ∷ 3 ∷ 5 ∷ 6 ∷ 7 ∷ 8 ∷ 9 ∷ 10 ∷ 11 ∷ 12 ∷ []
 
-pub uncounted-but : (k : Kind) (primitive : Bool) → OneOf unhandled-kinds (tag_of the_type k) → false ≡ of_kind (Known k) primitive false
+pub uncounted-but : (k : Kind) (primitive : Bool) → OneOf unhandled-kinds (tag_of the_type k) → false ≡ of_kind (Some k) primitive false
 uncounted-but kind.RealPush p o = refl
 uncounted-but kind.ComplexPush p o = refl
 uncounted-but kind.ArrayPush p o = refl

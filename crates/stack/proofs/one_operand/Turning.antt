@@ -7,7 +7,7 @@ use Rattle.cells.specs.Contract.Book.{Book}
 use Rattle.cells.specs.Contract.Moves.{Copied}
 use Rattle.cells.proofs.Laws.{room-less, copied-kept}
 use Rattle.sums.specs.Tree.Sums.{Sum, size}
-use Rattle.sums.specs.Contract.Lies.{Lies, OfOne}
+use Rattle.sums.specs.Contract.Lies.{OfOne}
 use Rattle.sums.proofs.order.Walk.{lies-copied, lies-below}
 use Rattle.stack.specs.Contract.Arena.{Arena, of, Space}
 use Rattle.stack.specs.Contract.Stacked.{Top, Stacked, no_sum, on_top, sizes_of}

@@ -3,7 +3,7 @@ use Prim.Native.Nat.{ℕ, zero, suc, ◌+◌, ◌-◌, ◌≤◌, ◌<◌}
 use native.Mathlib.Omega.{arith}
 use mathlib.Core.Path.{◌≡◌, refl, sym, ap, subst, ◌∙◌}
 use mathlib.Core.Bool.{Bool, true, false, ◌||◌}
-use mathlib.Core.List.{List, [], ◌∷◌}
+use mathlib.Core.List.{List, ◌∷◌}
 use lib.ListN.{get_or}
 use Rattle.sums.specs.Tree.Sums.{Sum}
 use Rattle.arithmetic.specs.Singles.{is_complex}
@@ -11,7 +11,7 @@ use Rattle.sums.specs.Contract.Lies.{Lies, Held}
 use Rattle.stack.specs.Contract.Arena.{Arena}
 use Rattle.stack.specs.Stack.{any_complex}
 use Rattle.stack.specs.Contract.Stacked.{Stacked, Sized, no_size, one_more, deep}
-use Rattle.stack.specs.declared.slots.Deep.TheVariants.{From, Short}
+use Rattle.std.specs.Prelude.{Some, None}
 use Rattle.stack.proofs.slots.Laws.{One, stacked-one, stacked-some, stacked-end, stacked-size}
 
 -- the size that stands at the last cell
@@ -33,14 +33,14 @@ sized-le : {z : List ℕ} {lo hi : ℕ} {ns : List ℕ} → Sized z lo hi ns →
 sized-le no_size = omega arith
 sized-le (one_more e some told st) = let low = sized-le st in omega arith
 
-deep_none : {z : List ℕ} {lo hi : ℕ} {ns : List ℕ} (k : ℕ) → Sized z lo hi ns → hi ≤ lo → 0 < k → deep k ns hi ≡ Short
+deep_none : {z : List ℕ} {lo hi : ℕ} {ns : List ℕ} (k : ℕ) → Sized z lo hi ns → hi ≤ lo → 0 < k → deep k ns hi ≡ None
 unfolding deep
 deep_none zero st h p = absurd (omega arith)
 deep_none (suc k) no_size h p = refl
 deep_none (suc k) (one_more e some told st) h p = let low = sized-le st in absurd (omega arith)
 
 -- no sum is left, and one is asked
-pub sought-short : {z : List ℕ} {lo hi k p left : ℕ} → Sought z lo hi k p left → p ≤ lo → 0 < left → (ns : List ℕ) → Sized z lo hi ns → Short ≡ deep k ns hi
+pub sought-short : {z : List ℕ} {lo hi k p left : ℕ} → Sought z lo hi k p left → p ≤ lo → 0 < left → (ns : List ℕ) → Sized z lo hi ns → None ≡ deep k ns hi
 sought-short {left = left} s h q ns st = let m = s.same ns st in sym (m.2 ∙ deep_none left m.1 h q)
 
 -- what the next sum tells
@@ -83,7 +83,7 @@ sought-more {left = left} r s h q is =
       },
     )
 
-pub sought-done : {z : List ℕ} {lo hi k p left : ℕ} → Sought z lo hi k p left → left ≤ 0 → (ns : List ℕ) → Sized z lo hi ns → From p ≡ deep k ns hi
+pub sought-done : {z : List ℕ} {lo hi k p left : ℕ} → Sought z lo hi k p left → left ≤ 0 → (ns : List ℕ) → Sized z lo hi ns → Some p ≡ deep k ns hi
 unfolding deep
 sought-done {p = p} {left = left} s h ns st = let m = s.same ns st in sym (m.2 ∙ deep-same left zero m.0 p p (omega arith) refl)
 

@@ -4,9 +4,9 @@ use native.Mathlib.Omega.{arith}
 use native.Mathlib.Decide.{dec_le}
 use mathlib.Core.Path.{◌≡◌, refl, sym, ap, ap₂, subst, ◌∙◌}
 use mathlib.Core.List.{List, [], ◌∷◌, ◌++◌}
-use lib.ListN.{length, get_or, take, drop, replicate, length-replicate}
+use lib.ListN.{length, get_or, take, drop}
 use Rattle.cells.specs.Contract.Book.{Room, Cell, cell, at, decoded}
-use Rattle.cells.proofs.Laws.{fresh, room-fresh, room-less, room-same, same-room-refl, same-room-trans}
+use Rattle.cells.proofs.Laws.{room-less, room-same, same-room-refl, same-room-trans}
 use Rattle.sums.specs.Tree.Sums.{Sum, size}
 use Rattle.arithmetic.specs.Singles.{GoodSum}
 use Rattle.sums.specs.Contract.Lies.{Lies}
@@ -16,7 +16,7 @@ use Rattle.stack.specs.Stack.{total}
 use Rattle.stack.proofs.Sizes.{good-some}
 use Rattle.stack.specs.Contract.Stacked.{Top, Stacked, no_sum, on_top, Sized, no_size, one_more, sizes_of, deep}
 use Rattle.stack.specs.Contract.Blocks.{SameSpace, Outside, Raised, Sunk}
-use Rattle.stack.specs.declared.slots.Deep.TheVariants.{From, Short}
+use Rattle.std.specs.Prelude.{Some, None}
 
 -- ---- slots and space
 
@@ -186,7 +186,7 @@ stacked-two p q st = let one = stacked-one p st in (one, stacked-one q one.rest)
 
 -- the top k sums, and those below them
 pub stacked-split : {a : Arena} {lo hi : ℕ} (k : ℕ) (ss : List Sum) → k ≤ length ss → Stacked a lo hi ss
-    → (w : ℕ) × (deep k (sizes_of ss) hi ≡ From w) × Stacked a w hi (take k ss) × Stacked a lo w (drop k ss)
+    → (w : ℕ) × (deep k (sizes_of ss) hi ≡ Some w) × Stacked a w hi (take k ss) × Stacked a lo w (drop k ss)
 unfolding deep sizes_of
 stacked-split {hi = hi} zero ss h st = (hi, refl, no_sum, st)
 stacked-split (suc k) [] h st = absurd (omega arith)
@@ -195,14 +195,14 @@ stacked-split {a} {lo} {hi} (suc k) (s ∷ ss) h st =
     let ih = stacked-split {hi = hi - size s} k ss (omega arith) one.rest in
     (ih.0, ih.1, on_top one.top ih.2, ih.3)
 
-pub deep-short : (k : ℕ) (ss : List Sum) (hi : ℕ) → length ss < k → deep k (sizes_of ss) hi ≡ Short
+pub deep-short : (k : ℕ) (ss : List Sum) (hi : ℕ) → length ss < k → deep k (sizes_of ss) hi ≡ None
 unfolding deep sizes_of
 deep-short zero ss hi h = absurd (omega arith)
 deep-short (suc k) [] hi h = refl
 deep-short (suc k) (s ∷ ss) hi h = deep-short k ss (hi - size s) (omega arith)
 
 -- what an answer of `deep` tells
-pub deep-from : {a : Arena} {lo hi : ℕ} (k : ℕ) (ss : List Sum) (w : ℕ) → deep k (sizes_of ss) hi ≡ From w → Stacked a lo hi ss
+pub deep-from : {a : Arena} {lo hi : ℕ} (k : ℕ) (ss : List Sum) (w : ℕ) → deep k (sizes_of ss) hi ≡ Some w → Stacked a lo hi ss
     → (k ≤ length ss) × Stacked a w hi (take k ss) × Stacked a lo w (drop k ss)
 deep-from {a} {lo} {hi} k ss w e st =
     elim (dec_le k (length ss)) [
@@ -213,7 +213,7 @@ deep-from {a} {lo} {hi} k ss w e st =
       | no h ↦ let short = deep-short k ss hi (omega arith) in absurd (let z : ◌≡◌ {A = ℕ} 0 1 = cc in omega arith)
     ]
 
-pub deep-few : {a : Arena} {lo hi : ℕ} (k : ℕ) (ss : List Sum) → deep k (sizes_of ss) hi ≡ Short → Stacked a lo hi ss → length ss < k
+pub deep-few : {a : Arena} {lo hi : ℕ} (k : ℕ) (ss : List Sum) → deep k (sizes_of ss) hi ≡ None → Stacked a lo hi ss → length ss < k
 deep-few k ss e st =
     elim (dec_le k (length ss)) [
       | yes h ↦ let split = stacked-split k ss h st in absurd (let z : ◌≡◌ {A = ℕ} 0 1 = cc in omega arith)

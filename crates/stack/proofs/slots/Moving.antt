@@ -1,7 +1,7 @@
 -- What is moved and written in the arena, cells and sizes. Assumes nothing.
 use Prim.Native.Nat.{ℕ, ◌+◌, ◌-◌, ◌≤◌, ◌<◌}
 use native.Mathlib.Omega.{arith}
-use mathlib.Core.Path.{◌≡◌, refl, sym, ap, subst, ◌∙◌}
+use mathlib.Core.Path.{◌≡◌, refl, ap, subst, ◌∙◌}
 use mathlib.Core.Logic.{⊎_elim}
 use mathlib.Core.List.{List}
 use native.Mathlib.Decide.{ℕ_discrete}
@@ -10,7 +10,7 @@ use lib.ListN.{length, get_or, set, length-set}
 use lib.Seq.{get_or-set_same, get_or-set_other}
 use Rattle.cells.specs.Contract.Book.{Book}
 use Rattle.cells.specs.Contract.Moves.{Moved, Copied}
-use Rattle.sums.specs.Tree.Sums.{Sum, size}
+use Rattle.sums.specs.Tree.Sums.{Sum}
 use Rattle.stack.proofs.Sizes.{not-empty}
 use Rattle.sums.specs.Contract.Lies.{Lies}
 use Rattle.sums.proofs.order.Walk.{lies-copied}

@@ -2,28 +2,26 @@
 use Prim.Native.Nat.{ℕ, suc, ◌+◌, ◌-◌, ◌≤◌, ◌<◌, min}
 use native.Mathlib.Omega.{arith}
 use mathlib.Core.Path.{◌≡◌, refl, sym, ap, subst, ◌∙◌}
-use mathlib.Core.Bool.{Bool, true, false, ◌||◌, cond}
-use mathlib.Core.List.{List, [], ◌∷◌, ◌++◌, append_assoc}
+use mathlib.Core.Bool.{Bool, false, ◌||◌, cond}
+use mathlib.Core.List.{List, [], ◌∷◌}
 use lib.Dec.{leb}
-use lib.ListN.{length, take, drop}
-use borrow.Author.Tests.{le-leb, lt-leb}
+use lib.ListN.{length}
 use Rattle.limits.specs.declared.Refusal.{Refusal}
 use Rattle.limits.specs.declared.Refusal.TheVariants.{TooManyVariables, NoRoom}
 use Rattle.sums.specs.Tree.Sums.{Sum, size}
 use Rattle.sums.specs.Tree.Map.{Outcome, sum, refused}
 use Rattle.cells.specs.Contract.Book.{Book}
-use Rattle.sums.specs.declared.order.Formed.{Formed}
-use Rattle.sums.specs.declared.order.Formed.TheVariants.{Done, Refused}
+use Rattle.std.specs.Prelude.{Result, Ok, Err}
 use Rattle.sums.specs.Contract.Lies.{Lies, Agrees}
 use Rattle.stack.specs.Contract.Arena.{Arena}
-use Rattle.stack.specs.Stack.{total, any_complex}
+use Rattle.stack.specs.Stack.{any_complex}
 use Rattle.stack.specs.Contract.Stacked.{Top, Stacked, no_sum, Sized, sizes_of}
 use Rattle.stack.specs.Contract.Blocks.{Outside}
-use Rattle.stack.proofs.slots.Laws.{space-same, outside_refl, outside_trans, outside_wider, stacked-total, stacked-size, stacked-push, stacked-one, One}
+use Rattle.stack.proofs.slots.Laws.{outside_refl, outside_wider, stacked-total, stacked-size, stacked-push, stacked-one, One}
 use Rattle.stack.specs.declared.state.AlgebraEnv.{AlgebraEnv}
 use Rattle.stack.specs.declared.state.Ran.{Ran}
 use Rattle.stack.specs.declared.state.Ran.TheVariants.{Went, Stopped}
-use Rattle.stack.specs.State.{State, Walked, went, stopped, and_then, with_stack, stop, taking_if, taking, lend, push}
+use Rattle.stack.specs.State.{State, Walked, went, stopped, and_then, with_stack, stop, taking, push}
 use Rattle.stack.specs.Steps.{flagged, counted}
 use Rattle.stack.proofs.Laws.{taking-some, taking-short, lend-room, lend-full}
 use Rattle.stack.specs.Contract.Agree.{Stands, Ready, Agree, Does}
@@ -218,20 +216,20 @@ does-two {a} {b} {v} {env} {r} {n} {m} at f o t g =
 -- ---- what was formed
 
 -- a sum that was formed is put on
-pub push-done : {a b : Arena} {v : ℕ} {env : AlgebraEnv} {r : Ran} (w : Book) (at h n : ℕ) (f : Formed) (o : Outcome) → f ≡ Done n
+pub push-done : {a b : Arena} {v : ℕ} {env : AlgebraEnv} {r : Ran} (w : Book) (at h n : ℕ) (f : Result ℕ Refusal) (o : Outcome) → f ≡ Ok n
     → ((s : Sum) → Lies w 0 (0 + n) 4 s → Does a b v env r (push at h (sum s))) → Agrees f w 0 o → Does a b v env r (push at h o)
 push-done {a} {b} {v} {env} {r} w at h n f o e d g = go o (rw e at g)
   where
-    go : (o : Outcome) → Agrees (Done n) w 0 o → Does a b v env r (push at h o)
+    go : (o : Outcome) → Agrees (Ok n) w 0 o → Does a b v env r (push at h o)
     go (sum s) g = d s g.1
     go (refused q) g = absurd g
 
 -- a refusal is given
-pub push-refused : {a b : Arena} {v : ℕ} {env : AlgebraEnv} {r : Ran} (w : Book) (at h : ℕ) (q : Refusal) (f : Formed) (o : Outcome) → f ≡ Refused q → Does a b v env r (stop at q)
+pub push-refused : {a b : Arena} {v : ℕ} {env : AlgebraEnv} {r : Ran} (w : Book) (at h : ℕ) (q : Refusal) (f : Result ℕ Refusal) (o : Outcome) → f ≡ Err q → Does a b v env r (stop at q)
     → Agrees f w 0 o → Does a b v env r (push at h o)
 push-refused {a} {b} {v} {env} {r} w at h q f o e d g = go o (rw e at g)
   where
-    go : (o : Outcome) → Agrees (Refused q) w 0 o → Does a b v env r (push at h o)
+    go : (o : Outcome) → Agrees (Err q) w 0 o → Does a b v env r (push at h o)
     go (sum s) g = absurd g
     go (refused p) g = subst (λ (x : Refusal). Does a b v env r (stop at x)) g d
 

@@ -1,12 +1,12 @@
 -- A number written as a sum of one cell on top of the stack. Assumes nothing.
-use Prim.Native.Nat.{ℕ, ◌+◌, ◌-◌, ◌≤◌, ◌<◌}
+use Prim.Native.Nat.{ℕ, ◌+◌}
 use native.Mathlib.Omega.{arith}
 use mathlib.Core.Path.{◌≡◌, refl, ap, ◌∙◌}
 use mathlib.Core.Bool.{Bool, true, ◌&&◌}
-use mathlib.Core.List.{List, [], ◌∷◌}
+use mathlib.Core.List.{[], ◌∷◌}
 use lib.Ieee.{binary64, of_bits}
 use lib.Ieee.Scale.{finite}
-use lib.ListN.{length, get_or, set, length-set}
+use lib.ListN.{get_or, set, length-set}
 use lib.Seq.{get_or-set_same, get_or-set_other}
 use Rattle.numbers.specs.Signs.{zero64}
 use Rattle.numbers.proofs.Finite.{zero-is-finite}
@@ -15,7 +15,7 @@ use Rattle.sums.specs.Tree.Kinds as kinds
 use Rattle.sums.specs.Tree.Sums.{Sum, size, levels, entry}
 use Rattle.sums.specs.Tree.Map.{sum, formed, coef_in, put_in}
 use Rattle.arithmetic.specs.Singles.{constant}
-use Rattle.cells.specs.Contract.Book.{Book, book, at, cell}
+use Rattle.cells.specs.Contract.Book.{book, at, cell}
 use Rattle.sums.specs.Contract.Lies.{At}
 use Rattle.stack.specs.Steps.{constant_of}
 use Rattle.stack.proofs.Forming.{constant-good}

@@ -1,7 +1,8 @@
 -- The arena: a book of cells, and beside each cell a size, which is used at a sum's last cell.
 use Rattle.std.specs.Prelude.{ℕ, ◌+◌, ◌≤◌, List, length, get_or}
 use Rattle.limits.specs.Limits.{sum_entries, stack_entries}
-use Rattle.cells.specs.Contract.Book.{Book, book, Room, Cell, cell}
+use Rattle.stack.specs.declared.slots.Arena.{Arena as Lent}
+use Rattle.cells.specs.Contract.Book.{Book, seen, Room, Cell, cell}
 
 -- how many places are for working in; the stack lies behind them
 abbrev pub working : ℕ
@@ -17,9 +18,9 @@ pub record Arena : Type 0 where
 abbrev pub of : Book → List ℕ → Arena
 of b z = record { cells = b; sizes = z }
 
--- the arena that four slices are
-abbrev pub arena : List ℕ → List ℕ → List (List ℕ) → List ℕ → Arena
-arena k i n z = of (book k i n) z
+-- what the lent slices have
+abbrev pub slots : Lent → Arena
+slots a = of (seen a.book) a.sizes.now
 
 -- what stands at one index
 pub record Slot : Type 0 where

@@ -1,9 +1,8 @@
 -- What the parts of a step are asked for and answer.
-use Rattle.std.specs.Prelude.{ℕ, suc, ◌+◌, ◌≤◌, min, ◌≡◌, Bool, ◌||◌, cond, List, ◌++◌}
+use Rattle.std.specs.Prelude.{ℕ, suc, ◌+◌, ◌≤◌, min, ◌≡◌, Bool, ◌||◌, cond, List, ◌++◌, Result, Ok, Err}
 use Rattle.limits.specs.Limits.{sum_entries, handled_needed}
 use Rattle.sums.specs.Tree.Sums.{Sum}
-use Rattle.sums.specs.declared.order.Formed.{Formed}
-use Rattle.sums.specs.declared.order.Formed.TheVariants.{Done, Refused}
+use Rattle.limits.specs.declared.Refusal.{Refusal}
 use Rattle.stack.specs.State.{most_pairs}
 use Rattle.stack.specs.Contract.Arena.{Arena, working}
 use Rattle.stack.specs.Contract.Stacked.{Stacked, sizes_of}
@@ -26,9 +25,9 @@ abbrev pub Tops : Arena → ℕ → List ℕ → Type 0
 Tops a u ns = (ss : List Sum) → Stacked a working u ss → (ms : List ℕ) × (sizes_of ss ≡ ns ++ ms)
 
 -- a sum that was formed has an entry
-abbrev pub Filled : Formed → Type 0
-Filled (Done n) = (1 ≤ n) × (n ≤ sum_entries)
-Filled (Refused q) = Unit {0}
+abbrev pub Filled : Result ℕ Refusal → Type 0
+Filled (Ok n) = (1 ≤ n) × (n ≤ sum_entries)
+Filled (Err q) = Unit {0}
 
 -- a step with the pairs that it multiplied, which a refusal does not have
 abbrev pub more_pairs : Stepped → ℕ → Stepped

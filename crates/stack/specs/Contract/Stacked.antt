@@ -1,12 +1,10 @@
 -- Sums one after the other in the arena. At a sum's last cell stands how many cells it has.
-use Rattle.std.specs.Prelude.{ℕ, zero, suc, ◌+◌, ◌-◌, ◌≤◌, ◌≡◌, List, [], ◌∷◌, get_or}
+use Rattle.std.specs.Prelude.{ℕ, zero, suc, ◌+◌, ◌-◌, ◌≤◌, ◌≡◌, List, [], ◌∷◌, get_or, Option, Some, None}
 use Rattle.limits.specs.Limits.{sum_levels}
 use Rattle.sums.specs.Tree.Sums.{Sum, size}
 use Rattle.arithmetic.specs.Singles.{GoodSum}
 use Rattle.sums.specs.Contract.Lies.{Lies}
 use Rattle.stack.specs.Contract.Arena.{Arena}
-use Rattle.stack.specs.declared.slots.Deep.{Deep}
-use Rattle.stack.specs.declared.slots.Deep.TheVariants.{From, Short}
 
 -- the sum s lies from lo up to hi
 pub record Top (a : Arena) (lo hi : ℕ) (s : Sum) : Type 0 where
@@ -29,7 +27,7 @@ sizes_of [] = []
 sizes_of (s ∷ ss) = size s ∷ sizes_of ss
 
 -- where the top k of some sums begin, the uppermost ending at hi
-unfoldable pub deep : ℕ → List ℕ → ℕ → Deep
-deep zero ns hi = From hi
-deep (suc k) [] hi = Short
+unfoldable pub deep : ℕ → List ℕ → ℕ → Option ℕ
+deep zero ns hi = Some hi
+deep (suc k) [] hi = None
 deep (suc k) (n ∷ ns) hi = deep k ns (hi - n)

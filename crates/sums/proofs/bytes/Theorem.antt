@@ -26,8 +26,7 @@ use Rattle.sums.specs.Entry.Taking.{Handed, Weighed}
 use Rattle.sums.specs.Contract.Laid.{Laid}
 use Rattle.sums.specs.Entry.Contract.Steps.{clean_at, cell_at}
 use Rattle.sums.specs.Contract.Steps.{Answered, good, deep, bad}
-use Rattle.sums.specs.declared.entry.Taken.{Taken}
-use Rattle.sums.specs.declared.entry.Taken.TheVariants as taken
+use Rattle.std.specs.Prelude.{Result, Ok, Err}
 use Rattle.sums.proofs.entry.Codes.{Bits, bits_at}
 use Rattle.sums.proofs.bytes.Laws.{length-sum, fives, cell_bytes, cells_same, cells-part, encode-laid, laid_of, clean_of, at-unique, encode-unique}
 
@@ -50,25 +49,25 @@ handed left s g some few = record { good = good-within left 64 s g (omega (arith
 
 -- ---- refused at once
 
-sum-not-bad : {n : ℕ} → taken.Sum n ≡ taken.Refused BadRecord → ⊥
+sum-not-bad : {n : ℕ} → Ok n ≡ Err BadRecord → ⊥
 sum-not-bad e = let z : ◌≡◌ {A = ℕ} 0 1 = cc in omega arith
 
-bad-no-sum : {n : ℕ} → taken.Refused BadRecord ≡ taken.Sum n → ⊥
+bad-no-sum : {n : ℕ} → Err BadRecord ≡ Ok n → ⊥
 bad-no-sum e = sum-not-bad (sym e)
 
-pub none-laid : (l : List ℕ) (b : Book) (n : ℕ) → taken.Refused BadRecord ≡ taken.Sum n → Laid l b n
+pub none-laid : (l : List ℕ) (b : Book) (n : ℕ) → Err BadRecord ≡ Ok n → Laid l b n
 none-laid l b n e = absurd (bad-no-sum e)
 
-sum-not-deep : {n : ℕ} → taken.Sum n ≡ taken.Refused TooDeep → ⊥
+sum-not-deep : {n : ℕ} → Ok n ≡ Err TooDeep → ⊥
 sum-not-deep e = let z : ◌≡◌ {A = ℕ} 0 1 = cc in omega arith
 
-bad-not-deep : taken.Refused BadRecord ≡ taken.Refused TooDeep → ⊥
+bad-not-deep : ◌≡◌ {A = Result ℕ Refusal} (Err BadRecord) (Err TooDeep) → ⊥
 bad-not-deep e = let z : ◌≡◌ {A = ℕ} 0 1 = cc in omega arith
 
-sum-count : {m n : ℕ} → taken.Sum m ≡ taken.Sum n → m ≡ n
+sum-count : {m n : ℕ} → ◌≡◌ {A = Result ℕ Refusal} (Ok m) (Ok n) → m ≡ n
 sum-count e = cc
 
-pub refuse : (l : List ℕ) → ((s : Sum) → encode_sum s ≡ l → Handed s → ⊥) → Weighed l (taken.Refused BadRecord)
+pub refuse : (l : List ℕ) → ((s : Sum) → encode_sum s ≡ l → Handed s → ⊥) → Weighed l (Err BadRecord)
 refuse l f =
     record {
       good = λ n. (λ e. absurd (bad-no-sum e), λ w. absurd (f w.0 w.1 w.2));
@@ -77,11 +76,11 @@ refuse l f =
     }
 
 -- the bytes are no whole entries, or too few or too many
-pub refuse-length : (l : List ℕ) → ((n : ℕ) → 1 ≤ n → n ≤ 64 → length l ≡ 32 * n → ⊥) → Weighed l (taken.Refused BadRecord)
+pub refuse-length : (l : List ℕ) → ((n : ℕ) → 1 ≤ n → n ≤ 64 → length l ≡ 32 * n → ⊥) → Weighed l (Err BadRecord)
 refuse-length l f = refuse l (λ s e w. f (size s) w.some w.few (ap length (sym e) ∙ length-sum s))
 
 -- an entry isn't clean
-pub refuse-entry : (l : List ℕ) (n : ℕ) → length l ≡ 32 * n → (((j : ℕ) → j < n → clean_at l j ≡ true) → ⊥) → Weighed l (taken.Refused BadRecord)
+pub refuse-entry : (l : List ℕ) (n : ℕ) → length l ≡ 32 * n → (((j : ℕ) → j < n → clean_at l j ≡ true) → ⊥) → Weighed l (Err BadRecord)
 refuse-entry l n h f =
     refuse l (λ s e w. f (λ j p. clean_of l 64 0 s [] (sym e ∙ sym (append-nil (encode_sum s))) w.good w.few j (omega arith) (omega (arith, ap length e, length-sum s))))
 
@@ -118,14 +117,14 @@ module _ (l : List ℕ) (n : ℕ) (b : Book) (bs : Bytes l) (long : length l ≡
   same : (left right : ℕ) (s t : Sum) → Lies b 0 n left s → Lies b 0 n right t → s ≡ t
   same left right s t v w = let p = v.ends in let q = w.ends in at-unique (at b) 0 s t v.laid w.laid (omega arith)
 
-  pub weigh : (t : Taken) → Answered b n t → Weighed l t
+  pub weigh : (t : Result ℕ Refusal) → Answered b n t → Weighed l t
   weigh t (good h) =
       let s = h.0 in
       let w = h.1 in
       record {
         good = λ m. (
           λ e. let ends = w.ends in (s, out 4 s w, whole 4 s w (deeper s w.good), w.good, omega (arith, sum-count e)),
-          λ x. ap taken.Sum (omega (arith, length-sum x.0, ap length x.1, x.4)),
+          λ x. ap Ok (omega (arith, length-sum x.0, ap length x.1, x.4)),
         );
         deep = (λ e. absurd (sum-not-deep e), λ x. absurd (x.3 (subst (Good 4) (same 4 64 s x.0 w (into 64 x.0 x.1 x.2.good)) w.good)));
         bad = (λ e. absurd (sum-not-bad e), λ f. absurd (f s (out 4 s w) (whole 4 s w (deeper s w.good))));
@@ -144,7 +143,7 @@ module _ (l : List ℕ) (n : ℕ) (b : Book) (bs : Bytes l) (long : length l ≡
   laid-all : Held b 0 n 4 → Laid l b n
   laid-all h = record { few = few; some = (h.0, out 4 h.0 h.1, h.1); every = λ s e g. into 4 s e g }
 
-  pub laid : (t : Taken) → Answered b n t → (m : ℕ) → t ≡ taken.Sum m → Laid l b m
+  pub laid : (t : Result ℕ Refusal) → Answered b n t → (m : ℕ) → t ≡ Ok m → Laid l b m
   laid t (good h) m e = subst (Laid l b) (sum-count e) (laid-all h)
   laid t (deep d h) m e = absurd (sum-not-deep (sym e))
   laid t (bad h) m e = absurd (bad-no-sum e)
@@ -152,30 +151,30 @@ module _ (l : List ℕ) (n : ℕ) (b : Book) (bs : Bytes l) (long : length l ≡
 -- ---- what follows
 
 -- a good sum within the limits is never refused
-pub good-taken : (s : Sum) (t : Taken) → Good 4 s → 1 ≤ size s → size s ≤ 64 → Weighed (encode_sum s) t → t ≡ taken.Sum (size s)
+pub good-taken : (s : Sum) (t : Result ℕ Refusal) → Good 4 s → 1 ≤ size s → size s ≤ 64 → Weighed (encode_sum s) t → t ≡ Ok (size s)
 good-taken s t g some few w = (w.good (size s)).1 (s, refl, handed 4 s g some few, g, refl)
 
 -- and it may be handed over: its bytes are weighed as so many entries, since no other good sum has them
-pub weighed-good : (s : Sum) → Good 4 s → 1 ≤ size s → size s ≤ 64 → Weighed (encode_sum s) (taken.Sum (size s))
+pub weighed-good : (s : Sum) → Good 4 s → 1 ≤ size s → size s ≤ 64 → Weighed (encode_sum s) (Ok (size s))
 weighed-good s g some few =
     record {
-      good = λ n. (λ e. (s, refl, handed 4 s g some few, g, sum-count e), λ w. ap taken.Sum (omega (arith, length-sum s, length-sum w.0, ap length w.1, w.4)));
+      good = λ n. (λ e. (s, refl, handed 4 s g some few, g, sum-count e), λ w. ap Ok (omega (arith, length-sum s, length-sum w.0, ap length w.1, w.4)));
       deep = (λ e. absurd (sum-not-deep e), λ w. absurd (w.3 (subst (Good 4) (encode-unique 4 64 s w.0 g w.2.good few (sym w.1)) g)));
       bad = (λ e. absurd (sum-not-bad e), λ f. absurd (f s refl (handed 4 s g some few)));
     }
 
 -- no other refusal is ever given
-other : (l : List ℕ) (r : Refusal) → (refusal_no r ≡ 11 → ⊥) → (refusal_no r ≡ 13 → ⊥) → Weighed l (taken.Refused r) → ⊥
+other : (l : List ℕ) (r : Refusal) → (refusal_no r ≡ 11 → ⊥) → (refusal_no r ≡ 13 → ⊥) → Weighed l (Err r) → ⊥
 other l r p q w = p (ap no (w.bad.1 (λ s e h. q (ap no (w.deep.1 (s, e, h, λ g. no_sum ((w.good (size s)).1 (s, e, h, g, refl))))))))
   where
-    no : Taken → ℕ
-    no (taken.Sum n) = 0
-    no (taken.Refused r) = refusal_no r
+    no : Result ℕ Refusal → ℕ
+    no (Ok n) = 0
+    no (Err r) = refusal_no r
 
-    no_sum : {n : ℕ} → taken.Refused r ≡ taken.Sum n → ⊥
+    no_sum : {n : ℕ} → Err r ≡ Ok n → ⊥
     no_sum e = let z : ◌≡◌ {A = ℕ} 0 1 = cc in omega arith
 
-pub only : (l : List ℕ) (r : Refusal) → Weighed l (taken.Refused r) → (r ≡ TooDeep) ⊎ (r ≡ BadRecord)
+pub only : (l : List ℕ) (r : Refusal) → Weighed l (Err r) → (r ≡ TooDeep) ⊎ (r ≡ BadRecord)
 only l r w = go (eqb (refusal_no r) 13) (eqb (refusal_no r) 11) refl refl
   where
     go : (a b : Bool) → eqb (refusal_no r) 13 ≡ a → eqb (refusal_no r) 11 ≡ b → (r ≡ TooDeep) ⊎ (r ≡ BadRecord)
@@ -184,7 +183,7 @@ only l r w = go (eqb (refusal_no r) 13) (eqb (refusal_no r) 11) refl refl
     go false false d e = absurd (other l r (eqb-false (refusal_no r) 11 e) (eqb-false (refusal_no r) 13 d) w)
 
 -- so a list of bytes has one answer
-pub settled : (l : List ℕ) (t u : Taken) → Weighed l t → Weighed l u → t ≡ u
-settled l (taken.Sum n) u v w = sym ((w.good n).1 ((v.good n).0 refl))
-settled l (taken.Refused r) u v w =
-    ⊎_elim (λ e. ap taken.Refused e ∙ sym (w.deep.1 (v.deep.0 (ap taken.Refused e)))) (λ e. ap taken.Refused e ∙ sym (w.bad.1 (v.bad.0 (ap taken.Refused e)))) (only l r v)
+pub settled : (l : List ℕ) (t u : Result ℕ Refusal) → Weighed l t → Weighed l u → t ≡ u
+settled l (Ok n) u v w = sym ((w.good n).1 ((v.good n).0 refl))
+settled l (Err r) u v w =
+    ⊎_elim (λ e. ap Err e ∙ sym (w.deep.1 (v.deep.0 (ap Err e)))) (λ e. ap Err e ∙ sym (w.bad.1 (v.bad.0 (ap Err e)))) (only l r v)

@@ -8,8 +8,8 @@ use lib.Ieee.{Float}
 use lib.Ieee.Fits.{and_l, and_r}
 use lib.Ieee.Scale.{finite}
 use borrow.Author.Tests.{leb-true, le-leb, lt-leb, eq-eqb, ne_eqb}
-use Rattle.numbers.specs.declared.Ordering.{Ordering}
-use Rattle.numbers.specs.declared.Ordering.TheVariants.{Less, Equal, Greater}
+use Rattle.std.specs.declared.cmp.Ordering.{Ordering}
+use Rattle.std.specs.declared.cmp.Ordering.TheVariants.{Less, Equal, Greater}
 use Rattle.numbers.proofs.Bools.{T_of}
 use Rattle.numbers.specs.declared.complex.Complex.{Complex}
 use Rattle.numbers.specs.Complex.Arith as complex
@@ -31,11 +31,11 @@ use Rattle.sums.proofs.tree.Keeps as keeps
 use Rattle.sums.proofs.tree.Lookup.{or_zero, coef-lookup}
 use Rattle.sums.specs.declared.order.Found.{Found}
 use Rattle.sums.specs.declared.order.Found.TheVariants.{Same, Before}
-use Rattle.sums.specs.declared.order.Formed.{Formed}
-use Rattle.sums.specs.declared.order.Formed.TheVariants.{Done, Refused}
+use Rattle.std.specs.Prelude.{Result, Ok, Err}
 use Rattle.sums.specs.Contract.Lies.{At, Lies, Agrees}
 use Rattle.sums.specs.Contract.Nests.{Nests}
 use Rattle.sums.specs.Contract.Place.{place}
+use Rattle.sums.specs.Contract.Heads.{GoodHead}
 use Rattle.sums.specs.Contract.Putting.{Putting}
 use Rattle.sums.proofs.order.Nesting.{lies-nests}
 use Rattle.sums.proofs.order.Walk.{lies_empty, at_moved, at-stays, plain_at}
@@ -188,23 +188,23 @@ pub told-levels : {g b : Book} {x : Entry} {i p n : ℕ} {found : Found} {s t : 
 told-levels {t = t} P h e = sym (h t (lies-nests P.inside)) ∙ e
 
 -- nothing but the sum_entries cells from p on is written, and the answer is that of `formed`
-abbrev pub Answer : Merge → Entry → Book → Book → ℕ → Formed → Sum → Sum → Type 0
+abbrev pub Answer : Merge → Entry → Book → Book → ℕ → Result ℕ Refusal → Sum → Sum → Type 0
 Answer m x b b' p r s t = Kept b b' p (p + sum_entries) × Agrees r b' p (formed m x t s)
 
-pub answer-refused : (m : Merge) (x : Entry) (b : Book) (p : ℕ) (s t : Sum) (q : Refusal) → formed m x t s ≡ refused q → Answer m x b b p (Refused q) s t
+pub answer-refused : (m : Merge) (x : Entry) (b : Book) (p : ℕ) (s t : Sum) (q : Refusal) → formed m x t s ≡ refused q → Answer m x b b p (Err q) s t
 answer-refused m x b p s t q e = (kept_refl b p (p + sum_entries), rw e refl)
 
 module _ (m : Merge) {g b : Book} {x : Entry} {i p n : ℕ} {found : Found} {s t : Sum} (P : Putting g b x i p n found s t) where
   -- 15 for the coefficient that the key then has
-  pub answer-not : {v : Complex} → v ≡ coef_in m x t s → complex.all_finite v ≡ false → Answer m x b b p (Refused NotFinite) s t
+  pub answer-not : {v : Complex} → v ≡ coef_in m x t s → complex.all_finite v ≡ false → Answer m x b b p (Err NotFinite) s t
   answer-not e f = answer-refused m x b p s t NotFinite (formed-not m x t s P.number (rw (← e) f))
 
   -- 13
-  pub answer-deep : {v : Complex} → v ≡ coef_in m x t s → complex.all_finite v ≡ true → shallow t ≡ false → Answer m x b b p (Refused TooDeep) s t
+  pub answer-deep : {v : Complex} → v ≡ coef_in m x t s → complex.all_finite v ≡ true → shallow t ≡ false → Answer m x b b p (Err TooDeep) s t
   answer-deep e f d = answer-refused m x b p s t TooDeep (formed-deep m x t s P.number (rw (← e) f) d)
 
   -- 12
-  answer-full : complex.all_finite (coef_in m x t s) ≡ true → shallow t ≡ true → sum_entries < size (put_in m x t s) → Answer m x b b p (Refused NoRoom) s t
+  answer-full : complex.all_finite (coef_in m x t s) ≡ true → shallow t ≡ true → sum_entries < size (put_in m x t s) → Answer m x b b p (Err NoRoom) s t
   answer-full f d h = answer-refused m x b p s t NoRoom (formed-full m x t s P.number f d (lt-leb (size (put_in m x t s)) sum_entries h))
 
   inside-sized : x.inside ≡ size t
@@ -227,7 +227,7 @@ module _ (m : Merge) {g b : Book} {x : Entry} {i p n : ℕ} {found : Found} {s t
 
   -- it lies there, and has at most sum_entries entries
   answer-done : {b' : Book} (n' : ℕ) → Fitting x → complex.all_finite (coef_in m x t s) ≡ true → shallow t ≡ true → Kept b b' p (p + sum_entries)
-      → At (at b') p (put_in m x t s) → size (put_in m x t s) ≡ n' → n' ≤ sum_entries → Answer m x b b' p (Done n') s t
+      → At (at b') p (put_in m x t s) → size (put_in m x t s) ≡ n' → n' ≤ sum_entries → Answer m x b b' p (Ok n') s t
   answer-done n' w f d k a e h = (
     k,
     rw (formed-is m x t s P.number f d (le-leb (size (put_in m x t s)) sum_entries (omega arith)))
@@ -258,7 +258,7 @@ module _ (m : Merge) {g b : Book} {x : Entry} {i p n k : ℕ} {s t : Sum} (P : P
       v ∙ ap (λ (u : Entry). merged m u.coef x.coef) e ∙ sym (coef-lookup m x t s ∙ ap (λ (l : map.Found). merged m (or_zero l) x.coef) there.found)
 
   pub same-done : {b' : Book} {y : Entry} {v : Complex} → Fitting x → y ≡ at b k → v ≡ merged m y.coef x.coef → complex.all_finite v ≡ true → shallow t ≡ true
-      → Put b b' k (with-coef y v) → Answer m x b b' p (Done n) s t
+      → Put b b' k (with-coef y v) → Answer m x b b' p (Ok n) s t
   same-done {b'} {y} {v} w ey ev f d put =
       let a = there in
       let low = a.low in
@@ -303,11 +303,11 @@ module _ (m : Merge) {g b : Book} {x : Entry} {i p n k : ℕ} {s t : Sum} (P : P
   new-sized = let ends = P.lies.ends in let inside = inside-sized m P in keeps.size-new m x t s away.found ∙ omega arith
 
   pub new-full : {v : Complex} → v ≡ merged m complex.zero x.coef → complex.all_finite v ≡ true → shallow t ≡ true
-      → sum_entries < n + (1 + x.inside) → Answer m x b b p (Refused NoRoom) s t
+      → sum_entries < n + (1 + x.inside) → Answer m x b b p (Err NoRoom) s t
   new-full v f d h = let sized = new-sized in answer-full m P (rw (← (new-coef v)) f) d (omega arith)
 
   pub new-done : {b' : Book} {v : Complex} → Fitting x → v ≡ merged m complex.zero x.coef → complex.all_finite v ≡ true → shallow t ≡ true → n + (1 + x.inside) ≤ sum_entries
-      → Inserted g b b' i k (p + n) (with-coef x v) → Answer m x b b' p (Done (n + (1 + x.inside))) s t
+      → Inserted g b b' i k (p + n) (with-coef x v) → Answer m x b b' p (Ok (n + (1 + x.inside))) s t
   new-done {b'} {v} w ev f d few put =
       let a = away in
       let low = a.low in
@@ -326,6 +326,12 @@ module _ (m : Merge) {g b : Book} {x : Entry} {i p n k : ℕ} {s t : Sum} (P : P
       (λ j h. at-kept b b' j (put.below j h))
       (λ j c d. ap (λ (u : ℕ). at b' (j + (1 + u))) (sym inside) ∙ ap decoded (put.moved j c (omega arith))))
       new-sized few
+
+-- ---- what is known once a term's place is found
+
+pub putting : {b : Book} {x : Entry} {i p n : ℕ} {found : Found} {s t : Sum} → GoodHead x → finite x.num ≡ true → n ≤ sum_entries → Room b (p + sum_entries)
+    → Lies b p (p + n) sum_levels s → Lies b i (i + x.inside) sum_levels t → found ≡ place x t s p → Putting b b x i p n found s t
+putting h f few room l k e = record { head = h; number = f; inside = k; few = few; room = room; lies = l; placed = sym e }
 
 -- ---- a power of x
 

@@ -2,8 +2,8 @@
 use Prim.Native.Nat.{ℕ, suc, ◌+◌, ◌-◌, ◌≤◌, ◌<◌}
 use native.Mathlib.Omega.{arith}
 use mathlib.Core.Path.{◌≡◌, sym, ap, ap₂, subst, ◌∙◌}
-use Rattle.numbers.specs.declared.Ordering.{Ordering}
-use Rattle.numbers.specs.declared.Ordering.TheVariants.{Equal, Greater}
+use Rattle.std.specs.declared.cmp.Ordering.{Ordering}
+use Rattle.std.specs.declared.cmp.Ordering.TheVariants.{Equal, Greater}
 use Rattle.numbers.specs.Order.{and_then}
 use Rattle.numbers.specs.Complex.Arith.{cmp_complex}
 use Rattle.cells.specs.declared.Entry.{Entry}
@@ -47,15 +47,21 @@ each_and : (x y : Entry) (i r j s : Sum) (o : Ordering) → and_then (cmp_term x
 unfolding cmp_each
 each_and x y i r j s o e = ap (λ (u : Ordering). and_then u (cmp_each r s)) e
 
+-- both next entries, as they were read
+pub first-next : {a : Book} {p e : ℕ} {b : Book} {q d left : ℕ} {s t : Sum} {x : Entry} (w : Abreast a p e b q d left s t Equal) → p < e → x ≡ at a p → Next a p e left w.s' x
+first-next w h ex = next _ _ _ _ w.s' _ ex w.lies-s h
+
+pub second-next : {a : Book} {p e : ℕ} {b : Book} {q d left : ℕ} {s t : Sum} {y : Entry} (w : Abreast a p e b q d left s t Equal) → p < e → y ≡ at b q → Next b q d left w.t' y
+second-next w h ey = next _ _ _ _ w.t' _ ey w.lies-t (second w h)
+
 -- a turn: u and v are the orders of the two terms and of their coefficients
-pub turn : (a : Book) (p e : ℕ) (b : Book) (q d left : ℕ) (s t : Sum) (x y : Entry) (u v o : Ordering)
-    → x ≡ at a p → y ≡ at b q → Abreast a p e b q d left s t Equal → p < e
+pub turn : {a : Book} {p e : ℕ} {b : Book} {q d left : ℕ} {s t : Sum} {x y : Entry} {u v o : Ordering} → x ≡ at a p → y ≡ at b q → Abreast a p e b q d left s t Equal → p < e
     → ((i j : Sum) → Lies a (p + 1) (p + 1 + x.inside) (left - 1) i → Lies b (q + 1) (q + 1 + y.inside) (left - 1) j → u ≡ cmp_term x i y j)
     → v ≡ cmp_complex x.coef y.coef → and_then u v ≡ o
     → Abreast a (p + 1 + x.inside) e b (q + 1 + y.inside) d left s t o
-turn a p e b q d left s t x y u v o ex ey w h terms coefs eo =
-    let n = next a p e left w.s' x ex w.lies-s h in
-    let m = next b q d left w.t' y ey w.lies-t (second w h) in
+turn {x = x} {y = y} {o = o} ex ey w h terms coefs eo =
+    let n = first-next w h ex in
+    let m = second-next w h ey in
     let entries = sym (ap₂ and_then (terms n.inner m.inner n.lies-inner m.lies-inner) coefs) ∙ eo in
     record {
       s' = n.rest;
@@ -79,6 +85,10 @@ pub record Seek (b : Book) (k e left : ℕ) (x : Entry) (t s : Sum) (p : ℕ) : 
   pub lies : Lies b k e left s'
   pub same : place x t s p ≡ place x t s' k
 
+-- its next entry, as it was read
+pub seek-next : {b : Book} {k e left : ℕ} {x : Entry} {t s : Sum} {p : ℕ} {y : Entry} (w : Seek b k e left x t s p) → k < e → y ≡ at b k → Next b k e left w.s' y
+seek-next w h ey = next _ _ _ _ w.s' _ ey w.lies h
+
 -- an entry's inside, one level more allowed
 pub inner-more : {b : Book} {k e left : ℕ} {s : Sum} {y : Entry} (n : Next b k e left s y) → Lies b (k + 1) (k + 1 + y.inside) left n.inner
 inner-more {left = left} n =
@@ -98,11 +108,11 @@ place-and : (x y : Entry) (t j r : Sum) (k : ℕ) (o : Ordering) → cmp_term x 
 unfolding place
 place-and x y t j r k o e i = ap₂ (λ (u : Ordering) (n : ℕ). by_order u (Before k) (Same k) (place x t r (k + 1 + n))) e (sym i)
 
-pub sought : (b : Book) (k e left : ℕ) (x : Entry) (t s : Sum) (p : ℕ) (y : Entry) (u o : Ordering)
+pub sought : {b : Book} {k e left : ℕ} {x : Entry} {t s : Sum} {p : ℕ} {y : Entry} {u o : Ordering}
     → y ≡ at b k → Seek b k e left x t s p → k < e → ((j : Sum) → Lies b (k + 1) (k + 1 + y.inside) left j → u ≡ cmp_term x t y j) → u ≡ o
     → Sought b k (k + 1 + y.inside) e left x t s p o
-sought b k e left x t s p y u o ey w h term eo =
-    let n = next b k e left w.s' y ey w.lies h in
+sought {k = k} {x = x} {t = t} {y = y} {o = o} ey w h term eo =
+    let n = seek-next w h ey in
     record {
       s' = n.rest;
       lies = n.lies-rest;

@@ -13,8 +13,8 @@ use lib.Ieee.Scale.{finite}
 use lib.ListN.{get_or}
 use borrow.Author.Tests.{eqb-true, eqb-false, eq-eqb, ne_eqb}
 use Rattle.limits.specs.Limits.{sum_levels}
-use Rattle.numbers.specs.declared.Ordering.{Ordering}
-use Rattle.numbers.specs.declared.Ordering.TheVariants.{Less, Equal, Greater}
+use Rattle.std.specs.declared.cmp.Ordering.{Ordering}
+use Rattle.std.specs.declared.cmp.Ordering.TheVariants.{Less, Equal, Greater}
 use Rattle.numbers.specs.Order.{cmp_num, flipped}
 use Rattle.numbers.proofs.Order.{cmp-flip, cmp-less-trans, cmp-equal-right, then_equal}
 use Rattle.numbers.specs.declared.complex.Complex.{Complex}

@@ -9,8 +9,8 @@ use lib.Ieee.{Float, fin, binary64, fits}
 use lib.Ieee.Fits.{and_i, and_l, and_r, add-fits, sub-fits}
 use lib.Ieee.Scale.{finite}
 use borrow.Author.Tests.{leb-true}
-use Rattle.numbers.specs.declared.Ordering.{Ordering}
-use Rattle.numbers.specs.declared.Ordering.TheVariants.{Less, Equal, Greater}
+use Rattle.std.specs.declared.cmp.Ordering.{Ordering}
+use Rattle.std.specs.declared.cmp.Ordering.TheVariants.{Less, Equal, Greater}
 use Rattle.numbers.proofs.Bools.{T_of}
 use Rattle.numbers.specs.declared.complex.Complex.{Complex}
 use Rattle.numbers.specs.Complex.Arith as complex

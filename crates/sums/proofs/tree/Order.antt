@@ -8,8 +8,8 @@ use lib.Ieee.{Float, binary64, fits}
 use lib.Ieee.Fits.{and_l}
 use lib.Ieee.Scale.{finite}
 use borrow.Author.Tests.{ltb-true, ltb-false, lt-ltb, le-ltb}
-use Rattle.numbers.specs.declared.Ordering.{Ordering}
-use Rattle.numbers.specs.declared.Ordering.TheVariants.{Less, Equal, Greater}
+use Rattle.std.specs.declared.cmp.Ordering.{Ordering}
+use Rattle.std.specs.declared.cmp.Ordering.TheVariants.{Less, Equal, Greater}
 use Rattle.numbers.specs.Order.{cmp_num, and_then, flipped}
 use Rattle.numbers.proofs.Order.{cmp-self, cmp-flip, cmp-chain, flipped-then, then-equal-both, Chain, chain-then}
 use Rattle.numbers.specs.declared.complex.Complex.{Complex}

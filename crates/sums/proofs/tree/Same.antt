@@ -8,7 +8,7 @@ use lib.Dec.{T, eqb, lit≤}
 use lib.Ieee.{Float, lt, eq, fits, binary64, of_bits}
 use lib.Ieee.Scale.{finite}
 use borrow.Author.Tests.{eqb-true, eq-eqb}
-use Rattle.numbers.specs.declared.Ordering.TheVariants.{Less, Equal}
+use Rattle.std.specs.declared.cmp.Ordering.TheVariants.{Less, Equal}
 use Rattle.numbers.specs.Order.{cmp_num}
 use Rattle.numbers.proofs.Bools.{eqb-by}
 use Rattle.numbers.proofs.Zeros.{eq_self}

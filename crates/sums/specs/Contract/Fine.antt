@@ -2,8 +2,8 @@
 use Rattle.std.specs.Prelude.{ℕ, ◌+◌, ◌≤◌, ◌<◌, ◌≡◌, Bool, true, false, ◌&&◌, ◌||◌, leb, eqb, pos}
 use Rattle.std.specs.Bool.{beq}
 use Rattle.std.specs.Float.{fin}
-use Rattle.numbers.specs.declared.Ordering.{Ordering}
-use Rattle.numbers.specs.declared.Ordering.TheVariants.{Less, Equal, Greater}
+use Rattle.std.specs.declared.cmp.Ordering.{Ordering}
+use Rattle.std.specs.declared.cmp.Ordering.TheVariants.{Less, Equal, Greater}
 use Rattle.cells.specs.Contract.Book.{Book, at, Plain}
 use Rattle.sums.specs.Tree.Kinds.{X, Log, CosH, has_number}
 use Rattle.sums.specs.Tree.Sums.{Sum}

@@ -1,5 +1,5 @@
 -- A sum lying in a book of cells, and what an answer of the code says of one.
-use Rattle.std.specs.Prelude.{ℕ, ◌+◌, ◌≤◌, ◌≡◌}
+use Rattle.std.specs.Prelude.{ℕ, ◌+◌, ◌≤◌, ◌≡◌, Result, Ok, Err}
 use Rattle.limits.specs.Limits.{sum_entries, sum_levels}
 use Rattle.cells.specs.declared.Entry.{Entry}
 use Rattle.cells.specs.Contract.Book.{Book, at, Room}
@@ -7,8 +7,6 @@ use Rattle.limits.specs.declared.Refusal.{Refusal}
 use Rattle.sums.specs.Tree.Sums.{Sum, none, and, size, entry}
 use Rattle.sums.specs.Tree.Good.{Good}
 use Rattle.sums.specs.Tree.Map.{Outcome, sum, refused}
-use Rattle.sums.specs.declared.order.Formed.{Formed}
-use Rattle.sums.specs.declared.order.Formed.TheVariants.{Done, Refused}
 
 -- from i on the entries f are those of the sum: an entry, its inside, the rest
 unfoldable pub At : (ℕ → Entry) → ℕ → Sum → Type 0
@@ -36,8 +34,8 @@ abbrev pub OfTwo : Book → ℕ → ℕ → ℕ → ℕ → ℕ → (Sum → Sum
 OfTwo b i e j d left fact = (s t : Sum) → Lies b i e left s → Lies b j d left t → fact s t
 
 -- the code's answer is the definition's: the sum lies from p on, or the same refusal
-abbrev pub Agrees : Formed → Book → ℕ → Outcome → Type 0
-Agrees (Done n) b p (sum s) = (n ≤ sum_entries) × Lies b p (p + n) sum_levels s
-Agrees (Done n) b p (refused q) = ⊥
-Agrees (Refused r) b p (sum s) = ⊥
-Agrees (Refused r) b p (refused q) = r ≡ q
+abbrev pub Agrees : Result ℕ Refusal → Book → ℕ → Outcome → Type 0
+Agrees (Ok n) b p (sum s) = (n ≤ sum_entries) × Lies b p (p + n) sum_levels s
+Agrees (Ok n) b p (refused q) = ⊥
+Agrees (Err r) b p (sum s) = ⊥
+Agrees (Err r) b p (refused q) = r ≡ q

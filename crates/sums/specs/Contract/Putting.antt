@@ -1,5 +1,5 @@
 -- A term that is put into a sum, once its place there is known.
-use Rattle.std.specs.Prelude.{ℕ, ◌+◌, ◌≤◌, ◌≡◌, true}
+use Rattle.std.specs.Prelude.{ℕ, ◌+◌, ◌≤◌, ◌≡◌, true, Result}
 use Rattle.std.specs.Float.Ieee.Scale.{finite}
 use Rattle.limits.specs.Limits.{sum_entries, sum_levels}
 use Rattle.cells.specs.declared.Entry.{Entry}
@@ -10,7 +10,7 @@ use Rattle.sums.specs.Tree.Map.{formed}
 use Rattle.sums.specs.Tree.Sums.{Sum}
 use Rattle.sums.specs.declared.order.Found.{Found}
 use Rattle.sums.specs.Contract.Lies.{Lies, Agrees}
-use Rattle.sums.specs.declared.order.Formed.{Formed}
+use Rattle.limits.specs.declared.Refusal.{Refusal}
 use Rattle.sums.specs.Contract.Place.{place}
 use Rattle.sums.specs.Contract.Heads.{GoodHead}
 
@@ -29,5 +29,5 @@ abbrev pub Places : Book → Entry → ℕ → ℕ → ℕ → Found → Type 0
 Places b x i p n found = (s : Sum) × (t : Sum) × Putting b b x i p n found s t
 
 -- of every such two: nothing but the sum_entries cells from p on is written, and the answer is that of `formed`
-abbrev pub Puts : Book → Book → Merge → Entry → ℕ → ℕ → ℕ → Found → Formed → Type 0
+abbrev pub Puts : Book → Book → Merge → Entry → ℕ → ℕ → ℕ → Found → Result ℕ Refusal → Type 0
 Puts b b' how x i p n found r = (s t : Sum) → Putting b b x i p n found s t → Kept b b' p (p + sum_entries) × Agrees r b' p (formed how x t s)

@@ -1,5 +1,5 @@
 -- The steps by which a sum is taken in and written, named for the contracts of the functions that take them.
-use Rattle.std.specs.Prelude.{◌≡◌, Bool, true, ◌↔◌, List, ℕ, ◌*◌, ◌^◌, ◌<◌}
+use Rattle.std.specs.Prelude.{◌≡◌, Bool, true, ◌↔◌, List, ℕ, ◌*◌, ◌^◌, ◌<◌, Result, Ok, Err}
 use Rattle.std.proofs.lemmas.List.Edits.{sets}
 use Rattle.limits.specs.Limits.{sum_entries, sum_levels, entry_bytes}
 use Rattle.limits.specs.declared.Refusal.TheVariants.{BadRecord, TooDeep}
@@ -8,8 +8,7 @@ use Rattle.cells.specs.Contract.Book.{Book, Cell, cell, word}
 use Rattle.sums.specs.Contract.Lies.{Held}
 use Rattle.sums.specs.Entry.Encoding.{encode_cell}
 use Rattle.sums.specs.Entry.Contract.Steps.{clean_at, cell_at}
-use Rattle.sums.specs.declared.entry.Taken.{Taken}
-use Rattle.sums.specs.declared.entry.Taken.TheVariants as taken
+use Rattle.limits.specs.declared.Refusal.{Refusal}
 
 -- a cell as its encoding takes it: five numbers, the three words by name
 abbrev pub five : Cell → encoding.Cell
@@ -21,10 +20,10 @@ pub record Loaded (l : List ℕ) (n : ℕ) (b : Book) (r : Bool) : Type 0 where
   pub cells : r ≡ true → (j : ℕ) → j < n → five (cell b j) ≡ cell_at l j
 
 -- what the first n cells are: a good sum within sum_levels, a good sum beyond them, or none
-pub data Answered (b : Book) (n : ℕ) : Taken → Type 0 where
-  good : Held b 0 n sum_levels → Answered b n (taken.Sum n)
-  deep : Held b 0 n sum_entries → (Held b 0 n sum_levels → ⊥) → Answered b n (taken.Refused TooDeep)
-  bad : (Held b 0 n sum_entries → ⊥) → Answered b n (taken.Refused BadRecord)
+pub data Answered (b : Book) (n : ℕ) : Result ℕ Refusal → Type 0 where
+  good : Held b 0 n sum_levels → Answered b n (Ok n)
+  deep : Held b 0 n sum_entries → (Held b 0 n sum_levels → ⊥) → Answered b n (Err TooDeep)
+  bad : (Held b 0 n sum_entries → ⊥) → Answered b n (Err BadRecord)
 
 -- a cell's five numbers are written as the entry at place j; its bits are below 2^64, which of a word that lies in a book is not known by itself
 pub record Stored (out out' : List ℕ) (j : ℕ) (c : encoding.Cell) : Type 0 where

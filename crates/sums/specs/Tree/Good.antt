@@ -1,11 +1,11 @@
 -- What a good sum is: one that the Rust's map could hold, within document 01's limits.
-use Rattle.std.specs.Prelude.{ℕ, zero, suc, ◌≤◌, ◌≡◌, Bool, true, false, ◌&&◌, not, T, eqb, pos, Float}
+use Rattle.std.specs.Prelude.{ℕ, zero, suc, ◌≤◌, ◌≡◌, Bool, true, false, ◌&&◌, T, eqb, pos, Float}
 use Rattle.std.specs.Float.{fin, binary64}
 use Rattle.std.specs.Float.Ieee.{fits}
 use Rattle.std.specs.Float.Ieee.Scale.{finite}
 use Rattle.numbers.specs.declared.complex.Complex.{Complex}
 use Rattle.numbers.specs.Complex.Arith as complex
-use Rattle.numbers.specs.declared.Ordering.TheVariants.{Less}
+use Rattle.std.specs.declared.cmp.Ordering.TheVariants.{Less}
 use Rattle.sums.specs.Tree.Kinds.{X, has_number}
 use Rattle.sums.specs.Tree.Sums.{Sum, none, and, size, entry}
 use Rattle.sums.specs.Tree.Order.{cmp_term}

@@ -1,9 +1,9 @@
 -- The map of terms to coefficients: looking up, and putting a term in. Zero coefficients stay; where the key is there already, the key that was there stays.
-use Rattle.std.specs.Prelude.{ℕ, zero, suc, ◌-◌, Bool, true, false, ◌&&◌, cond, leb, eqb, Float}
+use Rattle.std.specs.Prelude.{ℕ, ◌-◌, Bool, true, false, cond, leb, eqb, Float}
 use Rattle.std.specs.Float.Ieee.Scale.{finite}
 use Rattle.limits.specs.Limits.{sum_entries, sum_levels}
-use Rattle.numbers.specs.declared.Ordering.{Ordering}
-use Rattle.numbers.specs.declared.Ordering.TheVariants.{Less, Equal, Greater}
+use Rattle.std.specs.declared.cmp.Ordering.{Ordering}
+use Rattle.std.specs.declared.cmp.Ordering.TheVariants.{Less, Equal, Greater}
 use Rattle.numbers.specs.declared.complex.Complex.{Complex}
 use Rattle.numbers.specs.Complex.Arith as complex
 use Rattle.cells.specs.declared.Entry.{Entry}
@@ -13,7 +13,7 @@ use Rattle.limits.specs.declared.Refusal.{Refusal}
 use Rattle.limits.specs.declared.Refusal.TheVariants.{NoRoom, TooDeep, NotFinite, PowerNotFinite}
 use Rattle.sums.specs.Tree.Kinds.{X}
 use Rattle.sums.specs.Tree.Sums.{Sum, none, and, size, levels, entry}
-use Rattle.sums.specs.Tree.Order.{cmp_term, cmp_each}
+use Rattle.sums.specs.Tree.Order.{cmp_term}
 
 abbrev pub by_order : {A : Type 0} → Ordering → A → A → A → A
 by_order Less a b c = a

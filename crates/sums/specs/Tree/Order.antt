@@ -1,7 +1,7 @@
 -- The order of terms and sums, which is the order of the map. Sum order asks term order, and term order asks sum order: the lengths, then each term, then its coefficient.
-use Rattle.std.specs.Prelude.{ℕ, suc, cond, ltb}
-use Rattle.numbers.specs.declared.Ordering.{Ordering}
-use Rattle.numbers.specs.declared.Ordering.TheVariants.{Less, Equal, Greater}
+use Rattle.std.specs.Prelude.{ℕ, cond, ltb}
+use Rattle.std.specs.declared.cmp.Ordering.{Ordering}
+use Rattle.std.specs.declared.cmp.Ordering.TheVariants.{Less, Equal, Greater}
 use Rattle.numbers.specs.Order.{cmp_num, and_then}
 use Rattle.numbers.specs.Complex.Arith.{cmp_complex}
 use Rattle.cells.specs.declared.Entry.{Entry}

@@ -1,5 +1,5 @@
 -- The Rust's `==` on terms and sums of finite numbers, which is not the order's Equal: it doesn't look at coefficients, at any level.
-use Rattle.std.specs.Prelude.{ℕ, Bool, true, false, ◌&&◌, eqb}
+use Rattle.std.specs.Prelude.{Bool, true, false, ◌&&◌, eqb}
 use Rattle.std.specs.Float.Ieee.{eq}
 use Rattle.cells.specs.declared.Entry.{Entry}
 use Rattle.sums.specs.Tree.Sums.{Sum, none, and, size, entry}

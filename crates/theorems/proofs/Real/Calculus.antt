@@ -21,10 +21,8 @@ use Rattle.sums.specs.Tree.Map.{Outcome, sum, refused, Found, at, absent, formed
 use Rattle.arithmetic.specs.Singles.{is_x}
 use Rattle.arithmetic.specs.Product.{product}
 use Rattle.arithmetic.proofs.Steps.{never, sum_is, then-sum, unless-sum, either}
-use Rattle.calculus.specs.declared.Ln.{Ln}
-use Rattle.calculus.specs.declared.Ln.TheVariants.{Is, Other}
-use Rattle.calculus.specs.Derivative.{slope, vanishes, prime_step, found_then, prime_from, prime, by_prime, first_coef, turned_to, by_ln, derive_x, derive_div, derive_exp, derive_by, ln_of}
-use Rattle.calculus.specs.Derivative.{derive_log, derive_into, or_zero, derive}
+use Rattle.std.specs.Prelude.{Option, Some, None}
+use Rattle.calculus.specs.Derivative.{slope, vanishes, prime_step, found_then, prime_from, prime, by_prime, first_coef, turned_to, by_ln, derive_x, derive_div, derive_exp, derive_by, ln_of, derive_log, derive_into, or_zero, derive}
 use Rattle.calculus.specs.Integral.{x, stored, integrate_x, integrate_by, integrate_into, integrate}
 use Rattle.theorems.specs.Reals.{RealSum}
 use Rattle.theorems.proofs.Real.Coefs.{RealOnce, real-is, plus-real, times-real, times_real-real, over_real-real}
@@ -68,9 +66,9 @@ by-prime : (f : Complex → Outcome) (v : Found) (r : Sum) → FoundReal v → (
 by-prime f absent r hv k h = never h
 by-prime f (at d) r hv k h = k d hv h
 
-by-ln : (f : Float → Outcome) (l : Ln) (r : Sum) → ((v : Float) → f v ≡ sum r → RealSum r) → by_ln l f ≡ sum r → RealSum r
-by-ln f (Is v) r k h = k v h
-by-ln f Other r k h = never h
+by-ln : (f : Float → Outcome) (l : Option Float) (r : Sum) → ((v : Float) → f v ≡ sum r → RealSum r) → by_ln l f ≡ sum r → RealSum r
+by-ln f (Some v) r k h = k v h
+by-ln f None r k h = never h
 
 first-real : (s : Sum) → RealSum s → Real (first_coef s)
 unfolding RealSum

@@ -13,8 +13,7 @@ use Rattle.arithmetic.specs.Singles.{constant}
 use Rattle.arithmetic.specs.Power.{number}
 use Rattle.arithmetic.proofs.Steps.{differ, sum_is}
 use Rattle.formats.specs.declared.record.Primitive.{Primitive}
-use Rattle.formats.specs.declared.record.Primitive.TheVariants.{Identity, Pop, Dup, Flip, Neg, Not, Sqrt, Add, Sub, Mul, Div, Pow, Exp, Sin, Cos, Reciprocal, Complex, Max, SinH}
-use Rattle.formats.specs.declared.record.Primitive.TheVariants.{CosH, Exp2, Exp10, Log, Ln, Log2, Log10, Over, Root, Unlisted}
+use Rattle.formats.specs.declared.record.Primitive.TheVariants.{Identity, Pop, Dup, Flip, Neg, Not, Sqrt, Add, Sub, Mul, Div, Pow, Exp, Sin, Cos, Reciprocal, Complex, Max, SinH, CosH, Exp2, Exp10, Log, Ln, Log2, Log10, Over, Root, Unlisted}
 use Rattle.formats.specs.Tree as tree
 use Rattle.primitives.specs.Forms.{of_one, of_two}
 use Rattle.stack.specs.Steps.{is_complex_primitive}

@@ -4,13 +4,12 @@ use mathlib.Core.Path.{◌≡◌, subst}
 use mathlib.Core.Bool.{◌&&◌, cond}
 use lib.Dec.{T, eqb}
 use lib.Ieee.{Float, le, neg}
+use Rattle.std.specs.Prelude.{Option, Some, None}
 use Rattle.numbers.specs.Numbers.{is_whole, small_whole}
 use Rattle.numbers.specs.Ops.{◌⊕◌, ◌⊖◌, ◌⊗◌}
 use Rattle.numbers.specs.Signs.{zero64, one64}
-use Rattle.numbers.specs.declared.Ordering.{Ordering}
-use Rattle.numbers.specs.declared.Ordering.TheVariants.{Less, Equal, Greater}
-use Rattle.numbers.specs.declared.SmallWhole.{SmallWhole}
-use Rattle.numbers.specs.declared.SmallWhole.TheVariants.{Is, Other}
+use Rattle.std.specs.declared.cmp.Ordering.{Ordering}
+use Rattle.std.specs.declared.cmp.Ordering.TheVariants.{Less, Equal, Greater}
 use Rattle.numbers.proofs.Bools.{T_of}
 use Rattle.numbers.specs.declared.complex.Complex.{Complex}
 use Rattle.numbers.specs.Complex.Arith as complex
@@ -208,10 +207,10 @@ raised-real (suc n) acc s r ha hs h =
     let w = then-sum (product acc s) (λ acc'. raised n acc' s) r h in
     raised-real n w.0 s r (product-real acc s w.0 ha hs w.1) hs w.2
 
-whole-real : (s r : Sum) (n : SmallWhole) → RealSum s → whole_power s n ≡ sum r → RealSum r
-whole-real s r (Is zero) hs h = subst RealSum (sum_is h) (constant_real zero64)
-whole-real s r (Is (suc n)) hs h = raised-real n s s r hs hs h
-whole-real s r Other hs h = never (unless-sum (mulable s s) TooComplex (refused BigPower) r h).1
+whole-real : (s r : Sum) (n : Option ℕ) → RealSum s → whole_power s n ≡ sum r → RealSum r
+whole-real s r (Some zero) hs h = subst RealSum (sum_is h) (constant_real zero64)
+whole-real s r (Some (suc n)) hs h = raised-real n s s r hs hs h
+whole-real s r None hs h = never (unless-sum (mulable s s) TooComplex (refused BigPower) r h).1
 
 rooted-real : (e : Float) (s r : Sum) → RealSum s → rooted e s ≡ sum r → RealSum r
 unfolding rooted RealSum

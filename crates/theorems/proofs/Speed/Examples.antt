@@ -21,10 +21,8 @@ use Rattle.writing.specs.Draft.Writing.{append, Written, wrote, refused}
 use Rattle.writing.specs.ToNodes.{form, write, to_nodes}
 use Rattle.writing.specs.Count.{cost, costs, records_for}
 use Rattle.theorems.specs.Reals.{RealSum}
-use Rattle.running.specs.declared.RunAnswer.{RunAnswer}
-use Rattle.running.specs.declared.RunAnswer.TheVariants.{Value, Refused}
 use Rattle.running.specs.Primitives.{times, power, leave, apply, act}
-use Rattle.running.specs.Running.{runs, run_nodes}
+use Rattle.running.specs.Running.{runs, run_nodes, RunAnswer, Value, Refused}
 use Rattle.values.specs.Value.{Exponent, Power, term_value, plus_terms, value}
 use Rattle.theorems.specs.Terms.{RootTerms, nothing, term}
 use Rattle.theorems.specs.Records.{shapes, peak_of, root_first, exact_peak}

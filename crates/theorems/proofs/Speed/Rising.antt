@@ -11,7 +11,7 @@ use lib.Ieee.Scale.{finite}
 use Rattle.numbers.specs.Constants.{half64}
 use Rattle.numbers.specs.Signs.{zero64, one64}
 use Rattle.numbers.specs.Order.{cmp_num, and_then}
-use Rattle.numbers.specs.declared.Ordering.TheVariants.{Less, Equal}
+use Rattle.std.specs.declared.cmp.Ordering.TheVariants.{Less, Equal}
 use Rattle.numbers.proofs.Bools.{T_of}
 use Rattle.numbers.proofs.Order.{cmp-less, then_equal, lt-irreflexive, lt-transitive, lt-eq-left, lt-eq-right}
 use Rattle.numbers.proofs.Wholes.{means-lt, means-1, small-whole}

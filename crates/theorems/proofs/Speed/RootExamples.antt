@@ -4,14 +4,13 @@ use mathlib.Core.Path.{◌≡◌, refl}
 use mathlib.Core.Bool.{false}
 use mathlib.Core.List.{List, [], ◌∷◌, map}
 use lib.Ieee.{Float, binary64, of_bits}
+use Rattle.running.specs.Running.{RunAnswer, Value, Refused}
 use Rattle.numbers.specs.Constants.{half64, two64}
 use Rattle.numbers.specs.Signs.{zero64, one64}
 use Rattle.limits.specs.declared.Refusal.TheVariants.{NeedsMath}
 use Rattle.sums.specs.Tree.Sums.{Sum}
 use Rattle.writing.specs.ToNodes.{to_nodes}
 use Rattle.writing.specs.Count.{cost, costs, records_for}
-use Rattle.running.specs.declared.RunAnswer.{RunAnswer}
-use Rattle.running.specs.declared.RunAnswer.TheVariants.{Value, Refused}
 use Rattle.values.specs.Value as value
 use Rattle.values.specs.Value.{whole, half, Power, term_value, plus_terms}
 use Rattle.theorems.specs.Records.{shapes, records, peak_of, root_first, exact_peak}

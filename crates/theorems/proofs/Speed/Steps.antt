@@ -12,10 +12,10 @@ use lib.Ieee.{Float, binary64, fits, lt}
 use lib.Ieee.Bits.{of_bits-to_bits, is_true}
 use lib.Ieee.Fits.{and_l, and_r}
 use lib.Ieee.Scale.{finite}
+use Rattle.std.specs.Prelude.{Some}
 use Rattle.numbers.specs.Signs.{zero64}
 use Rattle.numbers.specs.Ops.{◌⊕◌, ◌⊗◌}
 use Rattle.numbers.specs.Numbers.{small_whole}
-use Rattle.numbers.specs.declared.SmallWhole.TheVariants.{Is}
 use Rattle.sums.specs.Tree.Good.{is_number}
 use Rattle.numbers.specs.Radical.Root.{root}
 use Rattle.limits.specs.declared.Refusal.{Refusal}
@@ -163,7 +163,7 @@ multiplies r t = record {
   run = λ s at h n p b. one-runs (does prim.Mul) at h (state (t ∷ r ∷ s) n p) ∙ formed-out (finite (r ⊗ t)) (r ⊗ t) s (t ∷ r ∷ s) at h n p b;
 }
 
-pub raises : (x t : Float) (n : ℕ) → small_whole t ≡ Is (suc n) → Forms (does prim.Pow) x t (times n x x)
+pub raises : (x t : Float) (n : ℕ) → small_whole t ≡ Some (suc n) → Forms (does prim.Pow) x t (times n x x)
 unfolding kind_of act apply leave primitive_of power
 raises x t k e = record {
   run = λ s at h n p b. one-runs (does prim.Pow) at h (state (t ∷ x ∷ s) n p) ∙ rw e (formed-out (finite (times k x x)) (times k x x) s (t ∷ x ∷ s) at h n p b);

@@ -20,8 +20,7 @@ use Rattle.writing.proofs.draft.Fine.{Fine, fine-good}
 use Rattle.writing.specs.Count as count
 use Rattle.writing.specs.Count.{Powers}
 use Rattle.writing.proofs.Count.{record-count}
-use Rattle.running.specs.declared.RunAnswer.{RunAnswer}
-use Rattle.running.specs.Running.{ended, run_nodes, run_list}
+use Rattle.running.specs.Running.{ended, run_nodes, run_list, RunAnswer}
 use Rattle.values.specs.Value.{Power, value}
 use Rattle.theorems.specs.Terms.{RootTerms}
 use Rattle.values.specs.ValueOf.{all_real}

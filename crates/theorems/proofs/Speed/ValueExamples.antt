@@ -4,6 +4,7 @@ use mathlib.Core.Path.{◌≡◌, refl}
 use mathlib.Core.Bool.{false}
 use mathlib.Core.List.{List, [], ◌∷◌, map}
 use lib.Ieee.{Float, binary64, of_bits}
+use Rattle.running.specs.Running as run
 use Rattle.numbers.specs.Constants.{half64, two64}
 use Rattle.numbers.specs.Signs.{zero64, one64}
 use Rattle.numbers.specs.Complex.Arith as complex
@@ -12,9 +13,8 @@ use Rattle.sums.specs.Tree.Kinds as kinds
 use Rattle.sums.specs.Tree.Sums.{Sum, and}
 use Rattle.writing.specs.ToNodes.{to_nodes}
 use Rattle.writing.specs.Count.{cost, costs, records_for}
-use Rattle.running.specs.declared.RunAnswer.TheVariants as run
-use Rattle.values.specs.declared.ValueAnswer.{ValueAnswer}
-use Rattle.values.specs.declared.ValueAnswer.TheVariants.{Value, Refused}
+use Rattle.std.specs.Prelude.{Result, Ok, Err}
+use Rattle.limits.specs.declared.Refusal.{Refusal}
 use Rattle.values.specs.Value.{term_value, plus_terms, value}
 use Rattle.values.specs.ValueOf.{all_powers, all_real, powers_of, value_of}
 use Rattle.theorems.specs.Records.{shapes, records, peak_of, root_first, exact_peak}
@@ -37,15 +37,15 @@ x-and y = and kinds.X one64 Sum.none (complex.complex one64 y) Sum.none
 pub record Case : Type 0 where
   pub sum : Sum
   pub x : Float
-  pub gives : ValueAnswer
+  pub gives : Result Float Refusal
 
 -- x with an imaginary part below 2^-52, and with one above; x squared, which isn't finite there; and no terms
 unfoldable pub cases : List Case
 cases =
-    record { sum = x-and tiny; x = two64; gives = Value two64 }
-    ∷ record { sum = x-and one64; x = two64; gives = Refused NotFinite }
-    ∷ record { sum = x-to two64 one64 Sum.none; x = large; gives = Refused NotFinite }
-    ∷ record { sum = x-to one64 zero64 Sum.none; x = two64; gives = Value zero64 }
+    record { sum = x-and tiny; x = two64; gives = Ok two64 }
+    ∷ record { sum = x-and one64; x = two64; gives = Err NotFinite }
+    ∷ record { sum = x-to two64 one64 Sum.none; x = large; gives = Err NotFinite }
+    ∷ record { sum = x-to one64 zero64 Sum.none; x = two64; gives = Ok zero64 }
     ∷ []
 
 pub engine : map (λ (c : Case). value_of c.sum c.x) cases ≡ map (λ (c : Case). c.gives) cases
@@ -68,6 +68,6 @@ tiny-is-written = (refl, refl, refl)
 abbrev over-x : Sum
 over-x = and kinds.Div zero64 (x-to one64 one64 Sum.none) complex.one Sum.none
 
-pub only-the-run : (value_of over-x two64 ≡ Refused NeedsMath) × (ran (to_nodes false over-x) two64 ≡ Value half64)
+pub only-the-run : (value_of over-x two64 ≡ Err NeedsMath) × (ran (to_nodes false over-x) two64 ≡ Ok half64)
 unfolding arithmetic comparing list_bytes list_rules writing acting all_powers value_of
 only-the-run = (refl, refl)

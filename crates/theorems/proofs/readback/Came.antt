@@ -13,7 +13,7 @@ use lib.Ieee.Bits.{of_bits-fits}
 use lib.Ieee.Scale.{finite}
 use Rattle.numbers.specs.Signs.{zero64, one64, Zero}
 use Rattle.numbers.specs.Order.{cmp_num}
-use Rattle.numbers.specs.declared.Ordering.TheVariants.{Less, Equal, Greater}
+use Rattle.std.specs.declared.cmp.Ordering.TheVariants.{Less, Equal, Greater}
 use Rattle.numbers.proofs.Bools.{T_of, and-false}
 use Rattle.numbers.proofs.Zeros.{eq_self, zero_test}
 use Rattle.numbers.proofs.Finite.{zero-is-finite}

@@ -40,8 +40,7 @@ use Rattle.theorems.proofs.Speed.Steps.{number-finite}
 use Rattle.theorems.proofs.Speed.Terms.{zero_number}
 use Rattle.theorems.specs.Readback.Terms.{Term, term, highest64, nought_x}
 use Rattle.theorems.proofs.readback.Written.{tail, piece}
-use Rattle.theorems.proofs.readback.Steps.{x, or-false, number_fits, Makes, makes-more, makes_both, makes-nothing, makes-beside}
-use Rattle.theorems.proofs.readback.Steps.{makes-mul, makes-add, makes-pow, makes-sqrt, makes-dup, makes-push, makes-pair}
+use Rattle.theorems.proofs.readback.Steps.{x, or-false, number_fits, Makes, makes-more, makes_both, makes-nothing, makes-beside, makes-mul, makes-add, makes-pow, makes-sqrt, makes-dup, makes-push, makes-pair}
 use Rattle.theorems.proofs.readback.Powers.{x_to, product-terms, product-x, zero-is-zero, one-finite, unit-im, pow-other, pow-whole}
 
 -- ---- coefficients

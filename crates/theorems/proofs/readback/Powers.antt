@@ -11,11 +11,11 @@ use lib.Ieee.{Float, binary64, fits, of_bits, eq, lt, le, add, mul, sub}
 use lib.Ieee.Bits.{is_true, of_bits-fits}
 use lib.Ieee.Fits.{add-fits}
 use lib.Ieee.Scale.{finite}
+use Rattle.std.specs.Prelude.{Some}
 use Rattle.numbers.specs.Signs.{zero64, one64, Zero}
 use Rattle.numbers.specs.Ops.{◌⊕◌, ◌⊗◌}
 use Rattle.numbers.specs.Numbers.{is_whole, below_epsilon}
 use Rattle.numbers.specs.Wholes.{Means}
-use Rattle.numbers.specs.declared.SmallWhole.TheVariants.{Is}
 use Rattle.numbers.proofs.Bools.{T_of}
 use Rattle.numbers.proofs.Order.{eq-same}
 use Rattle.numbers.proofs.Units.{1-times}
@@ -153,7 +153,7 @@ module _ (p : Float) (t : T (is_number p)) where
           by (inl e) = e
           by (inr e) = absurd (true≢false (sym ((zero_test p).1 e.1) ∙ z))
 
-      of : (n : ℕ) → n ≤ 64 → Means p (pos n) → whole_power x (Is n) ≡ sum (x_to p)
+      of : (n : ℕ) → n ≤ 64 → Means p (pos n) → whole_power x (Some n) ≡ sum (x_to p)
       of zero h m = absurd (true≢false (sym ((means-eq m means-0).1 refl) ∙ z))
       of (suc n) h m =
           let g = raise n 0 one64 (of_bits-fits binary64 0x3ff0000000000000) means-1 (omega arith) in

@@ -8,7 +8,7 @@ use lib.Ieee.{Float, lt}
 use Rattle.numbers.specs.Signs.{Zero}
 use Rattle.numbers.specs.Numbers.{is_whole}
 use Rattle.numbers.specs.Order.{cmp_num, and_then}
-use Rattle.numbers.specs.declared.Ordering.TheVariants.{Less, Equal}
+use Rattle.std.specs.declared.cmp.Ordering.TheVariants.{Less, Equal}
 use Rattle.numbers.proofs.Order.{cmp-less, then_equal}
 use Rattle.numbers.proofs.Zeros.{zero_test}
 use Rattle.numbers.specs.declared.complex.Complex.{Complex}

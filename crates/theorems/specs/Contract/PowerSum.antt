@@ -8,8 +8,7 @@ use Rattle.formats.specs.Tree.{Nodes, size, encode}
 use Rattle.writing.specs.Draft.Writing.{wrote}
 use Rattle.writing.specs.ToNodes.{to_nodes}
 use Rattle.writing.specs.Count.{records_for}
-use Rattle.running.specs.declared.RunAnswer.TheVariants.{Value, Refused}
-use Rattle.running.specs.Running.{run_nodes, run_list}
+use Rattle.running.specs.Running.{run_nodes, run_list, Value, Refused}
 use Rattle.values.specs.Value.{Power, value}
 use Rattle.theorems.specs.Records.{shapes, exact_peak}
 use Rattle.theorems.specs.Places.{in_all, first_not_finite}

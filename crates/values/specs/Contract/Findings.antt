@@ -1,5 +1,5 @@
 -- What was found in the terms met so far, and what is still to come.
-use Rattle.std.specs.Prelude.{ℕ, ◌-◌, ◌≤◌, ◌≡◌, Bool, true, false, ◌&&◌, ◌||◌, List, [], Float}
+use Rattle.std.specs.Prelude.{ℕ, ◌-◌, ◌≤◌, ◌≡◌, Bool, true, false, ◌&&◌, ◌||◌, List, [], Float, Result}
 use Rattle.limits.specs.declared.Refusal.TheVariants.{NeedsMath, NotFinite}
 use Rattle.numbers.specs.Numbers.{small_whole}
 use Rattle.numbers.specs.Ops.{◌⊕◌}
@@ -9,7 +9,7 @@ use Rattle.cells.specs.declared.Entry.{Entry}
 use Rattle.sums.specs.Tree.Sums.{Sum}
 use Rattle.running.specs.Primitives.{times}
 use Rattle.values.specs.declared.Found.{Found}
-use Rattle.values.specs.declared.ValueAnswer.{ValueAnswer}
+use Rattle.limits.specs.declared.Refusal.{Refusal}
 use Rattle.values.specs.Value.{whole, Power, term_value, plus_terms, value}
 use Rattle.values.specs.ValueOf.{is_zero, is_power, all_powers, all_real, unless_zero, powers_of, if_so, if_finite}
 
@@ -55,5 +55,5 @@ pub record Finds (x : Float) (s : Sum) (f : Found) : Type 0 where
   pub sums : onward x f.any f.sum [] ≡ value x (powers_of s)
 
 -- what was found is judged
-abbrev pub judged : Bool → Bool → Float → ValueAnswer
+abbrev pub judged : Bool → Bool → Float → Result Float Refusal
 judged w r v = if_so w NeedsMath (if_so r NotFinite (if_finite v))

@@ -1,5 +1,5 @@
 -- A sum of nothing but powers of x, met straight in its bytes.
-use Rattle.std.specs.Prelude.{ℕ, ◌+◌, ◌*◌, ◌≡◌, true, List, length, Float}
+use Rattle.std.specs.Prelude.{ℕ, ◌+◌, ◌*◌, ◌≡◌, true, List, length, Float, Option, Some, Result}
 use Rattle.std.specs.Float.{binary64}
 use Rattle.std.specs.Float.Ieee.{of_bits}
 use Rattle.std.specs.Float.Ieee.Scale.{finite}
@@ -11,11 +11,7 @@ use Rattle.sums.specs.Tree.Sums.{Sum, size}
 use Rattle.sums.specs.Tree.Good.{Good}
 use Rattle.sums.specs.Entry.Encoding.{encode_sum}
 use Rattle.sums.specs.Entry.Contract.Steps.{cell_at}
-use Rattle.values.specs.declared.ValueAnswer.{ValueAnswer}
-use Rattle.values.specs.declared.powers.Met.{Met}
-use Rattle.values.specs.declared.powers.Met.TheVariants.{Powers}
-use Rattle.values.specs.declared.powers.Quick.{Quick}
-use Rattle.values.specs.declared.powers.Quick.TheVariants.{Answer}
+use Rattle.limits.specs.declared.Refusal.{Refusal}
 use Rattle.values.specs.declared.Found.{Found}
 use Rattle.values.specs.ValueOf.{ValueOfBytes}
 use Rattle.values.specs.Contract.Findings.{Finds}
@@ -40,9 +36,9 @@ pub record AllMet (l : List ℕ) (n : ℕ) (x : Float) (f : Found) : Type 0 wher
   pub finds : Finds x s f
 
 -- where powers were met they are the sum
-abbrev pub FindsPowers : List ℕ → ℕ → Float → Met → Type 0
-FindsPowers l n x r = (f : Found) → r ≡ Powers f → AllMet l n x f
+abbrev pub FindsPowers : List ℕ → ℕ → Float → Option Found → Type 0
+FindsPowers l n x r = (f : Found) → r ≡ Some f → AllMet l n x f
 
 -- an answer is the value's
-abbrev pub QuickOf : List ℕ → Float → Quick → Type 0
-QuickOf l x r = (a : ValueAnswer) → r ≡ Answer a → ValueOfBytes l x a
+abbrev pub QuickOf : List ℕ → Float → Option (Result Float Refusal) → Type 0
+QuickOf l x r = (a : Result Float Refusal) → r ≡ Some a → ValueOfBytes l x a

@@ -8,12 +8,12 @@ use lib.Dec.{T, eqb}
 use lib.Ieee.{Float, binary64, fits}
 use lib.Ieee.Bits.{to_bits-lt}
 use borrow.Author.Tests.{eq-eqb, le-leb}
+use Rattle.std.specs.Prelude.{Ok}
 use Rattle.numbers.specs.declared.complex.Complex.{Complex}
 use Rattle.formats.specs.declared.record.Record.{Record}
 use Rattle.formats.specs.declared.record.Kind.TheVariants as kind
 use Rattle.formats.specs.declared.record.Primitive.{Primitive}
 use Rattle.formats.specs.declared.record.Primitive.TheVariants as prim
-use Rattle.formats.specs.declared.record.Verdict.TheVariants.{Good}
 use Rattle.formats.specs.Names.{primitive_no, kind_of}
 use Rattle.formats.specs.Tree.{Nodes, end, rec, size, height, encode}
 use Rattle.formats.specs.Rules.{fields_ok, is_a, Fields, ok_nodes, AllFields, verdict}
@@ -180,6 +180,6 @@ fine-wrapped {n} {h} ns a f =
     }
 
 -- a list that is fine, and neither too long nor too deep, is good
-pub fine-good : {n h : ℕ} (ns : Nodes) → n ≤ 2048 → h ≤ 129 → Fine n h ns → verdict (encode ns) ≡ Good
+pub fine-good : {n h : ℕ} (ns : Nodes) → n ≤ 2048 → h ≤ 129 → Fine n h ns → verdict (encode ns) ≡ Ok tt
 fine-good ns a b f =
     verdict-encode ns (record { fields = f.fields; ok = f.ok; few = omega (arith, f.few) }) ∙ rw (le-leb (height ns) 129 (omega (arith, f.low)))

@@ -13,8 +13,7 @@ use Rattle.formats.proofs.record.Codes.{written-long}
 use Rattle.limits.specs.declared.Refusal.{Refusal}
 use Rattle.limits.specs.declared.Refusal.TheVariants.{NotFinite}
 use Rattle.writing.specs.declared.draft.Draft.{Draft}
-use Rattle.writing.specs.declared.draft.Said.{Said}
-use Rattle.writing.specs.declared.draft.Said.TheVariants as said
+use Rattle.std.specs.Prelude.{Result, Ok, Err}
 use Rattle.writing.specs.Draft.Writing.{on, body, append, one, wrapped, Written, wrote, refused, and_then, number_record, can_write, if_can, number}
 use Rattle.writing.specs.Draft.Contract.Lying.{Lying, SaidAs}
 use Rattle.writing.specs.Draft.Contract.Growing.{Ready, Grown, Drawn, GrownTo, Spoken}
@@ -37,13 +36,13 @@ module _ {b b' : List ℕ} {d q : Draft} {F R f r : ℕ} (w : Ready b d F R) whe
   pub ready-drawn : {h : Nodes → Nodes} → Drawn b b' d q f r h → (f' r' : ℕ) → f + f' ≤ F → r + r' ≤ R → Ready b' q f' r'
   ready-drawn {h} s f' r' x y = grown-ready s.grown s.long (h w.nodes) (s.lies w.nodes w.lies) f' r' x y
 
-  pub ready-spoken : {s : Said} {h : Nodes → Written} → Spoken b b' d s f r h → s ≡ said.Done q → (f' r' : ℕ) → f + f' ≤ F → r + r' ≤ R → Ready b' q f' r'
+  pub ready-spoken : {s : Result Draft Refusal} {h : Nodes → Written} → Spoken b b' d s f r h → s ≡ Ok q → (f' r' : ℕ) → f + f' ≤ F → r + r' ≤ R → Ready b' q f' r'
   ready-spoken {s} {h} k e f' r' x y =
-      let g : Grown d q f r = subst (λ (t : Said). GrownTo d t f r) e k.grown in
-      let l : (ns : Nodes) × Lying b' q ns = some (h w.nodes) (subst (λ (t : Said). SaidAs t b' (h w.nodes)) e (k.lies w.nodes w.lies)) in
+      let g : Grown d q f r = subst (λ (t : Result Draft Refusal). GrownTo d t f r) e k.grown in
+      let l : (ns : Nodes) × Lying b' q ns = some (h w.nodes) (subst (λ (t : Result Draft Refusal). SaidAs t b' (h w.nodes)) e (k.lies w.nodes w.lies)) in
       grown-ready g k.long l.0 l.1 f' r' x y
     where
-      some : (v : Written) → SaidAs (said.Done q) b' v → (ns : Nodes) × Lying b' q ns
+      some : (v : Written) → SaidAs (Ok q) b' v → (ns : Nodes) × Lying b' q ns
       some (wrote ns) l = (ns, l)
       some (refused o) l = absurd l
 
@@ -55,34 +54,35 @@ grown-then g h = record { begins = omega (arith, g.begins, h.begins); ends = ome
 grown-more : {d q : Draft} {f r f' r' : ℕ} → f ≤ f' → r ≤ r' → Grown d q f r → Grown d q f' r'
 grown-more x y g = record { begins = omega (arith, g.begins); ends = omega (arith, g.ends) }
 
-grown_to-then : {d q : Draft} {f r : ℕ} (f' r' : ℕ) (s : Said) → Grown d q f r → GrownTo q s f' r' → GrownTo d s (f + f') (r + r')
-grown_to-then f' r' (said.Done p) g h = grown-then g h
-grown_to-then f' r' (said.Refused o) g h = tt
+grown_to-then : {d q : Draft} {f r : ℕ} (f' r' : ℕ) (s : Result Draft Refusal) → Grown d q f r → GrownTo q s f' r' → GrownTo d s (f + f') (r + r')
+grown_to-then f' r' (Ok p) g h = grown-then g h
+grown_to-then f' r' (Err o) g h = tt
 
-grown_to-more : (d : Draft) (f r : ℕ) {f' r' : ℕ} (s : Said) → f ≤ f' → r ≤ r' → GrownTo d s f r → GrownTo d s f' r'
-grown_to-more d f r (said.Done p) x y g = grown-more x y g
-grown_to-more d f r (said.Refused o) x y g = tt
+grown_to-more : (d : Draft) (f r : ℕ) {f' r' : ℕ} (s : Result Draft Refusal) → f ≤ f' → r ≤ r' → GrownTo d s f r → GrownTo d s f' r'
+grown_to-more d f r (Ok p) x y g = grown-more x y g
+grown_to-more d f r (Err o) x y g = tt
 
 -- a step that nothing refuses
-pub drawn-done : {b b' : List ℕ} {d q : Draft} {f r : ℕ} {h : Nodes → Nodes} → Drawn b b' d q f r h → Spoken b b' d (said.Done q) f r (λ ns. wrote (h ns))
+pub drawn-done : {b b' : List ℕ} {d q : Draft} {f r : ℕ} {h : Nodes → Nodes} → Drawn b b' d q f r h → Spoken b b' d (Ok q) f r (λ ns. wrote (h ns))
 drawn-done s = record { grown = s.grown; long = s.long; lies = s.lies }
 
 -- nothing is written
 pub drawn-none : {b : List ℕ} {d : Draft} → Drawn b b d d 0 0 (λ ns. ns)
 drawn-none = record { grown = record { begins = omega arith; ends = omega arith }; long = refl; lies = λ ns l. l }
 
-pub spoken-none : {b : List ℕ} {d : Draft} → Spoken b b d (said.Done d) 0 0 (λ ns. wrote ns)
+pub spoken-none : {b : List ℕ} {d : Draft} → Spoken b b d (Ok d) 0 0 (λ ns. wrote ns)
 spoken-none = drawn-done drawn-none
 
 -- a refusal out of hand
-pub spoken-refused : {b : List ℕ} {d : Draft} (o : Refusal) {f r : ℕ} → Spoken b b d (said.Refused o) f r (λ ns. refused o)
+pub spoken-refused : {b : List ℕ} {d : Draft} (o : Refusal) {f r : ℕ} → Spoken b b d (Err o) f r (λ ns. refused o)
 spoken-refused o = record { grown = tt; long = refl; lies = λ ns l. refl }
 
-pub spoken-more : {b b' : List ℕ} {d : Draft} {s : Said} {f r : ℕ} {h : Nodes → Written} → Spoken b b' d s f r h → (f' r' : ℕ) → f ≤ f' → r ≤ r' → Spoken b b' d s f' r' h
+pub spoken-more : {b b' : List ℕ} {d : Draft} {s : Result Draft Refusal} {f r : ℕ} {h : Nodes → Written} → Spoken b b' d s f r h → (f' r' : ℕ) → f ≤ f' → r ≤ r' → Spoken b b' d s f' r' h
 spoken-more {d = d} {s = s} {f = f} {r = r} k f' r' x y = record { grown = grown_to-more d f r s x y k.grown; long = k.long; lies = k.lies }
 
 -- another way to say what is written
-pub spoken-as : {b b' : List ℕ} {d : Draft} {s : Said} {f r : ℕ} {h : Nodes → Written} → Spoken b b' d s f r h → (g : Nodes → Written) → ((ns : Nodes) → h ns ≡ g ns) → Spoken b b' d s f r g
+pub spoken-as : {b b' : List ℕ} {d : Draft} {s : Result Draft Refusal} {f r : ℕ} {h : Nodes → Written}
+    → Spoken b b' d s f r h → (g : Nodes → Written) → ((ns : Nodes) → h ns ≡ g ns) → Spoken b b' d s f r g
 spoken-as {b' = b'} {s = s} k g e = record { grown = k.grown; long = k.long; lies = λ ns l. subst (SaidAs s b') (e ns) (k.lies ns l) }
 
 pub drawn-as : {b b' : List ℕ} {d q : Draft} {f r : ℕ} {h : Nodes → Nodes} → Drawn b b' d q f r h → (g : Nodes → Nodes) → ((ns : Nodes) → h ns ≡ g ns) → Drawn b b' d q f r g
@@ -92,28 +92,28 @@ module _ {b b' b'' : List ℕ} {d q : Draft} {f r f' r' : ℕ} where
   pub drawn-drawn : {p : Draft} {h g : Nodes → Nodes} → Drawn b b' d q f r h → Drawn b' b'' q p f' r' g → Drawn b b'' d p (f + f') (r + r') (λ ns. g (h ns))
   drawn-drawn {h = h} s t = record { grown = grown-then s.grown t.grown; long = t.long ∙ s.long; lies = λ ns l. t.lies (h ns) (s.lies ns l) }
 
-  pub drawn-then : {s : Said} {h : Nodes → Nodes} {g : Nodes → Written} → Drawn b b' d q f r h → Spoken b' b'' q s f' r' g → Spoken b b'' d s (f + f') (r + r') (λ ns. g (h ns))
+  pub drawn-then : {s : Result Draft Refusal} {h : Nodes → Nodes} {g : Nodes → Written} → Drawn b b' d q f r h → Spoken b' b'' q s f' r' g → Spoken b b'' d s (f + f') (r + r') (λ ns. g (h ns))
   drawn-then {s = s} {h = h} u t = record { grown = grown_to-then f' r' s u.grown t.grown; long = t.long ∙ u.long; lies = λ ns l. t.lies (h ns) (u.lies ns l) }
 
-  pub spoken-then : {s t : Said} {h g : Nodes → Written} → Spoken b b' d s f r h → s ≡ said.Done q → Spoken b' b'' q t f' r' g → Spoken b b'' d t (f + f') (r + r') (λ ns. and_then (h ns) g)
+  pub spoken-then : {s t : Result Draft Refusal} {h g : Nodes → Written} → Spoken b b' d s f r h → s ≡ Ok q → Spoken b' b'' q t f' r' g → Spoken b b'' d t (f + f') (r + r') (λ ns. and_then (h ns) g)
   spoken-then {s} {t} {h} {g} k e u =
       record {
-        grown = grown_to-then f' r' t (subst (λ (x : Said). GrownTo d x f r) e k.grown) u.grown;
+        grown = grown_to-then f' r' t (subst (λ (x : Result Draft Refusal). GrownTo d x f r) e k.grown) u.grown;
         long = u.long ∙ k.long;
-        lies = λ ns l. on-with (h ns) (subst (λ (x : Said). SaidAs x b' (h ns)) e (k.lies ns l));
+        lies = λ ns l. on-with (h ns) (subst (λ (x : Result Draft Refusal). SaidAs x b' (h ns)) e (k.lies ns l));
       }
     where
-      on-with : (v : Written) → SaidAs (said.Done q) b' v → SaidAs t b'' (and_then v g)
+      on-with : (v : Written) → SaidAs (Ok q) b' v → SaidAs t b'' (and_then v g)
       on-with (wrote ns) l = u.lies ns l
       on-with (refused o) l = absurd l
 
 -- a refusal ends it
-pub spoken-stop : {b b' : List ℕ} {d : Draft} {s : Said} {f r : ℕ} {h : Nodes → Written} → Spoken b b' d s f r h → (o : Refusal) → s ≡ said.Refused o → (g : Nodes → Written) (f' r' : ℕ)
-    → Spoken b b' d (said.Refused o) f' r' (λ ns. and_then (h ns) g)
+pub spoken-stop : {b b' : List ℕ} {d : Draft} {s : Result Draft Refusal} {f r : ℕ} {h : Nodes → Written} → Spoken b b' d s f r h → (o : Refusal) → s ≡ Err o → (g : Nodes → Written) (f' r' : ℕ)
+    → Spoken b b' d (Err o) f' r' (λ ns. and_then (h ns) g)
 spoken-stop {b} {b'} {d} {s} {f} {r} {h} k o e g f' r' =
-    record { grown = tt; long = k.long; lies = λ ns l. stop (h ns) (subst (λ (x : Said). SaidAs x b' (h ns)) e (k.lies ns l)) }
+    record { grown = tt; long = k.long; lies = λ ns l. stop (h ns) (subst (λ (x : Result Draft Refusal). SaidAs x b' (h ns)) e (k.lies ns l)) }
   where
-    stop : (v : Written) → SaidAs (said.Refused o) b' v → SaidAs (said.Refused o) b' (and_then v g)
+    stop : (v : Written) → SaidAs (Err o) b' v → SaidAs (Err o) b' (and_then v g)
     stop (wrote ns) l = absurd l
     stop (refused x) l = l
 
@@ -137,9 +137,9 @@ wrapped-drawn {b} {b'} {b''} d i n w e f {o} {y} s t p q =
 
 module _ (flag : Bool) (c : Complex) where
   pub number-done : {b b' : List ℕ} {d q : Draft} → can_write flag c ≡ true → {x : Record} → x ≡ number_record flag c → Drawn b b' d q 0 1 (λ ns. append ns (one x))
-      → Spoken b b' d (said.Done q) 0 1 (λ ns. number flag c ns)
+      → Spoken b b' d (Ok q) 0 1 (λ ns. number flag c ns)
   number-done h {x} e s =
       spoken-as (drawn-done s) (λ ns. number flag c ns) (λ ns. ap (λ (y : Record). wrote (append ns (one y))) e ∙ sym (ap (λ (t : Bool). if_can t (wrote (append ns (one (number_record flag c))))) h))
 
-  pub number-refused : {b : List ℕ} {d : Draft} → can_write flag c ≡ false → Spoken b b d (said.Refused NotFinite) 0 1 (λ ns. number flag c ns)
+  pub number-refused : {b : List ℕ} {d : Draft} → can_write flag c ≡ false → Spoken b b d (Err NotFinite) 0 1 (λ ns. number flag c ns)
   number-refused h = spoken-as (spoken-refused NotFinite) (λ ns. number flag c ns) (λ ns. sym (ap (λ (t : Bool). if_can t (wrote (append ns (one (number_record flag c))))) h))

@@ -5,19 +5,17 @@ use mathlib.Core.List.{List, [], ◌∷◌, ◌++◌}
 use Prim.Native.Nat.{ℕ, ◌+◌, ◌*◌, ◌≤◌, ◌<◌}
 use native.Mathlib.Omega.{arith}
 use native.Mathlib.Numerals.{add-one}
+use native.Mathlib.Nat.{zero-add}
 use borrow.Author.Tests.{le-leb, lt-leb}
 use lib.ListN.{length, take, drop, get_or, set, length-append, length-drop}
-use lib.Seq.{take-add, drop_at, drop-append-le, take-append-add, take-suc, get_or-drop, length-take-le, sets}
+use lib.Seq.{take-add, drop_at, drop-append-le, take-append-add, take-suc, get_or-drop, length-take-le, sets, sets-eq}
 use Rattle.formats.specs.declared.record.Record.{Record}
 use Rattle.formats.specs.Bytes.{part}
 use Rattle.formats.specs.Tree.{Nodes, end, size, encode_rec, encode, records_in, Written}
 use Rattle.formats.proofs.record.Bytes.{length_part, sets-append, part-sets}
 use Rattle.formats.proofs.record.Codes.{length-rec, written-take, written-long}
 use Rattle.writing.specs.declared.draft.Draft.{Draft}
-use Rattle.writing.specs.declared.draft.Said.{Said}
-use Rattle.writing.specs.declared.draft.Said.TheVariants as said
-use Rattle.writing.specs.declared.draft.Wrote.{Wrote}
-use Rattle.writing.specs.declared.draft.Wrote.TheVariants as answer
+use Rattle.std.specs.Prelude.{Result, Ok, Err}
 use Rattle.writing.specs.Draft.Writing.{on, body, append, one, wrapped, wrote, refused}
 use Rattle.writing.specs.Draft.Writing as writing
 use Rattle.writing.specs.Draft.Contract.Lying.{Lying, SaidAs, room_for, Answered}
@@ -99,6 +97,14 @@ wrapped-lies {b} {b'} {b''} d i n ns e f v w l =
 
 -- ---- copied out
 
+-- n elements of s from a place on, over the first n of l
+pub sets-range : (s l : List ℕ) (at n k : ℕ) → k ≡ n → at + n ≤ length s → n ≤ length l → sets l 0 (part at n s) ≡ take k (drop at s) ++ drop n l
+sets-range s l at n k e h o =
+    let m : length (part at n s) ≡ n = length_part at n s h in
+    sets-eq (part at n s) l 0 (omega arith)
+    ∙ ap (λ (x : ℕ). part at n s ++ drop x l) (zero-add (length (part at n s)) ∙ m)
+    ∙ ap (λ (x : ℕ). take x (drop at s) ++ drop n l) (sym e)
+
 pub copy_more : (b out₀ out : List ℕ) (from j : ℕ) → from + j < length b → out ≡ sets out₀ 0 (part from j b) → set out j (get_or b (from + j) 0) ≡ sets out₀ 0 (part from (j + 1) b)
 copy_more b out₀ out from j h e =
     let n : length (part from j b) ≡ j = length_part from j b (omega arith) in
@@ -116,20 +122,20 @@ module _ {b : List ℕ} {d : Draft} {ns : Nodes} (l : Lying b d ns) (n : ℕ) (e
   length-is = omega (arith, l.ends)
 
   -- there is no room
-  pub no_room : {c : ℕ} → c ≡ records_in out → c < n → Answered out out (answer.Refused OutputRoom) (wrote ns)
+  pub no_room : {c : ℕ} → c ≡ records_in out → c < n → Answered out out (Err OutputRoom) (wrote ns)
   no_room {c} q h =
       let f : room_for ns out ≡ false = lt-leb (size ns) (records_in out) (omega (arith, length-is)) in
       record {
-        answer = sym (ap (λ (t : Bool). cond t (answer.List (size ns)) (answer.Refused OutputRoom)) f);
+        answer = sym (ap (λ (t : Bool). cond t (Ok (size ns)) (Err OutputRoom)) f);
         bytes = sym (ap (λ (t : Bool). cond t (sets out 0 (encode ns)) out) f);
       }
 
   -- there is
-  pub handed : {c : ℕ} {out' : List ℕ} → c ≡ records_in out → n ≤ c → out' ≡ sets out 0 (part (24 * d.from) (24 * n) b) → Answered out out' (answer.List n) (wrote ns)
+  pub handed : {c : ℕ} {out' : List ℕ} → c ≡ records_in out → n ≤ c → out' ≡ sets out 0 (part (24 * d.from) (24 * n) b) → Answered out out' (Ok n) (wrote ns)
   handed {c} {out'} q h p =
       let f : room_for ns out ≡ true = le-leb (size ns) (records_in out) (omega (arith, length-is)) in
       record {
-        answer = ap answer.List length-is ∙ sym (ap (λ (t : Bool). cond t (answer.List (size ns)) (answer.Refused OutputRoom)) f);
+        answer = ap Ok length-is ∙ sym (ap (λ (t : Bool). cond t (Ok (size ns)) (Err OutputRoom)) f);
         bytes =
             p
             ∙ ap (sets out 0) (ap (λ (x : ℕ). part (24 * d.from) (24 * x) b) length-is ∙ l.bytes)
@@ -138,15 +144,15 @@ module _ {b : List ℕ} {d : Draft} {ns : Nodes} (l : Lying b d ns) (n : ℕ) (e
 
 -- ---- what was said is answered
 
-pub some-lies : {b : List ℕ} {d : Draft} (s : Said) → s ≡ said.Done d → (w : writing.Written) → SaidAs s b w → (ns : Nodes) × Lying b d ns
-some-lies {b} {d} s e (wrote ns) l = (ns, subst (λ (t : Said). SaidAs t b (wrote ns)) e l)
-some-lies {b} {d} s e (refused q) l = absurd (subst (λ (t : Said). SaidAs t b (refused q)) e l)
+pub some-lies : {b : List ℕ} {d : Draft} (s : Result Draft Refusal) → s ≡ Ok d → (w : writing.Written) → SaidAs s b w → (ns : Nodes) × Lying b d ns
+some-lies {b} {d} s e (wrote ns) l = (ns, subst (λ (t : Result Draft Refusal). SaidAs t b (wrote ns)) e l)
+some-lies {b} {d} s e (refused q) l = absurd (subst (λ (t : Result Draft Refusal). SaidAs t b (refused q)) e l)
 
-pub answer-done : {b out out' : List ℕ} {d : Draft} {r : Wrote} (s : Said) → s ≡ said.Done d → ((ns : Nodes) → Lying b d ns → Answered out out' r (wrote ns)) → (w : writing.Written)
-    → SaidAs s b w → Answered out out' r w
-answer-done {b} s e h (wrote ns) l = h ns (subst (λ (t : Said). SaidAs t b (wrote ns)) e l)
-answer-done {b} s e h (refused q) l = absurd (subst (λ (t : Said). SaidAs t b (refused q)) e l)
+pub answer-done : {b out out' : List ℕ} {d : Draft} {r : Result ℕ Refusal} (s : Result Draft Refusal) → s ≡ Ok d → ((ns : Nodes) → Lying b d ns → Answered out out' r (wrote ns))
+    → (w : writing.Written) → SaidAs s b w → Answered out out' r w
+answer-done {b} s e h (wrote ns) l = h ns (subst (λ (t : Result Draft Refusal). SaidAs t b (wrote ns)) e l)
+answer-done {b} s e h (refused q) l = absurd (subst (λ (t : Result Draft Refusal). SaidAs t b (refused q)) e l)
 
-pub answer-refused : (b : List ℕ) {out : List ℕ} {q : Refusal} (s : Said) → s ≡ said.Refused q → (w : writing.Written) → SaidAs s b w → Answered out out (answer.Refused q) w
-answer-refused b s e (wrote ns) l = absurd (subst (λ (t : Said). SaidAs t b (wrote ns)) e l)
-answer-refused b s e (refused o) l = record { answer = ap answer.Refused (subst (λ (t : Said). SaidAs t b (refused o)) e l); bytes = refl }
+pub answer-refused : (b : List ℕ) {out : List ℕ} {q : Refusal} (s : Result Draft Refusal) → s ≡ Err q → (w : writing.Written) → SaidAs s b w → Answered out out (Err q) w
+answer-refused b s e (wrote ns) l = absurd (subst (λ (t : Result Draft Refusal). SaidAs t b (wrote ns)) e l)
+answer-refused b s e (refused o) l = record { answer = ap Err (subst (λ (t : Result Draft Refusal). SaidAs t b (refused o)) e l); bytes = refl }

@@ -8,15 +8,16 @@ use mathlib.Core.List.{List, ◌++◌}
 use lib.ListN.{length, get_or, take, drop, length-append, length-take, length-drop}
 use borrow.Rule.Slice.PartMut.{mid_of, put_mid, same_len_mid}
 use lib.Seq.{sets, sets-eq, length-sets, get_or-append-add, get_or-drop, take_at, drop-append-le, take-append-le, take-append-add, length-take-le}
+use Rattle.cells.specs.Contract.Book.{Book}
 use Rattle.limits.specs.declared.Refusal.{Refusal}
 use Rattle.sums.specs.Tree.Sums as sums
 use Rattle.sums.specs.Tree.Sums.{Sum}
+use Rattle.sums.specs.Contract.Lies.{Lies, Held}
 use Rattle.formats.specs.Bytes.{part}
 use Rattle.formats.specs.Tree.{Nodes, end, size, encode}
 use Rattle.formats.proofs.record.Bytes.{length_part, part-sets}
 use Rattle.writing.specs.declared.draft.Draft.{Draft}
-use Rattle.writing.specs.declared.draft.Said.{Said}
-use Rattle.writing.specs.declared.draft.Said.TheVariants as said
+use Rattle.std.specs.Prelude.{Result, Ok, Err}
 use Rattle.writing.specs.Draft.Writing.{append, Written, wrote, refused}
 use Rattle.writing.specs.Draft.Contract.Lying.{Lying, SaidAs}
 use Rattle.writing.specs.Draft.Contract.Growing.{Ready, GrownTo, Spoken}
@@ -106,26 +107,26 @@ module _ (post : List ℕ) {b p : List ℕ} {d : Draft} {ns ms : Nodes} (m : ℕ
 
 -- ---- an argument, written into the part behind the list so far
 
-module _ {b b' p p' : List ℕ} {d : Draft} {s : Said} {most : ℕ} (w : Written) (a : AtFront p p' s most w) (long : length b' ≡ length b) where
-  pub argument-stop : (q : Refusal) → s ≡ said.Refused q → Spoken b b' d (said.Refused q) 0 most (λ ns. behind w ns)
-  argument-stop q e = record { grown = tt; long = long; lies = λ ns l. stops w (subst (λ (t : Said). SaidAs t p' w) e a.lies) ns }
+module _ {b b' p p' : List ℕ} {d : Draft} {s : Result Draft Refusal} {most : ℕ} (w : Written) (a : AtFront p p' s most w) (long : length b' ≡ length b) where
+  pub argument-stop : (q : Refusal) → s ≡ Err q → Spoken b b' d (Err q) 0 most (λ ns. behind w ns)
+  argument-stop q e = record { grown = tt; long = long; lies = λ ns l. stops w (subst (λ (t : Result Draft Refusal). SaidAs t p' w) e a.lies) ns }
     where
-      stops : (v : Written) → SaidAs (said.Refused q) p' v → (ns : Nodes) → SaidAs (said.Refused q) b' (behind v ns)
+      stops : (v : Written) → SaidAs (Err q) p' v → (ns : Nodes) → SaidAs (Err q) b' (behind v ns)
       stops (wrote ms) h ns = absurd h
       stops (refused r) h ns = h
 
-  pub argument-done : (f : Draft) (post : List ℕ) → s ≡ said.Done f → b' ≡ take (24 * d.end) b ++ (p' ++ post)
-      → Spoken b b' d (said.Done record { from = d.from; end = d.end + f.end }) 0 most (λ ns. behind w ns)
+  pub argument-done : (f : Draft) (post : List ℕ) → s ≡ Ok f → b' ≡ take (24 * d.end) b ++ (p' ++ post)
+      → Spoken b b' d (Ok record { from = d.from; end = d.end + f.end }) 0 most (λ ns. behind w ns)
   argument-done f post e is =
-      let first = subst (λ (t : Said). First t most) e a.first in
+      let first = subst (λ (t : Result Draft Refusal). First t most) e a.first in
       record {
         grown = record { begins = omega arith; ends = omega (arith, first.1) };
         long = long;
-        lies = λ ns l. goes w (subst (λ (t : Said). SaidAs t p' w) e a.lies) first ns l;
+        lies = λ ns l. goes w (subst (λ (t : Result Draft Refusal). SaidAs t p' w) e a.lies) first ns l;
       }
     where
-      goes : (v : Written) → SaidAs (said.Done f) p' v → First (said.Done f) most → (ns : Nodes) → Lying b d ns
-          → SaidAs (said.Done record { from = d.from; end = d.end + f.end }) b' (behind v ns)
+      goes : (v : Written) → SaidAs (Ok f) p' v → First (Ok f) most → (ns : Nodes) → Lying b d ns
+          → SaidAs (Ok record { from = d.from; end = d.end + f.end }) b' (behind v ns)
       goes (wrote ms) h g ns l =
           let at = subst (λ (x : ℕ). Lying p' record { from = x; end = f.end } ms) g.0 h in
           subst (λ (z : List ℕ). Lying z record { from = d.from; end = d.end + f.end } (append ns ms)) (sym is) (joined-lies post f.end l at)
@@ -146,7 +147,7 @@ separate {b} {d} n left few r =
 
 -- ---- a sum, written into a buffer of its own
 
-module _ {b b₁ : List ℕ} {s : Said} (n : ℕ) (flag : Bool) (t : Sum) (few : sums.size t ≡ n) (room : 24 * 128 ≤ length b)
+module _ {b b₁ : List ℕ} {s : Result Draft Refusal} (n : ℕ) (flag : Bool) (t : Sum) (few : sums.size t ≡ n) (room : 24 * 128 ≤ length b)
     (k : Spoken b b₁ record { from = 128; end = 128 } s (2 * n) (10 * n + 2) (λ ns. write_faithful flag t false ns)) where
   abbrev w : Written
   w = write_faithful flag t false end
@@ -154,24 +155,34 @@ module _ {b b₁ : List ℕ} {s : Said} (n : ℕ) (flag : Bool) (t : Sum) (few :
   whole : SaidAs s b₁ w
   whole = k.lies end (fresh b 128 room)
 
-  pub front-lies : (f : Draft) → s ≡ said.Done f → (ns : Nodes) × Lying b₁ f ns
+  pub front-lies : (f : Draft) → s ≡ Ok f → (ns : Nodes) × Lying b₁ f ns
   front-lies f e = some-lies s e w whole
 
-  pub front_ends : (f : Draft) → s ≡ said.Done f → f.end ≤ 128 + (10 * n + 2)
-  front_ends f e = let g = subst (λ (z : Said). GrownTo record { from = 128; end = 128 } z (2 * n) (10 * n + 2)) e k.grown in g.ends
+  pub front_ends : (f : Draft) → s ≡ Ok f → f.end ≤ 128 + (10 * n + 2)
+  front_ends f e = let g = subst (λ (z : Result Draft Refusal). GrownTo record { from = 128; end = 128 } z (2 * n) (10 * n + 2)) e k.grown in g.ends
 
-  pub front-stop : (q : Refusal) → s ≡ said.Refused q → AtFront b b₁ (said.Refused q) (10 * n + 2) w
-  front-stop q e = record { long = k.long; first = tt; lies = subst (λ (z : Said). SaidAs z b₁ w) e whole }
+  pub front-stop : (q : Refusal) → s ≡ Err q → AtFront b b₁ (Err q) (10 * n + 2) w
+  front-stop q e = record { long = k.long; first = tt; lies = subst (λ (z : Result Draft Refusal). SaidAs z b₁ w) e whole }
 
-  pub front-done : {b₂ : List ℕ} (f : Draft) (m : ℕ) → s ≡ said.Done f → m + f.from ≡ f.end → b₂ ≡ sets b₁ 0 (part (24 * f.from) (24 * m) b₁)
-      → AtFront b b₂ (said.Done record { from = 0; end = m }) (10 * n + 2) w
-  front-done {b₂} f m e h p = go w refl (subst (λ (z : Said). SaidAs z b₁ w) e whole)
+  pub front-done : {b₂ : List ℕ} (f : Draft) (m : ℕ) → s ≡ Ok f → m + f.from ≡ f.end → b₂ ≡ sets b₁ 0 (part (24 * f.from) (24 * m) b₁)
+      → AtFront b b₂ (Ok record { from = 0; end = m }) (10 * n + 2) w
+  front-done {b₂} f m e h p = go w refl (subst (λ (z : Result Draft Refusal). SaidAs z b₁ w) e whole)
     where
-      go : (v : Written) → w ≡ v → SaidAs (said.Done f) b₁ v → AtFront b b₂ (said.Done record { from = 0; end = m }) (10 * n + 2) w
+      go : (v : Written) → w ≡ v → SaidAs (Ok f) b₁ v → AtFront b b₂ (Ok record { from = 0; end = m }) (10 * n + 2) w
       go (wrote ms) i l =
           record {
             long = ap length p ∙ length-sets b₁ 0 (part (24 * f.from) (24 * m) b₁) ∙ k.long;
             first = (refl, omega (arith, size-within flag t ms i, l.ends));
-            lies = subst (λ (v : Written). SaidAs (said.Done record { from = 0; end = m }) b₂ v) (sym i) (moved-lies m h l p);
+            lies = subst (λ (v : Written). SaidAs (Ok record { from = 0; end = m }) b₂ v) (sym i) (moved-lies m h l p);
           }
       go (refused q) i l = absurd l
+
+-- the same of a sum that is held: what was written lies in the buffer, and is no longer than it may be
+module _ {b b₁ : List ℕ} {a : Book} {i left : ℕ} {s : Result Draft Refusal} (n : ℕ) (flag : Bool) (r : Separate b n left) (h : Held a i (i + n) left)
+    (k : (t : Sum) → Lies a i (i + n) left t → Spoken b b₁ record { from = 128; end = 128 } s (2 * n) (10 * n + 2) (λ ns. write_faithful flag t false ns)) where
+  pub held-within : {f : Draft} → s ≡ Ok f → (f.from ≤ f.end) × (f.end ≤ 128 + (10 * n + 2)) × (24 * f.end ≤ length b₁)
+  held-within {f} e =
+      let few : sums.size h.0 ≡ n = omega (arith, h.1.ends) in
+      let room : 24 * 128 ≤ length b = omega (arith, r.after) in
+      let l = (front-lies n flag h.0 few room (k h.0 h.1) f e).1 in
+      (omega (arith, l.ends), front_ends n flag h.0 few room (k h.0 h.1) f e, l.room)

@@ -16,8 +16,7 @@ use Rattle.formats.specs.declared.record.Primitive.TheVariants as prim
 use Rattle.formats.specs.Names.{choose}
 use Rattle.formats.specs.Tree.{Nodes, end, rec, size}
 use Rattle.writing.specs.Draft.Writing.{push, does, append, one, two, Written, wrote, refused, and_then, number, number_record, can_write, if_can}
-use Rattle.writing.specs.ToNodes.{Form, constant, root, bare, square, power, form, is_bare, is_constant, is_empty, primitive_for, over, function_of, before, write_power, write_term}
-use Rattle.writing.specs.ToNodes.{times_coef, plus, close, turn}
+use Rattle.writing.specs.ToNodes.{Form, constant, root, bare, square, power, form, is_bare, is_constant, is_empty, primitive_for, over, function_of, before, write_power, write_term, times_coef, plus, close, turn}
 use Rattle.writing.specs.Faithful.{behind, write_faithful}
 use Rattle.writing.proofs.draft.Laws.{size-append, size-said, size-wrapped}
 

@@ -6,7 +6,9 @@ use mathlib.Core.List.{List}
 use lib.ListN.{replicate, length-replicate}
 use Rattle.sums.specs.Tree.Sums.{Sum}
 use Rattle.formats.specs.Tree.{end}
-use Rattle.writing.specs.declared.draft.Said.{Said}
+use Rattle.std.specs.Prelude.{Result}
+use Rattle.limits.specs.declared.Refusal.{Refusal}
+use Rattle.writing.specs.declared.draft.Draft.{Draft}
 use Rattle.writing.specs.Draft.Contract.Lying.{SaidAs}
 use Rattle.writing.specs.Draft.Contract.Growing.{Ready, Spoken}
 use Rattle.writing.specs.Faithful.{write_faithful, faithful}
@@ -18,6 +20,6 @@ pub ready-start : (m : ℕ) → m ≤ 64 → Ready (replicate 30768 0) record { 
 ready-start m h = ready-fresh 128 (omega arith) (omega (arith, length-replicate {A = ℕ} 30768 0)) (omega arith)
 
 -- what was said is the list of the whole sum, or its refusal
-pub said-whole : (flag : Bool) (t : Sum) {b : List ℕ} {s : Said} {front back : ℕ}
+pub said-whole : (flag : Bool) (t : Sum) {b : List ℕ} {s : Result Draft Refusal} {front back : ℕ}
     → Spoken (replicate 30768 0) b record { from = 128; end = 128 } s front back (λ ns. write_faithful flag t false ns) → SaidAs s b (faithful flag t)
 said-whole flag t k = k.lies end (fresh (replicate 30768 0) 128 (omega (arith, length-replicate {A = ℕ} 30768 0)))

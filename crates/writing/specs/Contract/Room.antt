@@ -1,8 +1,8 @@
 -- How much room a draft asks for.
-use Rattle.std.specs.Prelude.{ℕ, ◌+◌, ◌*◌, ◌≤◌, List, length, ◌≡◌}
+use Rattle.std.specs.Prelude.{ℕ, ◌+◌, ◌*◌, ◌≤◌, List, length, ◌≡◌, Result, Ok, Err}
 use Rattle.limits.specs.Limits.{sum_entries, list_records, record_bytes}
-use Rattle.writing.specs.declared.draft.Said.{Said}
-use Rattle.writing.specs.declared.draft.Said.TheVariants as said
+use Rattle.limits.specs.declared.Refusal.{Refusal}
+use Rattle.writing.specs.declared.draft.Draft.{Draft}
 use Rattle.writing.specs.Draft.Writing.{Written}
 use Rattle.writing.specs.Draft.Contract.Lying.{SaidAs}
 
@@ -27,11 +27,11 @@ pub record Separate (b : List ℕ) (n left : ℕ) : Type 0 where
   pub most : argument_front + (10 * n + 2 + argument_front * left) ≤ list_records
 
 -- what was said begins at the first place and has at most so many records
-abbrev pub First : Said → ℕ → Type 0
-First (said.Done d) most = (d.from ≡ 0) × (d.end ≤ most)
-First (said.Refused q) most = Unit {0}
+abbrev pub First : Result Draft Refusal → ℕ → Type 0
+First (Ok d) most = (d.from ≡ 0) × (d.end ≤ most)
+First (Err q) most = Unit {0}
 
-pub record AtFront (b b' : List ℕ) (s : Said) (most : ℕ) (w : Written) : Type 0 where
+pub record AtFront (b b' : List ℕ) (s : Result Draft Refusal) (most : ℕ) (w : Written) : Type 0 where
   pub long : length b' ≡ length b
   pub first : First s most
   pub lies : SaidAs s b' w

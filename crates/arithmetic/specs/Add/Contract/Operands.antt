@@ -1,12 +1,11 @@
 -- What an operation asks for: sums that lie in the book, apart from the places where its result is formed; and a sum that grows there.
-use Rattle.std.specs.Prelude.{ℕ, ◌+◌, ◌≤◌}
+use Rattle.std.specs.Prelude.{ℕ, ◌+◌, ◌≤◌, Option, Some, None}
 use Rattle.limits.specs.Limits.{sum_entries, sum_levels}
 use Rattle.cells.specs.Contract.Book.{Book, Room}
 use Rattle.cells.specs.Contract.Moves.{Apart}
 use Rattle.sums.specs.Tree.Map.{Found, at, absent}
 use Rattle.sums.specs.Contract.Lies.{Held}
-use Rattle.arithmetic.specs.declared.add.Constant.{Constant}
-use Rattle.arithmetic.specs.declared.add.Constant.TheVariants.{Is, Other}
+use Rattle.numbers.specs.declared.complex.Complex.{Complex}
 
 -- a sum lies in the n cells from i on, apart from the sum_entries from p on
 pub record Operand (b : Book) (i n p : ℕ) : Type 0 where
@@ -27,6 +26,6 @@ pub record Growing (b : Book) (p n : ℕ) : Type 0 where
   pub held : Held b p (p + n) sum_levels
 
 -- what the code answers for the coefficient of a sum that may be a constant
-abbrev pub constant_of : Found → Constant
-constant_of (at c) = Is c
-constant_of absent = Other
+abbrev pub constant_of : Found → Option Complex
+constant_of (at c) = Some c
+constant_of absent = None

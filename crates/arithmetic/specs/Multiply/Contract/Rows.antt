@@ -1,12 +1,11 @@
 -- What is multiplied row by row: sums that are powers of x and nothing else.
-use Rattle.std.specs.Prelude.{ℕ, ◌+◌}
+use Rattle.std.specs.Prelude.{ℕ, ◌+◌, Result, Ok, Err}
 use Rattle.numbers.specs.Ops.{◌⊕◌}
 use Rattle.numbers.specs.Complex.Arith as complex
 use Rattle.cells.specs.declared.Entry.{Entry}
 use Rattle.cells.specs.Contract.Book.{Book}
 use Rattle.sums.specs.declared.tree.Merge.TheVariants.{Add}
-use Rattle.sums.specs.declared.order.Formed.{Formed}
-use Rattle.sums.specs.declared.order.Formed.TheVariants.{Done, Refused}
+use Rattle.limits.specs.declared.Refusal.{Refusal}
 use Rattle.sums.specs.Tree.Kinds.{X}
 use Rattle.sums.specs.Tree.Sums.{Sum, none, entry}
 use Rattle.sums.specs.Tree.Map.{Outcome, formed}
@@ -24,9 +23,9 @@ pub record PowersGrow (b : Book) (p n : ℕ) : Type 0 where
   pub only : OnlyPowers b.kinds p (p + n)
 
 -- what was formed is of powers alone
-abbrev pub FormedPowers : Formed → Book → ℕ → Type 0
-FormedPowers (Done n) b p = OnlyPowers b.kinds p (p + n)
-FormedPowers (Refused r) b p = Unit {0}
+abbrev pub FormedPowers : Result ℕ Refusal → Book → ℕ → Type 0
+FormedPowers (Ok n) b p = OnlyPowers b.kinds p (p + n)
+FormedPowers (Err r) b p = Unit {0}
 
 -- the product of the powers x and y is added into s; v, what is inside y, is nothing
 abbrev pub power_into : Entry → Entry → Sum → Sum → Outcome

@@ -1,8 +1,6 @@
 -- What the code's steps on the way to a root say.
-use Rattle.std.specs.Prelude.{ℕ, zero, suc, ◌+◌, ◌*◌, ◌/◌, ◌%◌, ◌^◌, ◌≤◌, ◌<◌, ◌≡◌, ◌⊎◌}
+use Rattle.std.specs.Prelude.{ℕ, zero, suc, ◌+◌, ◌*◌, ◌/◌, ◌%◌, ◌^◌, ◌≤◌, ◌<◌, ◌≡◌, ◌⊎◌, Option, Some, None}
 use Rattle.numbers.specs.declared.radical.Rooted.{Rooted}
-use Rattle.numbers.specs.declared.radical.Trial.{Trial}
-use Rattle.numbers.specs.declared.radical.Trial.TheVariants.{Found, Wrong}
 use Rattle.numbers.specs.declared.radical.Scaled.{Scaled}
 
 -- how many of the smallest number a pattern of bits stands for, by its exponent's field and its digits
@@ -27,14 +25,14 @@ pub record WholeRoot (m : ℕ) (d : Rooted) : Type 0 where
   pub left : d.rem ≤ 2 * d.root
 
 -- where a trial finds something, it and what is left come to m * 2 ^ 52
-abbrev pub SquareFound : ℕ → ℕ → Trial → Type 0
-SquareFound m q (Found d) = (d.root * d.root + d.rem ≡ m * 2 ^ 52) × (d.root ≡ q) × (d.rem < 2 ^ 63)
-SquareFound m q Wrong = Unit {0}
+abbrev pub SquareFound : ℕ → ℕ → Option Rooted → Type 0
+SquareFound m q (Some d) = (d.root * d.root + d.rem ≡ m * 2 ^ 52) × (d.root ≡ q) × (d.rem < 2 ^ 63)
+SquareFound m q None = Unit {0}
 
 -- where a trial finds something, it is the root
-abbrev pub RootFound : ℕ → Trial → Type 0
-RootFound m (Found d) = WholeRoot m d
-RootFound m Wrong = Unit {0}
+abbrev pub RootFound : ℕ → Option Rooted → Type 0
+RootFound m (Some d) = WholeRoot m d
+RootFound m None = Unit {0}
 
 -- q is the root of m * 2 ^ 52 in whole numbers, and the bits are those of q * 2 ^ k of the smallest number, rounded by what is left
 pub record Rounds (m k bits : ℕ) : Type 0 where

@@ -1,10 +1,9 @@
 -- What the functions that write ask of a draft, and what they leave: the contracts that the writers above compose.
-use Rattle.std.specs.Prelude.{ℕ, ◌+◌, ◌*◌, ◌≤◌, ◌≡◌, List, length}
+use Rattle.std.specs.Prelude.{ℕ, ◌+◌, ◌*◌, ◌≤◌, ◌≡◌, List, length, Result, Ok, Err}
 use Rattle.limits.specs.Limits.{list_records, record_bytes}
 use Rattle.formats.specs.Tree.{Nodes}
 use Rattle.writing.specs.declared.draft.Draft.{Draft}
-use Rattle.writing.specs.declared.draft.Said.{Said}
-use Rattle.writing.specs.declared.draft.Said.TheVariants as said
+use Rattle.limits.specs.declared.Refusal.{Refusal}
 use Rattle.writing.specs.Draft.Writing.{Written}
 use Rattle.writing.specs.Draft.Contract.Lying.{Lying, SaidAs}
 
@@ -27,12 +26,12 @@ pub record Drawn (b b' : List ℕ) (d r : Draft) (front back : ℕ) (f : Nodes �
   pub long : length b' ≡ length b
   pub lies : (ns : Nodes) → Lying b d ns → Lying b' r (f ns)
 
-abbrev pub GrownTo : Draft → Said → ℕ → ℕ → Type 0
-GrownTo d (said.Done r) front back = Grown d r front back
-GrownTo d (said.Refused q) front back = Unit {0}
+abbrev pub GrownTo : Draft → Result Draft Refusal → ℕ → ℕ → Type 0
+GrownTo d (Ok r) front back = Grown d r front back
+GrownTo d (Err q) front back = Unit {0}
 
 -- the same, where it may be refused
-pub record Spoken (b b' : List ℕ) (d : Draft) (s : Said) (front back : ℕ) (f : Nodes → Written) : Type 0 where
+pub record Spoken (b b' : List ℕ) (d : Draft) (s : Result Draft Refusal) (front back : ℕ) (f : Nodes → Written) : Type 0 where
   pub grown : GrownTo d s front back
   pub long : length b' ≡ length b
   pub lies : (ns : Nodes) → Lying b d ns → SaidAs s b' (f ns)

@@ -1,0 +1,6 @@
+-- A refusal is handed on.
+use Rattle.algebra.proofs.lists.Making.{refused-gives}
+use Rattle.algebra.proofs.lists.make_of.Goals as goal
+
+pub returns-in-Refused : goal.returns-in-Refused
+returns-in-Refused c x g = rw c.flagged.ensures (refused-gives c.args.w x c.args.got _ c.args.out.now c.in-Refused.is g c.refuse.ensures)

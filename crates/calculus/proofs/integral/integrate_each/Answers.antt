@@ -1,0 +1,43 @@
+-- Each entry is read, and integrated into the sum that grows apart from it.
+use Rattle.std.proofs.Common.{arith}
+use Rattle.std.proofs.lemmas.Result.{err_from_is_err_and}
+use Rattle.cells.specs.Contract.Book.{seen}
+use Rattle.calculus.specs.Integral.{integrate_into, integrate}
+use Rattle.calculus.proofs.Eaching.{Turn, each_start, each-end, each-readable, turn-asks, turn-stop, turn-next}
+use Rattle.calculus.proofs.integral.Storing.{x-stays}
+use Rattle.calculus.proofs.integral.integrate_each.Goals as goal
+use Rattle.calculus.proofs.integral.integrate_each.Goals.{After-load-x}
+
+-- the next entry was read
+turn : (c : After-load-x) → Turn integrate_into 64 (seen c.args.book.now) (seen c.loop-q.book) c.args.j c.args.m c.args.w c.loop-q.q c.loop-q.len c.load-x.result
+turn c =
+    record {
+      given = record { source = c.requires.0; room = c.requires.1 };
+      fits = omega arith;
+      each = c.loop-q.invariant;
+      read = c.load-x.ensures;
+      more = c.loop-q-test.true;
+    }
+
+pub loop-q-init : goal.loop-q-init
+loop-q-init c = each_start integrate_into 64 c.args.j c.args.m c.args.w c.requires.1
+
+pub load-x-requires : goal.load-x-requires
+load-x-requires c = each-readable integrate_into 64 (record { source = c.requires.0; room = c.requires.1 }) c.loop-q.invariant c.loop-q-test.true
+
+pub integrate_entry-requires : goal.integrate_entry-requires
+integrate_entry-requires c = (turn-asks integrate_into 64 (turn (goal.at.integrate_entry-requires c).After-load-x), x-stays c.args.w c.loop-q.invariant.kept c.requires.2)
+
+pub returns-in_err-len-clause-of_one : goal.returns-in_err-len-clause-of_one
+unfolding integrate
+returns-in_err-len-clause-of_one c =
+    let p = err_from_is_err_and c.from_residual.result c.from_residual.ensures.1 in
+    rw (p.1, p.2)
+    (turn-stop integrate_into 64 (turn (goal.at.returns-in_err-len-clause-of_one c).After-load-x) c.integrate_entry.ensures c.in_err-len.was).1
+
+pub loop-q-preserved : goal.loop-q-preserved
+loop-q-preserved c = turn-next integrate_into 64 (turn (goal.at.loop-q-preserved c).After-load-x) c.integrate_entry.ensures c.in_ok-len.was
+
+pub returns-clause-of_one : goal.returns-clause-of_one
+unfolding integrate
+returns-clause-of_one c = each-end integrate_into 64 c.loop-q.invariant c.loop-q-test.false

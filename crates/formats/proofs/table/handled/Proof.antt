@@ -1,9 +1,0 @@
--- Assumes nothing.
-use borrow.Author.Rules.{rules}
-use Rattle.formats.specs.Names.{primitive_of}
-use Rattle.formats.proofs.record.Table.{unpacked}
-use Rattle.formats.proofs.table.handled.Statement.{statement}
-use Rattle.formats.proofs.table.handled.Tie as tie
-
-pub handled_spec : {M : Type 1} → statement M
-handled_spec = tie.close (tie.spec (λ c κs. search rules) (λ c. rw (c.row_of.ensures, (unpacked (primitive_of c.args.code)).2)))

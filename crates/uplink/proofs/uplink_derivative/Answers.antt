@@ -1,0 +1,7 @@
+-- The entry's answer, told.
+use Rattle.algebra.specs.Replies as entry
+use Rattle.uplink.proofs.Telling.{told-count}
+use Rattle.uplink.proofs.uplink_derivative.Goals as goal
+
+pub returns : goal.returns
+returns c = told-count entry.derivative c.derivative.result c.answer_numbers-n.ensures c.derivative.ensures

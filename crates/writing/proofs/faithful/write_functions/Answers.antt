@@ -1,0 +1,13 @@
+-- `write_functions` meets its contract: the sum is written into a buffer with room for it, and what was said is answered.
+use Rattle.writing.specs.Faithful.{faithful}
+use Rattle.writing.proofs.faithful.Whole.{ready-start, said-whole}
+use Rattle.writing.proofs.faithful.write_functions.Goals as goal
+
+pub write_sum-s-requires : goal.write_sum-s-requires
+write_sum-s-requires c = (c.requires.0, ready-start c.args.m c.requires.1, c.requires.1)
+
+pub answer-requires : goal.answer-requires
+answer-requires c = let h = c.requires.0 in (faithful c.args.complex h.0, said-whole c.args.complex h.0 (c.write_sum-s.ensures h.0 h.1))
+
+pub returns : goal.returns
+returns c s l = c.answer.ensures (faithful c.args.complex s) (said-whole c.args.complex s (c.write_sum-s.ensures s l))
