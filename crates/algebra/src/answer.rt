@@ -2,7 +2,7 @@
 // Where a derivative or an integral is taken it is formed in the SUM_ENTRIES places from w on, and as many behind them are working places.
 ghost use Rattle.std.specs.Prelude.{◌≡◌, ◌+◌, ◌≤◌};
 ghost use Rattle.limits.specs.Limits.{sum_entries, sum_levels};
-ghost use Rattle.cells.specs.Contract.Book.{seen, Room};
+ghost use Rattle.cells.specs.Contract.Book.{seen, Room, slices};
 ghost use Rattle.sums.specs.Contract.Lies.{Held, OfOne};
 ghost use Rattle.arithmetic.specs.Add.Contract.Operands.{Source};
 ghost use Rattle.formats.specs.Tree.{records_in};
@@ -87,7 +87,8 @@ pub fn put_out(book: &Book, i: usize, n: usize, out: &mut [u8]) -> Answer
 #[tactic(auto, unfolding(crate::specs::Answer::Making::derive))]
 pub fn derive(book: &mut Book, i: usize, n: usize, w: usize, out: &mut [u8]) -> Answer
     requires { Source (seen book.old) i n w × Room (seen book.old) (w + (sum_entries + sum_entries)) }
-    ensures { OfOne (seen book.old) i (i + n) sum_levels (λ s. Gives entries_in (derive s) out.old out.new result) }
+    ensures of_one { OfOne (seen book.old) i (i + n) sum_levels (λ s. Gives entries_in (derive s) out.old out.new result) }
+    ensures same_slices { slices book.new ≡ slices book.old }
 {
     match calculus::derivative::expr_deriv(book, i, n, w) {
         Err(q) => Answer::Refused(q, 0),
@@ -99,7 +100,8 @@ pub fn derive(book: &mut Book, i: usize, n: usize, w: usize, out: &mut [u8]) -> 
 #[tactic(auto, unfolding(crate::specs::Answer::Making::integrate))]
 pub fn integrate(book: &mut Book, i: usize, n: usize, w: usize, out: &mut [u8]) -> Answer
     requires { Source (seen book.old) i n w × Room (seen book.old) (w + (sum_entries + sum_entries)) }
-    ensures { OfOne (seen book.old) i (i + n) sum_levels (λ s. Gives entries_in (integrate s) out.old out.new result) }
+    ensures of_one { OfOne (seen book.old) i (i + n) sum_levels (λ s. Gives entries_in (integrate s) out.old out.new result) }
+    ensures same_slices { slices book.new ≡ slices book.old }
 {
     match calculus::integral::expr_integral(book, i, n, w) {
         Err(q) => Answer::Refused(q, 0),
@@ -153,7 +155,8 @@ pub fn derive_and_write(
     out: &mut [u8],
 ) -> Answer
     requires { Source (seen book.old) i n w × Room (seen book.old) (w + (sum_entries + sum_entries)) }
-    ensures { OfOne (seen book.old) i (i + n) sum_levels (λ s. Gives records_in (derive_and_write_by writer complex s) out.old out.new result) }
+    ensures of_one { OfOne (seen book.old) i (i + n) sum_levels (λ s. Gives records_in (derive_and_write_by writer complex s) out.old out.new result) }
+    ensures same_slices { slices book.new ≡ slices book.old }
 {
     match calculus::derivative::expr_deriv(book, i, n, w) {
         Err(q) => Answer::Refused(q, 0),
@@ -173,7 +176,8 @@ pub fn integrate_and_write(
     out: &mut [u8],
 ) -> Answer
     requires { Source (seen book.old) i n w × Room (seen book.old) (w + (sum_entries + sum_entries)) }
-    ensures { OfOne (seen book.old) i (i + n) sum_levels (λ s. Gives records_in (integrate_and_write_by writer complex s) out.old out.new result) }
+    ensures of_one { OfOne (seen book.old) i (i + n) sum_levels (λ s. Gives records_in (integrate_and_write_by writer complex s) out.old out.new result) }
+    ensures same_slices { slices book.new ≡ slices book.old }
 {
     match calculus::integral::expr_integral(book, i, n, w) {
         Err(q) => Answer::Refused(q, 0),

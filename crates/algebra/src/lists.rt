@@ -6,12 +6,12 @@ ghost use Rattle.algebra.specs.Contract.Lists.{list_held, made_by, room_by, Make
 ghost use Rattle.algebra.specs.Entries.{inverse_of};
 ghost use Rattle.algebra.specs.Reading.{read_list, flagged};
 ghost use Rattle.arithmetic.specs.Add.Contract.Operands.{Source};
-ghost use Rattle.cells.specs.Contract.Book.{seen, Room};
+ghost use Rattle.cells.specs.Contract.Book.{seen, Room, slices};
 ghost use Rattle.formats.specs.Tree.{records_in};
 ghost use Rattle.limits.specs.Limits.{sum_entries, sum_levels};
 ghost use Rattle.modifiers.specs.Reading.{Read, done, refused_at};
 ghost use Rattle.reading.specs.Contract.Data.{Reaches, DataAs};
-ghost use Rattle.stack.specs.Contract.Arena.{slots, working, places};
+ghost use Rattle.stack.specs.Contract.Arena.{slots, working, places, all_slices};
 ghost use Rattle.sums.specs.Contract.Lies.{Held, OfOne};
 
 use crate::ReadAnswer;
@@ -34,7 +34,8 @@ pub enum Wanted {
 #[tactic(auto, unfolding(crate::specs::Contract::Lists::list_held))]
 fn read_sum(list: &[u8], arena: &mut Arena, top: usize) -> AlgebraData
     requires { Reaches (slots arena.old) top }
-    ensures { DataAs result (seen arena.new.book) (list_held (places - top) list.now) }
+    ensures data_as { DataAs result (seen arena.new.book) (list_held (places - top) list.now) }
+    ensures same_slices { all_slices arena.new ≡ all_slices arena.old }
 {
     match formats::rules::check(list) {
         Err(q) => AlgebraData::Refused(q, 0, false),
@@ -91,8 +92,9 @@ fn make(
     out: &mut [u8],
 ) -> Answer
     requires { Source (seen book.old) working n 0 × Room (seen book.old) (0 + (sum_entries + sum_entries)) }
-    ensures { OfOne (seen book.old) working (working + n) sum_levels
+    ensures of_one { OfOne (seen book.old) working (working + n) sum_levels
         (λ s. (pairs : ℕ) → Gives (room_by w) (made_by w (done s complex handled pairs)) out.old out.new result) }
+    ensures same_slices { slices book.new ≡ slices book.old }
 {
     match w {
         Wanted::Sum => crate::answer::put_out(book, WORKING, n, out),
@@ -129,7 +131,8 @@ fn unflagged(a: ReadAnswer) -> Answer
 // What is made of what was read.
 fn make_of(w: Wanted, got: AlgebraData, book: &mut Book, out: &mut [u8]) -> ReadAnswer
     requires { (x : Read) × DataAs got (seen book.old) x }
-    ensures { (x : Read) → DataAs got (seen book.old) x → Makes w x out.old out.new result }
+    ensures data_as { (x : Read) → DataAs got (seen book.old) x → Makes w x out.old out.new result }
+    ensures same_slices { slices book.new ≡ slices book.old }
 {
     match got {
         AlgebraData::Refused(q, at, handled) => flagged(false, 0, refuse(w, q, at, handled)),

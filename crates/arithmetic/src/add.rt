@@ -3,7 +3,7 @@
 ghost use Rattle.std.specs.Prelude.{◌≡◌, ◌+◌};
 ghost use Rattle.limits.specs.Limits.{sum_entries, sum_levels};
 ghost use Rattle.numbers.specs.Signs.{zero64};
-ghost use Rattle.cells.specs.Contract.Book.{seen, Room};
+ghost use Rattle.cells.specs.Contract.Book.{seen, Room, slices};
 ghost use Rattle.cells.specs.Contract.Moves.{Apart, Kept};
 ghost use Rattle.sums.specs.Tree.Kinds.{X};
 ghost use Rattle.sums.specs.Tree.Sums.{none};
@@ -79,6 +79,7 @@ pub fn put_term(
     requires growing { Growing (seen book.old) p n }
     ensures kept { Kept (seen book.old) (seen book.new) p (p + sum_entries) }
     ensures of_two { OfTwo (seen book.old) p (p + n) i (i + x.inside) sum_levels (λ s t. Agrees result (seen book.new) p (formed how x t s)) }
+    ensures same_slices { slices book.new ≡ slices book.old }
 {
     if x.kind == sums::tree::X {
         return sums::map::put_power(book, how, x.num, x.coef, p, n);
@@ -91,6 +92,7 @@ pub fn alone(book: &mut Book, x: Entry, i: usize, p: usize) -> Result<usize, Ref
     requires { GoodHead x × Held (seen book.old) i (i + x.inside) sum_levels × Apart i x.inside p (p + sum_entries) × Room (seen book.old) (p + sum_entries) }
     ensures kept { Kept (seen book.old) (seen book.new) p (p + sum_entries) }
     ensures of_one { OfOne (seen book.old) i (i + x.inside) sum_levels (λ t. Agrees result (seen book.new) p (formed Merge.Store x t none)) }
+    ensures same_slices { slices book.new ≡ slices book.old }
 {
     sums::map::put_block(book, Merge::Store, x, i, p, 0)
 }
@@ -100,6 +102,7 @@ pub fn constant_sum(book: &mut Book, c: Complex, p: usize) -> Result<usize, Refu
     requires { Room (seen book.old) (p + sum_entries) }
     ensures kept { Kept (seen book.old) (seen book.new) p (p + sum_entries) }
     ensures agrees { Agrees result (seen book.new) p (alone X zero64 none c) }
+    ensures same_slices { slices book.new ≡ slices book.old }
 {
     sums::map::put_power(book, Merge::Store, 0.0, c, p, 0)
 }
@@ -116,6 +119,7 @@ pub fn add_each(
     requires { Operand (seen book.old) j m p × Growing (seen book.old) p n }
     ensures kept { Kept (seen book.old) (seen book.new) p (p + sum_entries) }
     ensures of_two { OfTwo (seen book.old) p (p + n) j (j + m) sum_levels (λ s t. Agrees result (seen book.new) p (add_each how s t)) }
+    ensures same_slices { slices book.new ≡ slices book.old }
 {
     let end = j + m;
     let mut q = j;
@@ -147,6 +151,7 @@ pub fn expr_add(
     requires { Operand (seen book.old) i n p × Operand (seen book.old) j m p × Room (seen book.old) (p + sum_entries) }
     ensures kept { Kept (seen book.old) (seen book.new) p (p + sum_entries) }
     ensures of_two { OfTwo (seen book.old) i (i + n) j (j + m) sum_levels (λ s t. Agrees result (seen book.new) p (add_each how s t)) }
+    ensures same_slices { slices book.new ≡ slices book.old }
 {
     book.copy_within(i, n, p);
     add_each(book, how, j, m, p, n)
@@ -157,6 +162,7 @@ fn neg_each(book: &mut Book, p: usize, n: usize)
     requires { Held (seen book.old) p (p + n) sum_levels }
     ensures kept { Kept (seen book.old) (seen book.new) p (p + n) }
     ensures of_one { OfOne (seen book.old) p (p + n) sum_levels (λ s. Lies (seen book.new) p (p + n) sum_levels (neg_sum s)) }
+    ensures same_slices { slices book.new ≡ slices book.old }
 {
     let end = p + n;
     let mut k = p;
@@ -178,6 +184,7 @@ pub fn expr_neg(book: &mut Book, i: usize, n: usize, p: usize)
     requires { Operand (seen book.old) i n p × Room (seen book.old) (p + sum_entries) }
     ensures kept { Kept (seen book.old) (seen book.new) p (p + sum_entries) }
     ensures of_one { OfOne (seen book.old) i (i + n) sum_levels (λ s. Lies (seen book.new) p (p + n) sum_levels (neg_sum s)) }
+    ensures same_slices { slices book.new ≡ slices book.old }
 {
     book.copy_within(i, n, p);
     neg_each(book, p, n);

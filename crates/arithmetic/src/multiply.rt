@@ -2,7 +2,7 @@
 // book, apart from each other.
 ghost use Rattle.std.specs.Prelude.{◌≡◌, ◌+◌, ◌-◌, ◌≤◌, ◌<◌};
 ghost use Rattle.limits.specs.Limits.{sum_entries, sum_levels};
-ghost use Rattle.cells.specs.Contract.Book.{seen, Room};
+ghost use Rattle.cells.specs.Contract.Book.{seen, Room, slices};
 ghost use Rattle.cells.specs.Contract.Moves.{Kept};
 ghost use Rattle.sums.specs.Tree.Sums.{none, size};
 ghost use Rattle.sums.specs.Tree.Map.{and_then_sum, each_into};
@@ -82,7 +82,8 @@ const FOUR_SUMS: usize = 4 * SUM_ENTRIES;
 // Copies the a cells from i on to 0 of another book, and the b from j on to SUM_ENTRIES.
 fn side_by_side(from: &Book, i: usize, a: usize, j: usize, b: usize, book: &mut Book)
     requires { Fits (seen from.now) (seen book.old) i a j b }
-    ensures { Beside (seen from.now) (seen book.new) i a j b }
+    ensures beside { Beside (seen from.now) (seen book.new) i a j b }
+    ensures same_slices { slices book.new ≡ slices book.old }
 {
     book.copy_in(from, i, a, 0);
     book.copy_in(from, j, b, SUM_ENTRIES);
@@ -103,6 +104,8 @@ fn put_div(
     ensures kept { Kept (seen book.old) (seen book.new) p (p + sum_entries) }
     ensures of_inner { OfInner (seen other.old) k (seen book.old) p n
         (λ w s. Agrees result (seen book.new) p (div_into k coef w s)) }
+    ensures same_slices_of_other { slices other.new ≡ slices other.old }
+    ensures same_slices { slices book.new ≡ slices book.old }
 {
     let head = Entry {
         kind: sums::tree::DIV,
@@ -134,6 +137,7 @@ fn div_mul(
     ensures kept { Kept (seen book.old) (seen book.new) p (p + sum_entries) }
     ensures of_three { OfThree (seen book.old) i a left j b left p n (λ t v s. Agrees result (seen book.new) p
         (and_then_sum (mul_into t v none) (λ w. div_into (size w) coef w s))) }
+    ensures same_slices { slices book.new ≡ slices book.old }
 {
     let mut other_kinds = [0u8; FOUR_SUMS];
     let mut other_insides = [0u8; FOUR_SUMS];
@@ -164,6 +168,7 @@ fn term_mul(
     ensures kept { Kept (seen book.old) (seen book.new) p (p + sum_entries) }
     ensures of_three { OfThree (seen book.old) i x.inside left j y.inside left p n
         (λ t v s. Agrees result (seen book.new) p (mul_term x (λ u. mul_into t u none) y v s)) }
+    ensures same_slices { slices book.new ≡ slices book.old }
 {
     let code = crate::product_code(x.kind, y.kind);
     let c = x.coef.mul(y.coef);
@@ -199,6 +204,7 @@ fn mul_row(
     ensures kept { Kept (seen book.old) (seen book.new) p (p + sum_entries) }
     ensures of_three { OfThree (seen book.old) i x.inside (left - 1) j m left p n
         (λ t v s. Agrees result (seen book.new) p (each_into (mul_term x (λ u. mul_into t u none)) s v)) }
+    ensures same_slices { slices book.new ≡ slices book.old }
 {
     let end = j + m;
     let mut q = j;
@@ -225,6 +231,7 @@ fn expr_mul(
     requires { Sums (seen book.old) i n j m p left × Room (seen book.old) (p + sum_entries) }
     ensures kept { Kept (seen book.old) (seen book.new) p (p + sum_entries) }
     ensures of_two { OfTwo (seen book.old) i (i + n) j (j + m) left (λ s t. Agrees result (seen book.new) p (mul_into s t none)) }
+    ensures same_slices { slices book.new ≡ slices book.old }
 {
     let end = i + n;
     let mut q = i;
@@ -250,6 +257,7 @@ fn power_row(
     ensures kept { Kept (seen book.old) (seen book.new) p (p + sum_entries) × FormedPowers result (seen book.new) p }
     ensures of_two { OfTwo (seen book.old) p (p + n) j (j + m) sum_levels
         (λ s v. Agrees result (seen book.new) p (each_into (power_into x) s v)) }
+    ensures same_slices { slices book.new ≡ slices book.old }
 {
     let mut len = n;
     for q in j..j + m {
@@ -273,6 +281,7 @@ fn mul_powers(
     requires { PowerOperand (seen book.old) i n p × PowerOperand (seen book.old) j m p × Room (seen book.old) (p + sum_entries) }
     ensures kept { Kept (seen book.old) (seen book.new) p (p + sum_entries) }
     ensures of_two { OfTwo (seen book.old) i (i + n) j (j + m) sum_levels (λ s t. Agrees result (seen book.new) p (product s t)) }
+    ensures same_slices { slices book.new ≡ slices book.old }
 {
     let mut len = 0usize;
     for q in i..i + n {
@@ -294,6 +303,7 @@ fn mul_some(
     requires { Operand (seen book.old) i n p × Operand (seen book.old) j m p × Room (seen book.old) (p + sum_entries) }
     ensures kept { Kept (seen book.old) (seen book.new) p (p + sum_entries) }
     ensures of_two { OfTwo (seen book.old) i (i + n) j (j + m) sum_levels (λ s t. Agrees result (seen book.new) p (product s t)) }
+    ensures same_slices { slices book.new ≡ slices book.old }
 {
     if sums::order::all_powers(book, i, n) & sums::order::all_powers(book, j, m) {
         return mul_powers(book, i, n, j, m, p);
@@ -309,6 +319,7 @@ fn mul_one(book: &mut Book, i: usize, j: usize, p: usize) -> Result<usize, Refus
     requires { Operand (seen book.old) i 1 p × Operand (seen book.old) j 1 p × Room (seen book.old) (p + sum_entries) }
     ensures kept { Kept (seen book.old) (seen book.new) p (p + sum_entries) }
     ensures of_two { OfTwo (seen book.old) i (i + 1) j (j + 1) sum_levels (λ s t. Agrees result (seen book.new) p (product s t)) }
+    ensures same_slices { slices book.new ≡ slices book.old }
 {
     let x = book.load(i);
     let y = book.load(j);
@@ -333,6 +344,7 @@ pub fn mul(
     requires { Operand (seen book.old) i n p × Operand (seen book.old) j m p × Room (seen book.old) (p + sum_entries) }
     ensures kept { Kept (seen book.old) (seen book.new) p (p + sum_entries) }
     ensures of_two { OfTwo (seen book.old) i (i + n) j (j + m) sum_levels (λ s t. Agrees result (seen book.new) p (product s t)) }
+    ensures same_slices { slices book.new ≡ slices book.old }
 {
     if (n == 1) & (m == 1) {
         return mul_one(book, i, j, p);

@@ -1,7 +1,7 @@
 // The derivative of a sum, one outermost entry a step.
 ghost use Rattle.std.specs.Prelude.{◌≡◌, ◌+◌, ◌≤◌};
 ghost use Rattle.limits.specs.Limits.{sum_entries, sum_levels};
-ghost use Rattle.cells.specs.Contract.Book.{seen, Room};
+ghost use Rattle.cells.specs.Contract.Book.{seen, Room, slices};
 ghost use Rattle.cells.specs.Contract.Moves.{Kept};
 ghost use Rattle.sums.specs.Tree.Kinds.{Log};
 ghost use Rattle.sums.specs.Tree.Sums.{none};
@@ -54,6 +54,7 @@ fn derive_x(book: &mut Book, x: Entry, w: usize, len: usize) -> Result<usize, Re
     requires { Growing (seen book.old) w len }
     ensures kept { Kept (seen book.old) (seen book.new) w (w + sum_entries) }
     ensures of_one { OfOne (seen book.old) w (w + len) sum_levels (λ s. Agrees result (seen book.new) w (derive_x x s)) }
+    ensures same_slices { slices book.new ≡ slices book.old }
 {
     if crate::vanishes(x.num, x.coef) {
         return Ok(len);
@@ -65,7 +66,8 @@ fn derive_x(book: &mut Book, x: Entry, w: usize, len: usize) -> Result<usize, Re
 // sin, cos, sinh or cosh, whose derivative is of another kind: that of its argument has to be a constant.
 fn derive_wave(book: &mut Book, x: Entry, i: usize, w: usize, len: usize) -> Result<usize, Refusal>
     requires { Ready (seen book.old) x i w len × (1 ≤ x.inside) }
-    ensures { Into (seen book.old) (seen book.new) x i w len sum_entries result derive_wave }
+    ensures into { Into (seen book.old) (seen book.new) x i w len sum_entries result derive_wave }
+    ensures same_slices { slices book.new ≡ slices book.old }
 {
     let Some(d) = prime_of(book, i, x.inside as usize) else {
         return Err(Refusal::TooComplex);
@@ -84,7 +86,8 @@ fn derive_wave(book: &mut Book, x: Entry, i: usize, w: usize, len: usize) -> Res
 // E to a multiple of x.
 fn derive_exp(book: &mut Book, x: Entry, i: usize, w: usize, len: usize) -> Result<usize, Refusal>
     requires { Ready (seen book.old) x i w len × (1 ≤ x.inside) }
-    ensures { Into (seen book.old) (seen book.new) x i w len sum_entries result derive_exp }
+    ensures into { Into (seen book.old) (seen book.new) x i w len sum_entries result derive_exp }
+    ensures same_slices { slices book.new ≡ slices book.old }
 {
     if !arithmetic::add::is_x(book, i, x.inside as usize) {
         return Err(Refusal::TooComplex);
@@ -102,7 +105,8 @@ fn derive_exp(book: &mut Book, x: Entry, i: usize, w: usize, len: usize) -> Resu
 // A logarithm, to a base whose natural logarithm is known.
 fn derive_log(book: &mut Book, x: Entry, i: usize, w: usize, len: usize) -> Result<usize, Refusal>
     requires { Ready (seen book.old) x i w len × (1 ≤ x.inside) }
-    ensures { Into (seen book.old) (seen book.new) x i w len sum_entries result derive_log }
+    ensures into { Into (seen book.old) (seen book.new) x i w len sum_entries result derive_log }
+    ensures same_slices { slices book.new ≡ slices book.old }
 {
     let Some(d) = prime_of(book, i, x.inside as usize) else {
         return Err(Refusal::TooComplex);
@@ -122,7 +126,8 @@ fn derive_log(book: &mut Book, x: Entry, i: usize, w: usize, len: usize) -> Resu
 // 1 over a sum: the sum's square is formed behind the result.
 fn derive_div(book: &mut Book, x: Entry, i: usize, w: usize, len: usize) -> Result<usize, Refusal>
     requires { Ready (seen book.old) x i w len × (1 ≤ x.inside) }
-    ensures { Into (seen book.old) (seen book.new) x i w len (sum_entries + sum_entries) result derive_div }
+    ensures into { Into (seen book.old) (seen book.new) x i w len (sum_entries + sum_entries) result derive_div }
+    ensures same_slices { slices book.new ≡ slices book.old }
 {
     let n = x.inside as usize;
     let c = x.coef;
@@ -146,7 +151,8 @@ fn derive_function(
     len: usize,
 ) -> Result<usize, Refusal>
     requires { Ready (seen book.old) x i w len × (Log ≤ x.kind) }
-    ensures { Into (seen book.old) (seen book.new) x i w len sum_entries result derive_into }
+    ensures into { Into (seen book.old) (seen book.new) x i w len sum_entries result derive_into }
+    ensures same_slices { slices book.new ≡ slices book.old }
 {
     if x.kind == sums::tree::LOG {
         return derive_log(book, x, i, w, len);
@@ -160,7 +166,8 @@ fn derive_function(
 // One entry, whose argument lies from i on, derived into the sum of len cells from w on.
 fn derive_entry(book: &mut Book, x: Entry, i: usize, w: usize, len: usize) -> Result<usize, Refusal>
     requires { Ready (seen book.old) x i w len }
-    ensures { Into (seen book.old) (seen book.new) x i w len (sum_entries + sum_entries) result derive_into }
+    ensures into { Into (seen book.old) (seen book.new) x i w len (sum_entries + sum_entries) result derive_into }
+    ensures same_slices { slices book.new ≡ slices book.old }
 {
     if x.kind == sums::tree::X {
         return derive_x(book, x, w, len);
@@ -176,6 +183,7 @@ fn derive_each(book: &mut Book, j: usize, m: usize, w: usize) -> Result<usize, R
     requires { Source (seen book.old) j m w × Room (seen book.old) (w + (sum_entries + sum_entries)) }
     ensures kept { Kept (seen book.old) (seen book.new) w (w + (sum_entries + sum_entries)) }
     ensures of_one { OfOne (seen book.old) j (j + m) sum_levels (λ t. Agrees result (seen book.new) w (each_into derive_into none t)) }
+    ensures same_slices { slices book.new ≡ slices book.old }
 {
     let end = j + m;
     let mut q = j;
@@ -193,6 +201,7 @@ pub fn expr_deriv(book: &mut Book, j: usize, m: usize, w: usize) -> Result<usize
     requires { Source (seen book.old) j m w × Room (seen book.old) (w + (sum_entries + sum_entries)) }
     ensures kept { Kept (seen book.old) (seen book.new) w (w + (sum_entries + sum_entries)) }
     ensures of_one { OfOne (seen book.old) j (j + m) sum_levels (λ t. Agrees result (seen book.new) w (derive t)) }
+    ensures same_slices { slices book.new ≡ slices book.old }
 {
     let n = derive_each(book, j, m, w)?;
     if n == 0 {

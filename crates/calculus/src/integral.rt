@@ -1,7 +1,7 @@
 // The integral of a sum, one outermost entry a step. It stores and does not add: at equal keys the later number stays.
 ghost use Rattle.std.specs.Prelude.{◌≡◌, ◌+◌, ◌≤◌};
 ghost use Rattle.limits.specs.Limits.{sum_entries, sum_levels};
-ghost use Rattle.cells.specs.Contract.Book.{seen, Room};
+ghost use Rattle.cells.specs.Contract.Book.{seen, Room, slices};
 ghost use Rattle.cells.specs.Contract.Moves.{Kept};
 ghost use Rattle.sums.specs.Tree.Kinds.{Sin};
 ghost use Rattle.calculus.specs.Integral.{integrate_x, integrate_into, integrate};
@@ -19,6 +19,7 @@ fn integrate_x(book: &mut Book, x: Entry, w: usize, len: usize) -> Result<usize,
     requires { Growing (seen book.old) w len × XBehind (seen book.old) w }
     ensures kept { Kept (seen book.old) (seen book.new) w (w + sum_entries) }
     ensures of_one { OfOne (seen book.old) w (w + len) sum_levels (λ s. Agrees result (seen book.new) w (integrate_x x s)) }
+    ensures same_slices { slices book.new ≡ slices book.old }
 {
     let p = x.num + 1.0;
     let c = x.coef;
@@ -55,7 +56,8 @@ fn integrate_wave(
     len: usize,
 ) -> Result<usize, Refusal>
     requires { Ready (seen book.old) x i w len × XBehind (seen book.old) w × (Sin ≤ x.kind) }
-    ensures { Into (seen book.old) (seen book.new) x i w len sum_entries result integrate_into }
+    ensures into { Into (seen book.old) (seen book.new) x i w len sum_entries result integrate_into }
+    ensures same_slices { slices book.new ≡ slices book.old }
 {
     if !arithmetic::add::is_x(book, i, x.inside as usize) {
         return Err(Refusal::TooComplex);
@@ -81,7 +83,8 @@ fn integrate_entry(
     len: usize,
 ) -> Result<usize, Refusal>
     requires { Ready (seen book.old) x i w len × XBehind (seen book.old) w }
-    ensures { Into (seen book.old) (seen book.new) x i w len sum_entries result integrate_into }
+    ensures into { Into (seen book.old) (seen book.new) x i w len sum_entries result integrate_into }
+    ensures same_slices { slices book.new ≡ slices book.old }
 {
     if x.kind == sums::tree::X {
         return integrate_x(book, x, w, len);
@@ -97,6 +100,7 @@ fn integrate_each(book: &mut Book, j: usize, m: usize, w: usize) -> Result<usize
     requires { Source (seen book.old) j m w × Room (seen book.old) (w + (sum_entries + sum_entries)) × XBehind (seen book.old) w }
     ensures kept { Kept (seen book.old) (seen book.new) w (w + sum_entries) }
     ensures of_one { OfOne (seen book.old) j (j + m) sum_levels (λ t. Agrees result (seen book.new) w (integrate t)) }
+    ensures same_slices { slices book.new ≡ slices book.old }
 {
     let end = j + m;
     let mut q = j;
@@ -114,6 +118,7 @@ pub fn expr_integral(book: &mut Book, j: usize, m: usize, w: usize) -> Result<us
     requires { Source (seen book.old) j m w × Room (seen book.old) (w + (sum_entries + sum_entries)) }
     ensures kept { Kept (seen book.old) (seen book.new) w (w + (sum_entries + sum_entries)) }
     ensures of_one { OfOne (seen book.old) j (j + m) sum_levels (λ t. Agrees result (seen book.new) w (integrate t)) }
+    ensures same_slices { slices book.new ≡ slices book.old }
 {
     let x = Entry {
         kind: sums::tree::X,

@@ -92,6 +92,36 @@ pub unread : {b₀ b : Book} {i j n k : ℕ} → Copied b₀ b₀ b i j k → j 
 unread {i = i} {j = j} s h (under a) = s.below (i + j) (omega arith)
 unread {i = i} {j = j} s h (over a) = s.above (i + j) (omega arith)
 
+-- ---- a copy goes down from the last: when it has come to j, the cells from j on are copied
+
+pub record CopiedFrom (b₀ b : Book) (i j n k : ℕ) : Type 0 where
+  pub below : (x : ℕ) → x < k + j → cell b x ≡ cell b₀ x
+  pub copied : (x : ℕ) → j ≤ x → x < n → cell b (k + x) ≡ cell b₀ (i + x)
+  pub above : (x : ℕ) → k + n ≤ x → cell b x ≡ cell b₀ x
+  pub long : SameRoom b₀ b
+
+pub copied-from_none : (b : Book) (i n k : ℕ) → CopiedFrom b b i n n k
+copied-from_none b i n k = record { below = λ x h. refl; copied = λ x h p. absurd (omega arith); above = λ x h. refl; long = same-room-refl b }
+
+pub copied-from_more : (b₀ b : Book) (i j n k : ℕ) → CopiedFrom b₀ b i j n k → 0 < j → j ≤ n → i < k → Room b₀ (k + n)
+    → CopiedFrom b₀ (written b (k + (j - 1)) (cell b (i + (j - 1)))) i (j - 1) n k
+copied-from_more b₀ b i j n k s p q r room₀ =
+    let long = s.long in
+    let place = k + (j - 1) in
+    let c = cell b (i + (j - 1)) in
+    let room : Room b (place + 1) = omega arith in
+    record {
+      below = λ x h. wrote b place c x _ room (λ e. absurd (omega arith)) (λ m. s.below x (omega arith));
+      copied = λ x h l.
+          wrote b place c (k + x) _ room (λ e. s.below (i + (j - 1)) (omega arith) ∙ ap (cell b₀) (omega arith))
+          (λ m. s.copied x (⊎_elim (λ e. absurd (m (omega arith))) (λ e. omega arith) (eq-or-lt_of_le h)) l);
+      above = λ x h. wrote b place c x _ room (λ e. absurd (omega arith)) (λ m. s.above x h);
+      long = same-room-trans long (long-written b place c);
+    }
+
+pub copied-from-done : {b₀ b : Book} {i j n k : ℕ} → CopiedFrom b₀ b i j n k → j ≡ 0 → Copied b₀ b₀ b i n k
+copied-from-done s h = record { below = λ x l. s.below x (omega arith); copied = λ x l. s.copied x (omega arith) l; above = s.above; long = s.long }
+
 -- ---- a gap opened, its first cell written, the others copied in
 
 pub inserted-from : {g b b₁ b₂ b₃ : Book} {i k e : ℕ} {x : Entry} → Moved b b₁ k e (1 + x.inside) → Put b₁ b₂ k x → Copied g b₂ b₃ i x.inside (k + 1) → k ≤ e

@@ -2,8 +2,8 @@
 // re's and im's. Only `load` and `store` say what a cell means (and `find_power` in sums, which reads the number's word alone); the others move cells as they are.
 #![tactic(auto)]
 
-ghost use Rattle.std.specs.Prelude.{◌+◌, ◌≤◌, ◌≡◌};
-ghost use Rattle.cells.specs.Contract.Book.{seen, Room, Plain, at};
+ghost use Rattle.std.specs.Prelude.{◌+◌, ◌≤◌, ◌<◌, ◌≡◌};
+ghost use Rattle.cells.specs.Contract.Book.{seen, slices, Room, Plain, at};
 ghost use Rattle.cells.specs.Contract.Moves.{Apart, Put, Moved, Copied, Inserted};
 
 use numbers::complex::Complex;
@@ -45,7 +45,8 @@ impl<'a> Book<'a> {
     // Writes x as the cell at k.
     pub fn store(&mut self, k: usize, x: Entry)
         requires { Room (seen self.old) (k + 1) × Plain x }
-        ensures { Put (seen self.old) (seen self.new) k x }
+        ensures put { Put (seen self.old) (seen self.new) k x }
+        ensures same_slices { slices self.new ≡ slices self.old }
     {
         let c = x.coef;
         let num = f64::to_bits(x.num);
@@ -56,41 +57,92 @@ impl<'a> Book<'a> {
         self.numbers[k] = [num, re, im];
     }
 
-    // The cells from k up to e are moved up by d.
+    // The cells from k up to e are moved up by d, the last first.
     pub fn open_gap(&mut self, k: usize, e: usize, d: usize)
         requires { (k ≤ e) × Room (seen self.old) (e + d) }
-        ensures { Moved (seen self.old) (seen self.new) k e d }
+        ensures moved { Moved (seen self.old) (seen self.new) k e d }
+        ensures same_slices { slices self.new ≡ slices self.old }
     {
-        self.kinds.copy_within(k..e, k + d);
-        self.insides.copy_within(k..e, k + d);
-        self.numbers.copy_within(k..e, k + d);
+        let kinds = &mut *self.kinds;
+        let insides = &mut *self.insides;
+        let numbers = &mut *self.numbers;
+        for j in (k..e).rev() {
+            kinds[j + d] = kinds[j];
+            insides[j + d] = insides[j];
+            numbers[j + d] = numbers[j];
+        }
     }
 
     // The n cells from i on of another book are copied to k.
     pub fn copy_in(&mut self, from: &Book, i: usize, n: usize, k: usize)
         requires { Room (seen from.now) (i + n) × Room (seen self.old) (k + n) }
-        ensures { Copied (seen from.now) (seen self.old) (seen self.new) i n k }
+        ensures copied { Copied (seen from.now) (seen self.old) (seen self.new) i n k }
+        ensures same_slices { slices self.new ≡ slices self.old }
     {
-        self.kinds[k..k + n].copy_from_slice(&from.kinds[i..i + n]);
-        self.insides[k..k + n].copy_from_slice(&from.insides[i..i + n]);
-        self.numbers[k..k + n].copy_from_slice(&from.numbers[i..i + n]);
+        let kinds = &mut *self.kinds;
+        let insides = &mut *self.insides;
+        let numbers = &mut *self.numbers;
+        let from_kinds = &*from.kinds;
+        let from_insides = &*from.insides;
+        let from_numbers = &*from.numbers;
+        for j in 0..n {
+            kinds[k + j] = from_kinds[i + j];
+            insides[k + j] = from_insides[i + j];
+            numbers[k + j] = from_numbers[i + j];
+        }
+    }
+
+    // The n cells from i on are copied to k, the first first.
+    fn copy_down(&mut self, i: usize, n: usize, k: usize)
+        requires { (k ≤ i) × Room (seen self.old) (i + n) }
+        ensures copied { Copied (seen self.old) (seen self.old) (seen self.new) i n k }
+        ensures same_slices { slices self.new ≡ slices self.old }
+    {
+        let kinds = &mut *self.kinds;
+        let insides = &mut *self.insides;
+        let numbers = &mut *self.numbers;
+        for j in 0..n {
+            kinds[k + j] = kinds[i + j];
+            insides[k + j] = insides[i + j];
+            numbers[k + j] = numbers[i + j];
+        }
+    }
+
+    // The n cells from i on are copied to k, the last first.
+    fn copy_up(&mut self, i: usize, n: usize, k: usize)
+        requires { (i < k) × Room (seen self.old) (k + n) }
+        ensures copied { Copied (seen self.old) (seen self.old) (seen self.new) i n k }
+        ensures same_slices { slices self.new ≡ slices self.old }
+    {
+        let kinds = &mut *self.kinds;
+        let insides = &mut *self.insides;
+        let numbers = &mut *self.numbers;
+        for top in (0..n).rev() {
+            kinds[k + top] = kinds[i + top];
+            insides[k + top] = insides[i + top];
+            numbers[k + top] = numbers[i + top];
+        }
     }
 
     // The n cells from i on are copied to k.
     pub fn copy_within(&mut self, i: usize, n: usize, k: usize)
         requires { Room (seen self.old) (i + n) × Room (seen self.old) (k + n) }
-        ensures { Copied (seen self.old) (seen self.old) (seen self.new) i n k }
+        ensures copied { Copied (seen self.old) (seen self.old) (seen self.new) i n k }
+        ensures same_slices { slices self.new ≡ slices self.old }
     {
-        self.kinds.copy_within(i..i + n, k);
-        self.insides.copy_within(i..i + n, k);
-        self.numbers.copy_within(i..i + n, k);
+        if k <= i {
+            self.copy_down(i, n, k);
+        } else {
+            self.copy_up(i, n, k);
+        }
     }
 
     // Puts x and its inside, which lies from i on in the same book, in at k, before the cells up to e.
     pub fn insert(&mut self, x: Entry, i: usize, k: usize, e: usize)
         requires plain { Plain x × Room (seen self.old) (i + x.inside) × Apart i x.inside k (e + (1 + x.inside)) }
         requires k_le_e { (k ≤ e) × Room (seen self.old) (e + (1 + x.inside)) }
-        ensures { Inserted (seen self.old) (seen self.old) (seen self.new) i k e x }
+        ensures inserted { Inserted (seen self.old) (seen self.old) (seen self.new) i k e x }
+        ensures same_slices { slices self.new ≡ slices self.old }
     {
         let n = x.inside as usize;
         self.open_gap(k, e, 1 + n);

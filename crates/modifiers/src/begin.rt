@@ -3,7 +3,7 @@ ghost use Rattle.std.specs.Prelude.{◌≡◌, ◌-◌};
 ghost use Rattle.formats.specs.Names.{modifier_of};
 ghost use Rattle.modifiers.specs.Holding.{holding};
 ghost use Rattle.modifiers.specs.Contract.Plans.{held_by, lent_by, begin};
-ghost use Rattle.stack.specs.Contract.Arena.{slots, places};
+ghost use Rattle.stack.specs.Contract.Arena.{slots, places, all_slices};
 ghost use Rattle.stack.specs.Contract.Agree.{Ready};
 ghost use Rattle.modifiers.specs.Contract.Begins.{Begins};
 ghost use Rattle.modifiers.specs.Contract.Manners.{manner_of};
@@ -71,7 +71,8 @@ fn lent_by(m: Modifier) -> usize
 // Holds what a modifier other than Gap and By holds.
 fn hold_for(m: Modifier, n: usize, at: usize, arena: &mut Arena, v: usize, env: AlgebraEnv) -> Begun
     requires { Ready (slots arena.old) v env }
-    ensures { Begins (slots arena.old) (slots arena.new) v env result (λ st f. holding at (held_by m n) (lent_by m) (places - v) st f) }
+    ensures begins { Begins (slots arena.old) (slots arena.new) v env result (λ st f. holding at (held_by m n) (lent_by m) (places - v) st f) }
+    ensures same_slices { all_slices arena.new ≡ all_slices arena.old }
 {
     let k = held_by(m, n);
     let c = lent_by(m);
@@ -81,7 +82,8 @@ fn hold_for(m: Modifier, n: usize, at: usize, arena: &mut Arena, v: usize, env: 
 // What a modifier does before its first body runs, where the first in the list takes n arguments.
 pub fn begin(code: u8, n: usize, at: usize, arena: &mut Arena, v: usize, env: AlgebraEnv) -> Begun
     requires { Ready (slots arena.old) v env }
-    ensures { Begins (slots arena.old) (slots arena.new) v env result (λ st f. begin (modifier_of code) n at (places - v) st f) }
+    ensures begins { Begins (slots arena.old) (slots arena.new) v env result (λ st f. begin (modifier_of code) n at (places - v) st f) }
+    ensures same_slices { all_slices arena.new ≡ all_slices arena.old }
 {
     let m = formats::record::modifier_of(code);
     match begins_by(m) {

@@ -2,7 +2,7 @@
 ghost use Rattle.std.specs.Prelude.{◌≡◌, ◌+◌, ◌-◌, ◌≤◌, leb};
 ghost use Rattle.limits.specs.Limits.{handled_needed};
 ghost use Rattle.limits.specs.declared.Refusal.TheVariants.{TooManyVariables};
-ghost use Rattle.stack.specs.Contract.Arena.{slots, places};
+ghost use Rattle.stack.specs.Contract.Arena.{slots, places, all_slices};
 ghost use Rattle.stack.specs.State.{taking};
 ghost use Rattle.stack.specs.Contract.Agree.{Ready};
 ghost use Rattle.modifiers.specs.Holding.{dropping, copying};
@@ -40,7 +40,8 @@ fn too_few(at: usize, env: AlgebraEnv) -> Begun
 // The top k sums are taken off the stack and held, just below v.
 pub fn hold(k: usize, at: usize, arena: &mut Arena, v: usize, env: AlgebraEnv) -> Begun
     requires { Ready (slots arena.old) v env }
-    ensures { Begins (slots arena.old) (slots arena.new) v env result (λ st f. taking at k st f) }
+    ensures begins { Begins (slots arena.old) (slots arena.new) v env result (λ st f. taking at k st f) }
+    ensures same_slices { all_slices arena.new ≡ all_slices arena.old }
 {
     let used = env.used;
     let d = stack::slots::measure(arena, WORKING, used, k);
@@ -67,7 +68,8 @@ pub fn drop_top(at: usize, arena: &Arena, v: usize, env: AlgebraEnv) -> Begun
 // The deepest of the top k, d cells from w on, is put below them once more.
 fn copy_below(w: usize, d: usize, at: usize, arena: &mut Arena, v: usize, env: AlgebraEnv) -> Begun
     requires { Ready (slots arena.old) v env × (w + d ≤ env.used) }
-    ensures { CopiesBelow (slots arena.old) (slots arena.new) w d at v env result }
+    ensures copies_below { CopiesBelow (slots arena.old) (slots arena.new) w d at v env result }
+    ensures same_slices { all_slices arena.new ≡ all_slices arena.old }
 {
     let used = env.used;
     if v < used + d {
@@ -87,7 +89,8 @@ fn copy_below(w: usize, d: usize, at: usize, arena: &mut Arena, v: usize, env: A
 // A copy of the deepest of the top k is put below them.
 pub fn copy_under(k: usize, at: usize, arena: &mut Arena, v: usize, env: AlgebraEnv) -> Begun
     requires { Ready (slots arena.old) v env }
-    ensures { Begins (slots arena.old) (slots arena.new) v env result (λ st f. copying at k (places - v) st f) }
+    ensures begins { Begins (slots arena.old) (slots arena.new) v env result (λ st f. copying at k (places - v) st f) }
+    ensures same_slices { all_slices arena.new ≡ all_slices arena.old }
 {
     let used = env.used;
     let d = stack::slots::measure(arena, WORKING, used, k);

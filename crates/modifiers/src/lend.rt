@@ -1,7 +1,7 @@
 // What is held is lent, as copies on the stack, and put back. The stack lies in the arena behind the working places; from v on lies what is held.
 ghost use Rattle.std.specs.Prelude.{◌≡◌, List, ◌+◌, ◌-◌, length};
 ghost use Rattle.sums.specs.Tree.Sums.{Sum};
-ghost use Rattle.stack.specs.Contract.Arena.{slots, Space, places};
+ghost use Rattle.stack.specs.Contract.Arena.{slots, Space, places, all_slices};
 ghost use Rattle.stack.specs.Contract.Stacked.{Stacked};
 ghost use Rattle.stack.specs.State.{lend};
 ghost use Rattle.stack.specs.Contract.Agree.{Ready, Does};
@@ -25,8 +25,9 @@ pub fn lend_deepest(
 ) -> Ran
     requires { Ready (slots arena.old) v env × Space (slots arena.old) (v + m)
         × ((ss : List Sum) × Stacked (slots arena.old) v (v + m) ss × (length ss ≡ k)) }
-    ensures { (ss : List Sum) → Stacked (slots arena.old) v (v + m) ss → length ss ≡ k → Does (slots arena.old)
+    ensures stacked { (ss : List Sum) → Stacked (slots arena.old) v (v + m) ss → length ss ≡ k → Does (slots arena.old)
         (slots arena.new) v env result (λ st. lend at (places - v) (deepest c ss) st) }
+    ensures same_slices { all_slices arena.new ≡ all_slices arena.old }
 {
     let used = env.used;
     let d = stack::slots::measure(arena, v, v + m, crate::hold::less(k, c));
@@ -54,7 +55,8 @@ pub fn hold_and_lend(
     env: AlgebraEnv,
 ) -> Begun
     requires { Ready (slots arena.old) v env }
-    ensures { Begins (slots arena.old) (slots arena.new) v env result (λ st f. holding at k c (places - v) st f) }
+    ensures begins { Begins (slots arena.old) (slots arena.new) v env result (λ st f. holding at k c (places - v) st f) }
+    ensures same_slices { all_slices arena.new ≡ all_slices arena.old }
 {
     let h = crate::hold::hold(k, at, arena, v, env);
     let Begun::Held(e, m) = h else {
@@ -71,7 +73,8 @@ pub fn hold_and_lend(
 // Sums of m cells are held from v on: they are put back on the stack.
 pub fn put_back(m: usize, arena: &mut Arena, v: usize, env: AlgebraEnv) -> AlgebraEnv
     requires { Ready (slots arena.old) v env × Space (slots arena.old) (v + m) × ((ss : List Sum) × Stacked (slots arena.old) v (v + m) ss) }
-    ensures { PutsBack (slots arena.old) (slots arena.new) v m env result }
+    ensures puts_back { PutsBack (slots arena.old) (slots arena.new) v m env result }
+    ensures same_slices { all_slices arena.new ≡ all_slices arena.old }
 {
     let used = env.used;
     stack::slots::sink(arena, v, used, m);

@@ -2,7 +2,7 @@
 // places, and no other place is written: operands lie apart from all of these and stay as they are.
 ghost use Rattle.std.specs.Prelude.{◌≡◌, List, ℕ, ◌+◌, ◌≤◌, Float};
 ghost use Rattle.limits.specs.Limits.{sum_entries, sum_levels};
-ghost use Rattle.cells.specs.Contract.Book.{book as listed, seen, Room};
+ghost use Rattle.cells.specs.Contract.Book.{book as listed, seen, Room, slices};
 ghost use Rattle.cells.specs.Contract.Moves.{Kept};
 ghost use Rattle.sums.specs.Tree.Kinds.{X, CosH};
 ghost use Rattle.sums.specs.Tree.Sums.{Sum, none};
@@ -42,6 +42,7 @@ fn times_x(book: &mut Book, power: f64, j: usize, m: usize, p: usize) -> Result<
     requires { Operand (seen book.old) j m p × Room (seen book.old) (p + sum_entries) }
     ensures kept { Kept (seen book.old) (seen book.new) p (p + sum_entries) }
     ensures of_one { OfOne (seen book.old) j (j + m) sum_levels (λ t. Agrees result (seen book.new) p (product (x_to power) t)) }
+    ensures same_slices { slices book.new ≡ slices book.old }
 {
     if !all_x(book, j, m) {
         return Err(Refusal::TooComplex);
@@ -72,6 +73,7 @@ fn over_div(
     requires { Source (seen book.old) j m w × Working (seen book.old) w n }
     ensures kept { Kept (seen book.old) (seen book.new) w (w + (sum_entries + sum_entries)) }
     ensures of_two { OfTwo (seen book.old) w (w + n) j (j + m) sum_levels (λ s v. Agrees result (seen book.new) w (over_div x c s v)) }
+    ensures same_slices { slices book.new ≡ slices book.old }
 {
     if arithmetic::add::is_one(x) {
         return arithmetic::add::add_each(book, Change::Times(c), j, m, w, n);
@@ -93,6 +95,7 @@ fn over_other(
     requires { By (seen book.old) y j w × Working (seen book.old) w n }
     ensures kept { Kept (seen book.old) (seen book.new) w (w + (sum_entries + sum_entries)) }
     ensures of_divisor { OfDivisor (seen book.old) w (w + n) y j (λ s v. Agrees result (seen book.new) w (over_other y c s v)) }
+    ensures same_slices { slices book.new ≡ slices book.old }
 {
     let p = w + SUM_ENTRIES;
     let head = Entry {
@@ -175,6 +178,7 @@ fn div_term(
     requires { (X ≤ x.kind) × (x.kind ≤ CosH) × By (seen book.old) y j w × Working (seen book.old) w n }
     ensures kept { Kept (seen book.old) (seen book.new) w (w + (sum_entries + sum_entries)) }
     ensures of_divisor { OfDivisor (seen book.old) w (w + n) y j (λ s v. Agrees result (seen book.new) w (div_term y v x s)) }
+    ensures same_slices { slices book.new ≡ slices book.old }
 {
     let code = arithmetic::quotient_code(x.kind, y.kind);
     let c = x.coef.div(y.coef);
@@ -201,6 +205,7 @@ fn div_each(
     requires { Source (seen book.old) i n w × By (seen book.old) y j w × Room (seen book.old) (w + (sum_entries + sum_entries)) }
     ensures kept { Kept (seen book.old) (seen book.new) w (w + (sum_entries + sum_entries)) }
     ensures of_divisor { OfDivisor (seen book.old) i (i + n) y j (λ s v. Agrees result (seen book.new) w (each_into (λ x t u. div_term y v x u) none s)) }
+    ensures same_slices { slices book.new ≡ slices book.old }
 {
     let end = i + n;
     let mut q = i;
@@ -226,6 +231,7 @@ fn constant_by(
     requires { Operands (seen book.old) i n j m w }
     ensures kept { Kept (seen book.old) (seen book.new) w (w + (sum_entries + sum_entries)) }
     ensures of_two { OfTwo (seen book.old) i (i + n) j (j + m) sum_levels (λ s t. Agrees result (seen book.new) w (div_by_several s t (at c))) }
+    ensures same_slices { slices book.new ≡ slices book.old }
 {
     let zero = c.is_zero();
     let one = c.is_one();
@@ -257,6 +263,7 @@ fn by_several(
     requires { Operands (seen book.old) i n j m w }
     ensures kept { Kept (seen book.old) (seen book.new) w (w + (sum_entries + sum_entries)) }
     ensures of_two { OfTwo (seen book.old) i (i + n) j (j + m) sum_levels (λ s t. Agrees result (seen book.new) w (div_by_several s t (as_constant s))) }
+    ensures same_slices { slices book.new ≡ slices book.old }
 {
     match arithmetic::add::as_constant(book, i, n) {
         Some(c) => constant_by(book, c, i, n, j, m, w),
@@ -276,6 +283,7 @@ pub fn div(
     requires { Operands (seen book.old) i n j m w }
     ensures kept { Kept (seen book.old) (seen book.new) w (w + (sum_entries + sum_entries)) }
     ensures of_two { OfTwo (seen book.old) i (i + n) j (j + m) sum_levels (λ s t. Agrees result (seen book.new) w (quotient s t)) }
+    ensures same_slices { slices book.new ≡ slices book.old }
 {
     let y = book.load(j);
     if 1 + y.inside as usize != m {
@@ -292,6 +300,7 @@ pub fn recip(book: &mut Book, i: usize, n: usize, w: usize) -> Result<usize, Ref
     requires { (1 ≤ n) × Source (seen book.old) i n w × Room (seen book.old) (w + (sum_entries + sum_entries)) }
     ensures kept { Kept (seen book.old) (seen book.new) w (w + (sum_entries + sum_entries)) }
     ensures of_one { OfOne (seen book.old) i (i + n) sum_levels (λ s. Agrees result (seen book.new) w (reciprocal s)) }
+    ensures same_slices { slices book.new ≡ slices book.old }
 {
     let y = book.load(i);
     if 1 + y.inside as usize != n {

@@ -6,7 +6,7 @@ ghost use Rattle.limits.specs.Limits.{sum_entries, sum_levels, highest_power};
 ghost use Rattle.numbers.specs.Numbers.{small_whole};
 ghost use Rattle.numbers.specs.Complex.Arith.{real, one};
 ghost use Rattle.cells.specs.declared.Entry.{Entry};
-ghost use Rattle.cells.specs.Contract.Book.{seen, Room};
+ghost use Rattle.cells.specs.Contract.Book.{seen, Room, slices};
 ghost use Rattle.cells.specs.Contract.Moves.{Apart, Kept};
 ghost use Rattle.sums.specs.Tree.Sums.{Sum, entry, size, len};
 ghost use Rattle.sums.specs.Tree.Kinds.{X};
@@ -116,6 +116,7 @@ fn root_each(book: &mut Book, e: f64, p: usize, n: usize) -> Result<usize, Refus
     requires { (finite e ≡ true) × ((s : Sum) × Rooting (seen book.old) p n s) }
     ensures kept { Kept (seen book.old) (seen book.new) p (p + n) }
     ensures agrees { (s : Sum) → Rooting (seen book.old) p n s → Agrees result (seen book.new) p (rooted e s) }
+    ensures same_slices { slices book.new ≡ slices book.old }
 {
     for k in p..p + n {
         let x = root_entry(book.load(k), e);
@@ -132,6 +133,7 @@ pub fn root(book: &mut Book, e: f64, i: usize, n: usize, p: usize) -> Result<usi
     requires { (finite e ≡ true) × ((s : Sum) × Rooting (seen book.old) i n s) × Apart i n p (p + sum_entries) × Room (seen book.old) (p + sum_entries) }
     ensures kept { Kept (seen book.old) (seen book.new) p (p + sum_entries) }
     ensures agrees { (s : Sum) → Rooting (seen book.old) i n s → Agrees result (seen book.new) p (rooted e s) }
+    ensures same_slices { slices book.new ≡ slices book.old }
 {
     book.copy_within(i, n, p);
     root_each(book, e, p, n)
@@ -165,6 +167,7 @@ fn multiply(book: &mut Book, times: u64, i: usize, n: usize, w: usize) -> Raised
     ensures kept { Kept (seen book.old) (seen book.new) w (w + (sum_entries + sum_entries)) }
     ensures of_one { OfOne (seen book.old) i (i + n) sum_levels (λ s. Agrees result.formed (seen book.new) w (raised times s s)) }
     ensures of_one_2 { OfOne (seen book.old) i (i + n) sum_levels (λ s. Counted result (raised_pairs times s s)) }
+    ensures same_slices { slices book.new ≡ slices book.old }
 {
     let terms = sums::order::count(book, i, n);
     let flat = terms == n;
@@ -190,6 +193,7 @@ fn raise_power(book: &mut Book, times: u64, x: Entry, w: usize) -> Result<usize,
     requires { (0 < times) × Room (seen book.old) (w + (sum_entries + sum_entries)) }
     ensures kept { Kept (seen book.old) (seen book.new) w (w + (sum_entries + sum_entries)) }
     ensures agrees { (j : Sum) → Agrees result (seen book.new) w (raised times (single X x.num j x.coef) (single X x.num j x.coef)) }
+    ensures same_slices { slices book.new ≡ slices book.old }
 {
     let mut num = x.num;
     let mut c = x.coef;
@@ -214,6 +218,7 @@ fn raise_one(book: &mut Book, times: u64, i: usize, w: usize) -> Raised
     ensures kept { Kept (seen book.old) (seen book.new) w (w + (sum_entries + sum_entries)) }
     ensures of_one { OfOne (seen book.old) i (i + 1) sum_levels (λ s. Agrees result.formed (seen book.new) w (raised times s s)) }
     ensures of_one_2 { OfOne (seen book.old) i (i + 1) sum_levels (λ s. Counted result (raised_pairs times s s)) }
+    ensures same_slices { slices book.new ≡ slices book.old }
 {
     let x = book.load(i);
     if x.kind == sums::tree::X {
@@ -228,6 +233,7 @@ fn raise(book: &mut Book, times: u64, i: usize, n: usize, w: usize) -> Raised
     ensures kept { Kept (seen book.old) (seen book.new) w (w + (sum_entries + sum_entries)) }
     ensures of_one { OfOne (seen book.old) i (i + n) sum_levels (λ s. Agrees result.formed (seen book.new) w (raised times s s)) }
     ensures of_one_2 { OfOne (seen book.old) i (i + n) sum_levels (λ s. Counted result (raised_pairs times s s)) }
+    ensures same_slices { slices book.new ≡ slices book.old }
 {
     if times == 0 {
         book.copy_within(i, n, w);
@@ -245,6 +251,7 @@ pub fn whole_power(book: &mut Book, e: f64, i: usize, n: usize, w: usize) -> Rai
     ensures kept { Kept (seen book.old) (seen book.new) w (w + (sum_entries + sum_entries)) }
     ensures of_one { OfOne (seen book.old) i (i + n) sum_levels (λ s. Agrees result.formed (seen book.new) w (whole_power s (small_whole e))) }
     ensures of_one_2 { OfOne (seen book.old) i (i + n) sum_levels (λ s. Counted result (whole_pairs s (small_whole e))) }
+    ensures same_slices { slices book.new ≡ slices book.old }
 {
     match numbers::small_whole(e) {
         Some(k) => {
@@ -269,6 +276,7 @@ pub fn power_by(book: &mut Book, e: f64, i: usize, n: usize, w: usize) -> Raised
     ensures kept { Kept (seen book.old) (seen book.new) w (w + (sum_entries + sum_entries)) }
     ensures of_one { OfOne (seen book.old) i (i + n) sum_levels (λ s. Agrees result.formed (seen book.new) w (power s e)) }
     ensures of_one_2 { OfOne (seen book.old) i (i + n) sum_levels (λ s. Counted result (power_pairs s e)) }
+    ensures same_slices { slices book.new ≡ slices book.old }
 {
     if numbers::is_whole(e) & (0.0 <= e) {
         return whole_power(book, e, i, n, w);
@@ -323,6 +331,7 @@ pub fn over(
     requires { GoodHead (entry kind n num one) × Operand (seen book.old) i n p × Room (seen book.old) (p + sum_entries) }
     ensures kept { Kept (seen book.old) (seen book.new) p (p + sum_entries) }
     ensures of_one { OfOne (seen book.old) i (i + n) sum_levels (λ s. Agrees result (seen book.new) p (alone kind num s one)) }
+    ensures same_slices { slices book.new ≡ slices book.old }
 {
     let x = Entry {
         kind: kind,
@@ -339,6 +348,7 @@ pub fn pow(book: &mut Book, i: usize, n: usize, j: usize, m: usize, w: usize) ->
     ensures kept { Kept (seen book.old) (seen book.new) w (w + (sum_entries + sum_entries)) }
     ensures of_two { OfTwo (seen book.old) i (i + n) j (j + m) sum_levels (λ s t. Agrees result.formed (seen book.new) w (pow s t)) }
     ensures of_two_2 { OfTwo (seen book.old) i (i + n) j (j + m) sum_levels (λ s t. Counted result (pow_pairs s t)) }
+    ensures same_slices { slices book.new ≡ slices book.old }
 {
     if is_euler(arithmetic::add::as_constant(book, i, n)) & arithmetic::add::is_x(book, j, m) {
         let exp = sums::tree::EXP;
@@ -358,6 +368,7 @@ fn number_power(book: &mut Book, base: f64, e: f64, p: usize) -> Result<usize, R
     requires { (finite base ≡ true) × (finite e ≡ true) × Room (seen book.old) (p + sum_entries) }
     ensures kept { Kept (seen book.old) (seen book.new) p (p + sum_entries) }
     ensures agrees { Agrees result (seen book.new) p (power (constant (real base)) e) }
+    ensures same_slices { slices book.new ≡ slices book.old }
 {
     let mut other_kinds = [0u8; THREE_SUMS];
     let mut other_insides = [0u8; THREE_SUMS];
@@ -386,6 +397,7 @@ pub fn pow_of(book: &mut Book, base: f64, i: usize, n: usize, p: usize) -> Resul
     requires { (finite base ≡ true) × Operand (seen book.old) i n p × Room (seen book.old) (p + sum_entries) }
     ensures kept { Kept (seen book.old) (seen book.new) p (p + sum_entries) }
     ensures of_one { OfOne (seen book.old) i (i + n) sum_levels (λ s. Agrees result (seen book.new) p (pow (constant (real base)) s)) }
+    ensures same_slices { slices book.new ≡ slices book.old }
 {
     let c = Complex { re: base, im: 0.0 };
     if is_euler(Some(c)) & arithmetic::add::is_x(book, i, n) {
@@ -409,6 +421,7 @@ pub fn log(
     requires { (0 < n) × Operand (seen book.old) i n p × Held (seen book.old) j (j + m) sum_levels × Room (seen book.old) (p + sum_entries) }
     ensures kept { Kept (seen book.old) (seen book.new) p (p + sum_entries) }
     ensures of_two { OfTwo (seen book.old) i (i + n) j (j + m) sum_levels (λ s t. Agrees result (seen book.new) p (log s t)) }
+    ensures same_slices { slices book.new ≡ slices book.old }
 {
     match real_of(arithmetic::add::as_constant(book, j, m)) {
         Some(base) => over(book, sums::tree::LOG, base, i, n, p),
@@ -421,6 +434,7 @@ pub fn log_of(book: &mut Book, base: f64, i: usize, n: usize, p: usize) -> Resul
     requires { (0 < n) × Operand (seen book.old) i n p × Room (seen book.old) (p + sum_entries) }
     ensures kept { Kept (seen book.old) (seen book.new) p (p + sum_entries) }
     ensures of_one { OfOne (seen book.old) i (i + n) sum_levels (λ s. Agrees result (seen book.new) p (log s (constant (real base)))) }
+    ensures same_slices { slices book.new ≡ slices book.old }
 {
     over(book, sums::tree::LOG, base, i, n, p)
 }

@@ -2,14 +2,14 @@
 // SUM_ENTRIES places from w on, the SUM_ENTRIES behind them are working places, and no other place is written.
 #![tactic(auto)]
 
-ghost use Rattle.std.specs.Prelude.{◌+◌, ◌≤◌};
+ghost use Rattle.std.specs.Prelude.{◌≡◌, ◌+◌, ◌≤◌};
 ghost use Rattle.arithmetic.specs.Add.Contract.Operands.{Operand, Source};
 ghost use Rattle.arithmetic.specs.Adding.{neg_sum, add_sums};
 ghost use Rattle.arithmetic.specs.Pairs.{pairs};
 ghost use Rattle.arithmetic.specs.Power.{not_sum, complex_sum};
 ghost use Rattle.arithmetic.specs.Product.{product};
 ghost use Rattle.arithmetic.specs.Singles.{constant};
-ghost use Rattle.cells.specs.Contract.Book.{seen, Room};
+ghost use Rattle.cells.specs.Contract.Book.{seen, Room, slices};
 ghost use Rattle.cells.specs.Contract.Moves.{Kept};
 ghost use Rattle.limits.specs.Limits.{sum_entries, sum_levels};
 ghost use Rattle.numbers.specs.Complex.Arith.{imaginary};
@@ -31,6 +31,7 @@ fn copied(book: &mut Book, i: usize, n: usize, p: usize) -> Result<usize, Refusa
     requires { Operand (seen book.old) i n p × Room (seen book.old) (p + sum_entries) }
     ensures kept { Kept (seen book.old) (seen book.new) p (p + sum_entries) }
     ensures of_one { OfOne (seen book.old) i (i + n) sum_levels (λ s. Agrees result (seen book.new) p (sum s)) }
+    ensures same_slices { slices book.new ≡ slices book.old }
 {
     book.copy_within(i, n, p);
     Ok(n)
@@ -41,6 +42,7 @@ fn negated(book: &mut Book, i: usize, n: usize, p: usize) -> Result<usize, Refus
     requires { Operand (seen book.old) i n p × Room (seen book.old) (p + sum_entries) }
     ensures kept { Kept (seen book.old) (seen book.new) p (p + sum_entries) }
     ensures of_one { OfOne (seen book.old) i (i + n) sum_levels (λ s. Agrees result (seen book.new) p (sum (neg_sum s))) }
+    ensures same_slices { slices book.new ≡ slices book.old }
 {
     arithmetic::add::expr_neg(book, i, n, p);
     Ok(n)
@@ -51,6 +53,7 @@ fn not(book: &mut Book, i: usize, n: usize, p: usize) -> Result<usize, Refusal>
     requires { Operand (seen book.old) i n p × Room (seen book.old) (p + sum_entries) }
     ensures kept { Kept (seen book.old) (seen book.new) p (p + sum_entries) }
     ensures of_one { OfOne (seen book.old) i (i + n) sum_levels (λ s. Agrees result (seen book.new) p (not_sum s)) }
+    ensures same_slices { slices book.new ≡ slices book.old }
 {
     let x = Entry {
         kind: sums::tree::X,
@@ -75,6 +78,7 @@ fn add_times_i(
     ensures kept { Kept (seen book.old) (seen book.new) w (w + (sum_entries + sum_entries)) }
     ensures of_two { OfTwo (seen book.old) i (i + n) j (j + m) sum_levels (λ b a. Agrees result (seen book.new) w
         (and_then_sum (product a (constant imaginary)) (add_sums b))) }
+    ensures same_slices { slices book.new ≡ slices book.old }
 {
     let x = Entry {
         kind: sums::tree::X,
@@ -100,6 +104,7 @@ fn complex(
     requires { Source (seen book.old) i n w × Source (seen book.old) j m w × Room (seen book.old) (w + (sum_entries + sum_entries)) }
     ensures kept { Kept (seen book.old) (seen book.new) w (w + (sum_entries + sum_entries)) }
     ensures of_two { OfTwo (seen book.old) i (i + n) j (j + m) sum_levels (λ b a. Agrees result (seen book.new) w (complex_sum a b)) }
+    ensures same_slices { slices book.new ≡ slices book.old }
 {
     let first = arithmetic::add::as_constant(book, i, n);
     let second = arithmetic::add::as_constant(book, j, m);
@@ -123,6 +128,7 @@ pub fn form_one(
     requires { (1 ≤ n) × Source (seen book.old) i n w × Room (seen book.old) (w + (sum_entries + sum_entries)) }
     ensures kept { Kept (seen book.old) (seen book.new) w (w + (sum_entries + sum_entries)) }
     ensures of_one { OfOne (seen book.old) i (i + n) sum_levels (λ s. Agrees result (seen book.new) w (of_one p s)) }
+    ensures same_slices { slices book.new ≡ slices book.old }
 {
     let e = numbers::e();
     match p {
@@ -148,6 +154,7 @@ fn multiplied(book: &mut Book, i: usize, n: usize, j: usize, m: usize, w: usize)
     ensures kept { Kept (seen book.old) (seen book.new) w (w + (sum_entries + sum_entries)) }
     ensures of_two { OfTwo (seen book.old) i (i + n) j (j + m) sum_levels (λ b a. Agrees result.formed (seen book.new) w (product b a)) }
     ensures of_two_2 { OfTwo (seen book.old) i (i + n) j (j + m) sum_levels (λ b a. Counted result (pairs b a)) }
+    ensures same_slices { slices book.new ≡ slices book.old }
 {
     let pairs = sums::order::count(book, i, n) * sums::order::count(book, j, m);
     let formed = arithmetic::multiply::mul(book, i, n, j, m, w);
@@ -171,6 +178,7 @@ fn form_uncounted(
         × Room (seen book.old) (w + (sum_entries + sum_entries)) }
     ensures kept { Kept (seen book.old) (seen book.new) w (w + (sum_entries + sum_entries)) }
     ensures of_two { OfTwo (seen book.old) i (i + n) j (j + m) sum_levels (λ b a. Agrees result (seen book.new) w (of_two p b a)) }
+    ensures same_slices { slices book.new ≡ slices book.old }
 {
     match p {
         Primitive::Add => { arithmetic::add::expr_add(book, Change::Keep, i, n, j, m, w) }
@@ -196,6 +204,7 @@ pub fn form_two(
     ensures kept { Kept (seen book.old) (seen book.new) w (w + (sum_entries + sum_entries)) }
     ensures of_two { OfTwo (seen book.old) i (i + n) j (j + m) sum_levels (λ b a. Agrees result.formed (seen book.new) w (of_two p b a)) }
     ensures of_two_2 { OfTwo (seen book.old) i (i + n) j (j + m) sum_levels (λ b a. Counted result (pairs_of p b a)) }
+    ensures same_slices { slices book.new ≡ slices book.old }
 {
     match p {
         Primitive::Mul => multiplied(book, i, n, j, m, w),

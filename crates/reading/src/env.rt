@@ -6,7 +6,7 @@ ghost use Rattle.stack.specs.State.{State, went};
 ghost use Rattle.modifiers.specs.Reading.{start, ended};
 ghost use Rattle.modifiers.specs.Contract.Room.{read_held};
 ghost use Rattle.cells.specs.Contract.Book.{seen};
-ghost use Rattle.stack.specs.Contract.Arena.{slots, Space, working, places};
+ghost use Rattle.stack.specs.Contract.Arena.{slots, Space, working, places, all_slices};
 ghost use Rattle.stack.specs.Contract.Agree.{Stands, Ready};
 ghost use Rattle.reading.specs.Contract.Data.{Reaches, DataAs};
 
@@ -27,8 +27,9 @@ pub enum AlgebraData {
 // The stack starts with x.
 fn begin_with_x(arena: &mut Arena) -> AlgebraEnv
     requires { Space (slots arena.old) (working + 1) }
-    ensures { (top : ℕ) → Reaches (slots arena.old) top → Ready (slots arena.new) top result
+    ensures reaches { (top : ℕ) → Reaches (slots arena.old) top → Ready (slots arena.new) top result
         × Stands (slots arena.new) top result start }
+    ensures same_slices { all_slices arena.new ≡ all_slices arena.old }
 {
     let x = Entry {
         kind: sums::tree::X,
@@ -66,7 +67,8 @@ fn last_of(arena: &Arena, env: AlgebraEnv) -> AlgebraData
 // Reads a list that keeps the rules, in an arena of `top` places: the sum lies behind the working places. Where there are fewer than there may be, 12 may come sooner.
 pub fn nodes_expr(list: &[u8], arena: &mut Arena, top: usize) -> AlgebraData
     requires { (verdict list.now ≡ Ok tt) × Reaches (slots arena.old) top }
-    ensures { DataAs result (seen arena.new.book) (read_held (places - top) (parse list.now)) }
+    ensures data_as { DataAs result (seen arena.new.book) (read_held (places - top) (parse list.now)) }
+    ensures same_slices { all_slices arena.new ≡ all_slices arena.old }
 {
     let env = begin_with_x(arena);
     let n = formats::record::count_records(list);

@@ -6,7 +6,7 @@ ghost use Rattle.formats.specs.Names.{kind_of};
 ghost use Rattle.stack.specs.Stack.{any_complex};
 ghost use Rattle.modifiers.specs.Reading.{inside_of};
 ghost use Rattle.stack.specs.Steps.{leaf_step};
-ghost use Rattle.stack.specs.Contract.Arena.{slots, working, places};
+ghost use Rattle.stack.specs.Contract.Arena.{slots, working, places, all_slices};
 ghost use Rattle.stack.specs.Contract.Stacked.{Stacked};
 ghost use Rattle.stack.specs.Contract.Agree.{Ready, Does, env_of};
 ghost use Rattle.stack.specs.Contract.Acting.{handled_by};
@@ -111,7 +111,8 @@ pub fn finish(r: Record, at: usize, stepped: Stepped, env: AlgebraEnv) -> Ran
 // A record that has no inside.
 pub fn read_leaf(r: Record, at: usize, arena: &mut Arena, v: usize, env: AlgebraEnv) -> Ran
     requires { Ready (slots arena.old) v env }
-    ensures { Does (slots arena.old) (slots arena.new) v env result (λ st. leaf_step at r (kind_of r.kind) (places - v) st) }
+    ensures does { Does (slots arena.old) (slots arena.new) v env result (λ st. leaf_step at r (kind_of r.kind) (places - v) st) }
+    ensures same_slices { all_slices arena.new ≡ all_slices arena.old }
 {
     let used = env.used;
     let handled = env.handled;

@@ -7,7 +7,7 @@ ghost use Rattle.modifiers.specs.declared.Use.TheVariants.{Bodies};
 ghost use Rattle.modifiers.specs.Reading.{runners, inside_of, step_of};
 ghost use Rattle.modifiers.specs.Contract.Walks.{walk_of};
 ghost use Rattle.modifiers.specs.Contract.Plans.{modified, UsedAs};
-ghost use Rattle.stack.specs.Contract.Arena.{slots, places};
+ghost use Rattle.stack.specs.Contract.Arena.{slots, places, all_slices};
 ghost use Rattle.stack.specs.Contract.Agree.{Ready, Does};
 ghost use Rattle.reading.specs.Contract.Quick.{has_nodes};
 ghost use Rattle.reading.specs.Contract.Runs.{Keeps, OneBody, Inner, Bodily, Planned, Round, Rounds, Many, Forks};
@@ -35,7 +35,8 @@ pub fn walk(
     env: AlgebraEnv,
 ) -> Ran
     requires { Ready (slots arena.old) v env × ((b : Bool) × Keeps list.now from to b × OneBody list.now from to b) }
-    ensures { Does (slots arena.old) (slots arena.new) v env result (λ st. walk_of list.now from to (places - v) st) }
+    ensures does { Does (slots arena.old) (slots arena.new) v env result (λ st. walk_of list.now from to (places - v) st) }
+    ensures same_slices { all_slices arena.new ≡ all_slices arena.old }
 {
     let mut at = from;
     let mut used = env.used;
@@ -81,8 +82,9 @@ pub fn walk(
 #[cycle(around_fork_fork_each_modify_step_walk_with_bodies)]
 fn step(list: &[u8], at: usize, r: Record, arena: &mut Arena, v: usize, env: AlgebraEnv) -> Ran
     requires { Ready (slots arena.old) v env × Inner list.now at r × (has_nodes (inside_of (kind_of r.kind)) ≡ false) }
-    ensures { Does (slots arena.old) (slots arena.new) v env result
+    ensures does { Does (slots arena.old) (slots arena.new) v env result
         (λ st. step_of at r (runners (at + 1) (forest list.now (at + 1) (at + 1 + r.inside))) (places - v) st) }
+    ensures same_slices { all_slices arena.new ≡ all_slices arena.old }
 {
     if formats::record::is_a(r.kind, Kind::Modifier) {
         return modify(list, at, r, arena, v, env);
@@ -94,7 +96,8 @@ fn step(list: &[u8], at: usize, r: Record, arena: &mut Arena, v: usize, env: Alg
 #[cycle(around_fork_fork_each_modify_step_walk_with_bodies)]
 fn modify(list: &[u8], at: usize, r: Record, arena: &mut Arena, v: usize, env: AlgebraEnv) -> Ran
     requires { Ready (slots arena.old) v env × Bodily list.now (at + 1) (at + 1 + r.inside) }
-    ensures { Does (slots arena.old) (slots arena.new) v env result (λ st. modified list.now at r (places - v) st) }
+    ensures does { Does (slots arena.old) (slots arena.new) v env result (λ st. modified list.now at r (places - v) st) }
+    ensures same_slices { all_slices arena.new ≡ all_slices arena.old }
 {
     match modifiers::use_of(list, at, r) {
         Use::Refused(q) => crate::turn::refuse(q, at, arena, env),
@@ -114,7 +117,8 @@ fn with_bodies(
     env: AlgebraEnv,
 ) -> Ran
     requires { Ready (slots arena.old) v env × Bodily list.now (at + 1) (at + 1 + r.inside) × UsedAs Bodies list.now at r }
-    ensures { Does (slots arena.old) (slots arena.new) v env result (λ st. modified list.now at r (places - v) st) }
+    ensures does { Does (slots arena.old) (slots arena.new) v env result (λ st. modified list.now at r (places - v) st) }
+    ensures same_slices { all_slices arena.new ≡ all_slices arena.old }
 {
     let p = modifiers::plan_of(list, at, r);
     let begun = modifiers::begin::begin(r.code, p.args, at, arena, v, env);
@@ -128,7 +132,8 @@ fn with_bodies(
 #[cycle(around_fork_fork_each_modify_step_walk_with_bodies)]
 fn around(list: &[u8], p: Plan, held: usize, arena: &mut Arena, v: usize, env: AlgebraEnv) -> Ran
     requires { Round (slots arena.old) v held env × Planned list.now p }
-    ensures { Rounds (slots arena.old) (slots arena.new) v held env result list.now p }
+    ensures rounds { Rounds (slots arena.old) (slots arena.new) v held env result list.now p }
+    ensures same_slices { all_slices arena.new ≡ all_slices arena.old }
 {
     let low = v - held;
     let ran = walk(list, p.from, p.to, arena, low, env);
@@ -145,7 +150,8 @@ fn around(list: &[u8], p: Plan, held: usize, arena: &mut Arena, v: usize, env: A
 #[cycle(around_fork_fork_each_modify_step_walk_with_bodies)]
 fn fork(list: &[u8], at: usize, r: Record, arena: &mut Arena, v: usize, env: AlgebraEnv) -> Ran
     requires { Ready (slots arena.old) v env × Bodily list.now (at + 1) (at + 1 + r.inside) × (modifier_of r.code ≡ Fork) }
-    ensures { Does (slots arena.old) (slots arena.new) v env result (λ st. modified list.now at r (places - v) st) }
+    ensures does { Does (slots arena.old) (slots arena.new) v env result (λ st. modified list.now at r (places - v) st) }
+    ensures same_slices { all_slices arena.new ≡ all_slices arena.old }
 {
     let from = at + 1;
     let to = from + r.inside as usize;
@@ -170,7 +176,8 @@ fn fork_each(
     env: AlgebraEnv,
 ) -> Ran
     requires { Ready (slots arena.old) v env × Bodily list.now (at + 1) to × Many (slots arena.old) v m k }
-    ensures { Forks (slots arena.old) (slots arena.new) v m k env result list.now at (at + 1) to }
+    ensures forks { Forks (slots arena.old) (slots arena.new) v m k env result list.now at (at + 1) to }
+    ensures same_slices { all_slices arena.new ≡ all_slices arena.old }
 {
     let from = at + 1;
     let n = formats::record::count_nodes(list, from, to);

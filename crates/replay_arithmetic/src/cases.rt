@@ -1,7 +1,7 @@
 // A case is five bytes, the code, the entries of the two operands, the refusal's number or 0, and the entries of the result; and then the
 // entries, 32 bytes each.
-ghost use Rattle.std.specs.Prelude.{◌+◌, ◌≤◌, length, IfSome};
-ghost use Rattle.cells.specs.Contract.Book.{seen, Room};
+ghost use Rattle.std.specs.Prelude.{◌≡◌, ◌+◌, ◌≤◌, length, IfSome};
+ghost use Rattle.cells.specs.Contract.Book.{seen, Room, slices};
 ghost use Rattle.cells.specs.Contract.Moves.{SameRoom};
 
 use cells::Book;
@@ -90,7 +90,8 @@ impl Cell {
 // Lays an operand out, from k on.
 pub fn lay(book: &mut Book, k: usize, entries: &[Stored])
     requires { Room (seen book.old) (k + length entries.now) }
-    ensures { SameRoom (seen book.old) (seen book.new) }
+    ensures same_room { SameRoom (seen book.old) (seen book.new) }
+    ensures same_slices { slices book.new ≡ slices book.old }
 {
     for (i, entry) in entries.iter().enumerate() {
         book.kinds[k + i] = entry[0];

@@ -4,7 +4,7 @@ ghost use Rattle.std.specs.Prelude.{◌≡◌, cond, ℕ, suc, ◌-◌, min, Som
 ghost use Rattle.limits.specs.Limits.{handled_needed};
 ghost use Rattle.formats.specs.Names.{kind_of, primitive_of};
 ghost use Rattle.formats.specs.Table.{row};
-ghost use Rattle.stack.specs.Contract.Arena.{slots, places};
+ghost use Rattle.stack.specs.Contract.Arena.{slots, places, all_slices};
 ghost use Rattle.stack.specs.Contract.Agree.{Prepared, Acts};
 ghost use Rattle.stack.specs.Contract.Acting.{Applies, why_not, leaf_act, handled_by, complex_by};
 
@@ -16,7 +16,8 @@ use limits::{HANDLED_NEEDED, Refusal};
 // A primitive. One that is not read takes nothing.
 fn apply(arena: &mut Arena, code: u8, v: usize, used: usize, handled: usize) -> Stepped
     requires { Prepared (slots arena.old) v used handled }
-    ensures { Applies (slots arena.old) (slots arena.new) v used handled result (row (primitive_of code)).taken (primitive_of code) }
+    ensures applies { Applies (slots arena.old) (slots arena.new) v used handled result (row (primitive_of code)).taken (primitive_of code) }
+    ensures same_slices { all_slices arena.new ≡ all_slices arena.old }
 {
     let taken = formats::table::taken(code);
     if taken == 0 {
@@ -43,7 +44,8 @@ fn why_not(k: Kind) -> Refusal
 // A record of a known kind that has no inside.
 fn leaf_of(k: Kind, r: Record, arena: &mut Arena, v: usize, used: usize, handled: usize) -> Stepped
     requires { Prepared (slots arena.old) v used handled }
-    ensures { (at : ℕ) → Acts (slots arena.old) (slots arena.new) v used handled at result (λ st. leaf_act at r (Some k) (places - v) st) }
+    ensures acts { (at : ℕ) → Acts (slots arena.old) (slots arena.new) v used handled at result (λ st. leaf_act at r (Some k) (places - v) st) }
+    ensures same_slices { all_slices arena.new ≡ all_slices arena.old }
 {
     match k {
         Kind::RealPush => crate::state::push_number(arena, r.re, 0, v, used, handled),
@@ -57,7 +59,8 @@ fn leaf_of(k: Kind, r: Record, arena: &mut Arena, v: usize, used: usize, handled
 // A record that has no inside, but for what is counted of it.
 pub fn leaf(r: Record, arena: &mut Arena, v: usize, used: usize, handled: usize) -> Stepped
     requires { Prepared (slots arena.old) v used handled }
-    ensures { (at : ℕ) → Acts (slots arena.old) (slots arena.new) v used handled at result (λ st. leaf_act at r (kind_of r.kind) (places - v) st) }
+    ensures acts { (at : ℕ) → Acts (slots arena.old) (slots arena.new) v used handled at result (λ st. leaf_act at r (kind_of r.kind) (places - v) st) }
+    ensures same_slices { all_slices arena.new ≡ all_slices arena.old }
 {
     match formats::record::kind_of(r.kind) {
         Some(k) => leaf_of(k, r, arena, v, used, handled),

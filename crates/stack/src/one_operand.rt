@@ -4,7 +4,7 @@ ghost use Rattle.std.specs.Prelude.{◌≡◌, List, [], ◌∷◌};
 ghost use Rattle.sums.specs.Tree.Sums.{Sum};
 ghost use Rattle.formats.specs.Names.{primitive_of};
 ghost use Rattle.formats.specs.Table.{row};
-ghost use Rattle.stack.specs.Contract.Arena.{slots, Space, working};
+ghost use Rattle.stack.specs.Contract.Arena.{slots, Space, working, all_slices};
 ghost use Rattle.stack.specs.Contract.Stacked.{Stacked};
 ghost use Rattle.stack.specs.Contract.Agree.{Prepared};
 ghost use Rattle.stack.specs.Contract.Parts.{Tops};
@@ -18,7 +18,8 @@ use crate::state::Stepped;
 pub fn flip(arena: &mut Arena, n: usize, m: usize, u: usize)
     requires space { Space (slots arena.old) u }
     requires tops { Tops (slots arena.old) u (n ∷ m ∷ []) × ((ss : List Sum) × Stacked (slots arena.old) working u ss) }
-    ensures { Turned (slots arena.old) (slots arena.new) u }
+    ensures turned { Turned (slots arena.old) (slots arena.new) u }
+    ensures same_slices { all_slices arena.new ≡ all_slices arena.old }
 {
     let i = u - n - m;
     arena.book.copy_within(i, m, 0);
@@ -29,7 +30,8 @@ pub fn flip(arena: &mut Arena, n: usize, m: usize, u: usize)
 // What a primitive forms of the sum on top, of n cells, is put in its place.
 fn form_top(arena: &mut Arena, code: u8, n: usize, v: usize, used: usize, handled: usize) -> Stepped
     requires { ((row (primitive_of code)).left ≡ 1) × Tops (slots arena.old) used (n ∷ []) × Prepared (slots arena.old) v used handled }
-    ensures { Applies (slots arena.old) (slots arena.new) v used handled result 1 (primitive_of code) }
+    ensures applies { Applies (slots arena.old) (slots arena.new) v used handled result 1 (primitive_of code) }
+    ensures same_slices { all_slices arena.new ≡ all_slices arena.old }
 {
     let p = formats::record::primitive_of(code);
     let i = used - n;
@@ -40,7 +42,8 @@ fn form_top(arena: &mut Arena, code: u8, n: usize, v: usize, used: usize, handle
 // A primitive that takes one sum: it leaves none, one that it forms, or that sum twice.
 pub fn one_operand(arena: &mut Arena, code: u8, v: usize, used: usize, handled: usize) -> Stepped
     requires { Prepared (slots arena.old) v used handled }
-    ensures { Applies (slots arena.old) (slots arena.new) v used handled result 1 (primitive_of code) }
+    ensures applies { Applies (slots arena.old) (slots arena.new) v used handled result 1 (primitive_of code) }
+    ensures same_slices { all_slices arena.new ≡ all_slices arena.old }
 {
     if used == WORKING {
         return crate::state::short(handled);

@@ -6,7 +6,7 @@ ghost use Rattle.cells.specs.Contract.Book.{seen};
 ghost use Rattle.stack.specs.Stack.{any_complex};
 ghost use Rattle.sums.specs.Contract.Lies.{OfOne};
 ghost use Rattle.sums.specs.Tree.Sums.{Sum};
-ghost use Rattle.stack.specs.Contract.Arena.{slots, Space, working};
+ghost use Rattle.stack.specs.Contract.Arena.{slots, Space, working, all_slices};
 ghost use Rattle.stack.specs.Contract.Stacked.{Top, Stacked, Sized, deep};
 ghost use Rattle.stack.specs.Contract.Blocks.{Outside, Raised, Sunk};
 
@@ -37,7 +37,8 @@ fn wide(x: u8) -> usize
 // The slots from k up to e are moved up by d.
 pub fn raise(arena: &mut Arena, k: usize, e: usize, d: usize)
     requires { (k ≤ e) × Space (slots arena.old) (e + d) }
-    ensures { Raised (slots arena.old) (slots arena.new) k e d }
+    ensures raised { Raised (slots arena.old) (slots arena.new) k e d }
+    ensures same_slices { all_slices arena.new ≡ all_slices arena.old }
 {
     arena.book.open_gap(k, e, d);
     arena.sizes.copy_within(k..e, k + d);
@@ -46,7 +47,8 @@ pub fn raise(arena: &mut Arena, k: usize, e: usize, d: usize)
 // n slots are copied down.
 pub fn sink(arena: &mut Arena, from: usize, to: usize, n: usize)
     requires { (to ≤ from) × Space (slots arena.old) (from + n) }
-    ensures { Sunk (slots arena.old) (slots arena.new) from to n }
+    ensures sunk { Sunk (slots arena.old) (slots arena.new) from to n }
+    ensures same_slices { all_slices arena.new ≡ all_slices arena.old }
 {
     arena.book.copy_within(from, n, to);
     arena.sizes.copy_within(from..from + n, to);
@@ -57,6 +59,7 @@ pub fn bring(arena: &mut Arena, i: usize, n: usize, u: usize)
     requires { (1 ≤ n) × (n ≤ sum_entries) × (i + n ≤ u) × Space (slots arena.old) (u + n) }
     ensures outside { Outside (slots arena.old) (slots arena.new) u (u + n) }
     ensures of_one { OfOne (seen arena.old.book) i (i + n) sum_levels (λ s. Top (slots arena.new) u (u + n) s) }
+    ensures same_slices { all_slices arena.new ≡ all_slices arena.old }
 {
     arena.book.copy_within(i, n, u);
     arena.sizes[u + n - 1] = n as u8;

@@ -8,7 +8,7 @@ ghost use Rattle.sums.specs.Contract.Lies.{OfOne, Agrees};
 ghost use Rattle.stack.specs.Stack.{any_complex};
 ghost use Rattle.stack.specs.State.{push, most_pairs};
 ghost use Rattle.stack.specs.Steps.{constant_of};
-ghost use Rattle.stack.specs.Contract.Arena.{slots, places};
+ghost use Rattle.stack.specs.Contract.Arena.{slots, places, all_slices};
 ghost use Rattle.stack.specs.Contract.Arena as arenas;
 ghost use Rattle.stack.specs.Contract.Stacked.{Stacked};
 ghost use Rattle.stack.specs.Contract.Agree.{Prepared, Acts};
@@ -70,8 +70,9 @@ pub fn short(handled: usize) -> Stepped
 // The sum of n cells from i on is put on the stack, if there is room for it below what is held.
 pub fn push_cells(arena: &mut Arena, i: usize, n: usize, v: usize, used: usize) -> Stepped
     requires { (1 ≤ n) × (n ≤ sum_entries) × (i + n ≤ used) × ((h : ℕ) × Prepared (slots arena.old) v used h) }
-    ensures { OfOne (seen arena.old.book) i (i + n) sum_levels (λ s. (at h : ℕ) → Acts (slots arena.old) (slots arena.new) v
+    ensures of_one { OfOne (seen arena.old.book) i (i + n) sum_levels (λ s. (at h : ℕ) → Acts (slots arena.old) (slots arena.new) v
         used h at result (push at (places - v) (sum s))) }
+    ensures same_slices { all_slices arena.new ≡ all_slices arena.old }
 {
     if v - used < n {
         return Stepped::Stopped(Refusal::NoRoom, false);
@@ -89,8 +90,9 @@ pub fn push_formed(
     handled: usize,
 ) -> Stepped
     requires { Filled f × Prepared (slots arena.old) v used handled }
-    ensures { (o : Outcome) (at : ℕ) → Agrees f (seen arena.old.book) 0 o → Acts (slots arena.old) (slots arena.new) v used
+    ensures agrees { (o : Outcome) (at : ℕ) → Agrees f (seen arena.old.book) 0 o → Acts (slots arena.old) (slots arena.new) v used
         handled at result (push at (places - v) o) }
+    ensures same_slices { all_slices arena.new ≡ all_slices arena.old }
 {
     match f {
         Ok(n) => push_cells(arena, 0, n, v, used),
@@ -108,7 +110,8 @@ pub fn push_number(
     handled: usize,
 ) -> Stepped
     requires { Prepared (slots arena.old) v used handled }
-    ensures { (at : ℕ) → Acts (slots arena.old) (slots arena.new) v used handled at result (push at (places - v) (constant_of re im)) }
+    ensures acts { (at : ℕ) → Acts (slots arena.old) (slots arena.new) v used handled at result (push at (places - v) (constant_of re im)) }
+    ensures same_slices { all_slices arena.new ≡ all_slices arena.old }
 {
     if !(numbers::finite_bits(re) & numbers::finite_bits(im)) {
         return halt(Refusal::NotFinite, arena, used, handled);

@@ -3,7 +3,7 @@
 ghost use Rattle.std.specs.Prelude.{◌≡◌, [], ◌∷◌, ◌-◌, ◌<◌};
 ghost use Rattle.formats.specs.Names.{primitive_of};
 ghost use Rattle.formats.specs.Table.{row};
-ghost use Rattle.stack.specs.Contract.Arena.{slots, working};
+ghost use Rattle.stack.specs.Contract.Arena.{slots, working, all_slices};
 ghost use Rattle.stack.specs.Contract.Agree.{Prepared};
 ghost use Rattle.stack.specs.Contract.Parts.{Tops, more_pairs};
 ghost use Rattle.stack.specs.Contract.Acting.{Applies};
@@ -31,7 +31,8 @@ fn form_pair(
     handled: usize,
 ) -> Stepped
     requires { ((row (primitive_of code)).left ≡ 1) × Tops (slots arena.old) used (n ∷ []) × (working < used - n) × Prepared (slots arena.old) v used handled }
-    ensures { Applies (slots arena.old) (slots arena.new) v used handled result 2 (primitive_of code) }
+    ensures applies { Applies (slots arena.old) (slots arena.new) v used handled result 2 (primitive_of code) }
+    ensures same_slices { all_slices arena.new ≡ all_slices arena.old }
 {
     let p = formats::record::primitive_of(code);
     let up = used - n;
@@ -53,7 +54,8 @@ fn two_leave(
     handled: usize,
 ) -> Stepped
     requires { ((row (primitive_of code)).taken ≡ 2) × Tops (slots arena.old) used (n ∷ []) × (working < used - n) × Prepared (slots arena.old) v used handled }
-    ensures { Applies (slots arena.old) (slots arena.new) v used handled result 2 (primitive_of code) }
+    ensures applies { Applies (slots arena.old) (slots arena.new) v used handled result 2 (primitive_of code) }
+    ensures same_slices { all_slices arena.new ≡ all_slices arena.old }
 {
     let left = formats::table::left(code);
     if left == 1 {
@@ -70,7 +72,8 @@ fn two_leave(
 // A primitive that takes two sums.
 pub fn two_operands(arena: &mut Arena, code: u8, v: usize, used: usize, handled: usize) -> Stepped
     requires { ((row (primitive_of code)).taken ≡ 2) × Prepared (slots arena.old) v used handled }
-    ensures { Applies (slots arena.old) (slots arena.new) v used handled result 2 (primitive_of code) }
+    ensures applies { Applies (slots arena.old) (slots arena.new) v used handled result 2 (primitive_of code) }
+    ensures same_slices { all_slices arena.new ≡ all_slices arena.old }
 {
     if used == WORKING {
         return crate::state::short(handled);

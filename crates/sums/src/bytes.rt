@@ -2,7 +2,7 @@
 ghost use Rattle.std.specs.Prelude.{◌≡◌, ℕ, ◌+◌, ◌*◌, ◌≤◌, length};
 ghost use Rattle.std.proofs.lemmas.List.Edits.{sets};
 ghost use Rattle.limits.specs.Limits.{sum_entries, sum_levels, entry_bytes};
-ghost use Rattle.cells.specs.Contract.Book.{seen, Room};
+ghost use Rattle.cells.specs.Contract.Book.{seen, Room, slices};
 ghost use Rattle.cells.specs.Contract.Moves.{SameRoom};
 ghost use Rattle.sums.specs.Contract.Lies.{Held, OfOne};
 ghost use Rattle.sums.specs.Entry.Encoding.{entries_in, encode_sum};
@@ -31,6 +31,7 @@ fn read_cells(book: &mut Book, list: &[u8], n: usize) -> bool
     requires { (entry_bytes * n ≤ length list.now) × Room (seen book.old) n }
     ensures loaded { Loaded list.now n (seen book.new) result }
     ensures long { SameRoom (seen book.old) (seen book.new) }
+    ensures same_slices { slices book.new ≡ slices book.old }
 {
     for j in 0..n {
         if !clean(list, j) {
@@ -67,6 +68,7 @@ pub fn take_in(book: &mut Book, list: &[u8]) -> Result<usize, Refusal>
     ensures weighed { Weighed list.now result }
     ensures by_index { (n : ℕ) → result ≡ Ok n → Laid list.now (seen book.new) n }
     ensures long { SameRoom (seen book.old) (seen book.new) }
+    ensures same_slices { slices book.new ≡ slices book.old }
 {
     let n = list.len() / ENTRY_BYTES;
     if list.len() % ENTRY_BYTES != 0 {

@@ -2,7 +2,7 @@
 // 18, 15, 13 and 12.
 ghost use Rattle.std.specs.Prelude.{◌≡◌, ◌+◌, ◌≤◌};
 ghost use Rattle.limits.specs.Limits.{sum_entries, sum_levels};
-ghost use Rattle.cells.specs.Contract.Book.{seen, Room};
+ghost use Rattle.cells.specs.Contract.Book.{seen, Room, slices};
 ghost use Rattle.cells.specs.Contract.Moves.{Apart, Kept};
 ghost use Rattle.sums.specs.Tree.Kinds.{X};
 ghost use Rattle.sums.specs.Tree.Sums.{none, entry};
@@ -44,7 +44,8 @@ fn put_same(
     k: usize,
 ) -> Result<usize, Refusal>
     requires { Places (seen book.old) x i p n (Found.Same k) }
-    ensures { Puts (seen book.old) (seen book.new) how x i p n (Found.Same k) result }
+    ensures puts { Puts (seen book.old) (seen book.new) how x i p n (Found.Same k) result }
+    ensures same_slices { slices book.new ≡ slices book.old }
 {
     let y = book.load(k);
     let v = merge(how, y.coef, x.coef);
@@ -75,7 +76,8 @@ fn put_new(
     k: usize,
 ) -> Result<usize, Refusal>
     requires { Places (seen book.old) x i p n (Found.Before k) × Apart i x.inside p (p + sum_entries) }
-    ensures { Puts (seen book.old) (seen book.new) how x i p n (Found.Before k) result }
+    ensures puts { Puts (seen book.old) (seen book.new) how x i p n (Found.Before k) result }
+    ensures same_slices { slices book.new ≡ slices book.old }
 {
     let c = merge(how, Complex::ZERO, x.coef);
     if !c.is_finite() {
@@ -112,6 +114,7 @@ pub fn put_block(
     requires n_le_sum_entries { (n ≤ sum_entries) × Room (seen book.old) (p + sum_entries) × Held (seen book.old) p (p + n) sum_levels }
     ensures kept { Kept (seen book.old) (seen book.new) p (p + sum_entries) }
     ensures of_two { OfTwo (seen book.old) p (p + n) i (i + x.inside) sum_levels (λ s t. Agrees result (seen book.new) p (formed how x t s)) }
+    ensures same_slices { slices book.new ≡ slices book.old }
 {
     if !numbers::is_finite(x.num) {
         let why = crate::tree::not_finite(x.kind);
@@ -138,6 +141,7 @@ pub fn put_below(
     requires of_one { OfOne (seen book.old) p (p + n) sum_levels (λ s. end ≡ p + powers s) }
     ensures kept { Kept (seen book.old) (seen book.new) p (p + sum_entries) }
     ensures of_one_2 { OfOne (seen book.old) p (p + n) sum_levels (λ s. Agrees result (seen book.new) p (formed how (entry X 0 num c) none s)) }
+    ensures same_slices { slices book.new ≡ slices book.old }
 {
     if !numbers::is_finite(num) {
         return Err(Refusal::PowerNotFinite);
@@ -166,6 +170,7 @@ pub fn put_power(
     requires { (n ≤ sum_entries) × Room (seen book.old) (p + sum_entries) × Held (seen book.old) p (p + n) sum_levels }
     ensures kept { Kept (seen book.old) (seen book.new) p (p + sum_entries) }
     ensures of_one { OfOne (seen book.old) p (p + n) sum_levels (λ s. Agrees result (seen book.new) p (formed how (entry X 0 num c) none s)) }
+    ensures same_slices { slices book.new ≡ slices book.old }
 {
     let end = crate::order::powers_end(book, p, n);
     put_below(book, how, num, c, p, n, end)

@@ -19,13 +19,13 @@ use Rattle.primitives.proofs.add_times_i.Goals as goal
 use Rattle.primitives.proofs.add_times_i.Goals.{After-store, After-mul}
 
 kept : (c : After-store) → Kept (seen c.args.book.now) (seen c.store.new.self) c.args.w (c.args.w + (64 + 64))
-kept c = kept-wider (omega arith) (omega arith) (put-kept c.store.ensures)
+kept c = kept-wider (omega arith) (omega arith) (put-kept c.store.ensures.put)
 
 still : {b b' : Book} {i n w : ℕ} → Kept b b' w (w + (64 + 64)) → Source b i n w → Source b' i n w
 still k s = record { few = s.few; held = (s.held.0, lies-clear k (clear s.apart) s.held.1); apart = s.apart }
 
 laid : (c : After-store) → Lies (seen c.store.new.self) c.args.w (c.args.w + 1) 4 (constant imaginary)
-laid c = constant-lies imaginary imaginary-finite c.args.w (room-less {n = c.args.w + (64 + 64)} (omega arith) c.requires.2) imaginary-fits c.store.ensures
+laid c = constant-lies imaginary imaginary-finite c.args.w (room-less {n = c.args.w + (64 + 64)} (omega arith) c.requires.2) imaginary-fits c.store.ensures.put
 
 kept-both : (c : After-mul) → Kept (seen c.args.book.now) (seen c.mul.new.book) c.args.w (c.args.w + (64 + 64))
 kept-both c = kept_trans (kept (goal.at.After-mul c).After-store) (kept-working c.mul.ensures.kept)

@@ -7,4 +7,4 @@ use Rattle.primitives.proofs.copied.Goals as goal
 pub returns-clause-of_one : goal.returns-clause-of_one
 returns-clause-of_one c s ls =
     let few = c.requires.0.few in
-    (few, lies-copied c.copy_within.ensures (room-less {n = c.args.p + 64} (omega arith) c.requires.1) ls)
+    (few, lies-copied c.copy_within.ensures.copied (room-less {n = c.args.p + 64} (omega arith) c.requires.1) ls)

@@ -14,4 +14,5 @@ returns-in_default c = record {
   kept = c.form_uncounted.ensures.kept;
   of_two = c.form_uncounted.ensures.of_two;
   of_two_2 = λ b a lb la n e. sym (pairs-none _ b a (c.in_default.not-Mul, c.in_default.not-Pow));
+  same_slices = c.form_uncounted.ensures.same_slices;
 }

@@ -12,10 +12,10 @@ use Rattle.primitives.proofs.not.Goals as goal
 use Rattle.primitives.proofs.not.Goals.{After-store}
 
 kept : (c : After-store) → Kept (seen c.args.book.now) (seen c.store.new.self) c.args.p (c.args.p + 64)
-kept c = kept-wider (omega arith) (omega arith) (put-kept c.store.ensures)
+kept c = kept-wider (omega arith) (omega arith) (put-kept c.store.ensures.put)
 
 laid : (c : After-store) → Lies (seen c.store.new.self) c.args.p (c.args.p + 1) 4 (constant one)
-laid c = constant-lies one one-finite c.args.p (room-less {n = c.args.p + 64} (omega arith) c.requires.1) one-fits c.store.ensures
+laid c = constant-lies one one-finite c.args.p (room-less {n = c.args.p + 64} (omega arith) c.requires.1) one-fits c.store.ensures.put
 
 pub add_each-requires : goal.add_each-requires
 add_each-requires c =

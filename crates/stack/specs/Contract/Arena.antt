@@ -1,8 +1,8 @@
 -- The arena: a book of cells, and beside each cell a size, which is used at a sum's last cell.
-use Rattle.std.specs.Prelude.{ℕ, ◌+◌, ◌≤◌, List, length, get_or}
+use Rattle.std.specs.Prelude.{ℕ, ◌+◌, ◌≤◌, List, ◌∷◌, length, get_or}
 use Rattle.limits.specs.Limits.{sum_entries, stack_entries}
 use Rattle.stack.specs.declared.slots.Arena.{Arena as Lent}
-use Rattle.cells.specs.Contract.Book.{Book, seen, Room, Cell, cell}
+use Rattle.cells.specs.Contract.Book.{Book, seen, slices, Room, Cell, cell}
 
 -- how many places are for working in; the stack lies behind them
 abbrev pub working : ℕ
@@ -21,6 +21,10 @@ of b z = record { cells = b; sizes = z }
 -- what the lent slices have
 abbrev pub slots : Lent → Arena
 slots a = of (seen a.book) a.sizes.now
+
+-- which slices they are, each with its length
+abbrev pub all_slices : Lent → List ℕ
+all_slices a = a.sizes.ghost_name ∷ length a.sizes.now ∷ slices a.book
 
 -- what stands at one index
 pub record Slot : Type 0 where

@@ -5,4 +5,4 @@ use Rattle.algebra.proofs.lists.Trying.{first-try}
 use Rattle.algebra.proofs.lists.make_in_small.Goals as goal
 
 pub returns : goal.returns
-returns c = first-try c.args.w (1152 - 256) c.args.list.now (c.make_of.ensures (list_held (1152 - 256) c.args.list.now) c.read_sum-data.ensures)
+returns c = first-try c.args.w (1152 - 256) c.args.list.now (c.make_of.ensures.data_as (list_held (1152 - 256) c.args.list.now) c.read_sum-data.ensures.data_as)

@@ -1,5 +1,5 @@
 -- Each entry is read, its coefficient changed, and it is put into the sum that grows apart from it.
-use Rattle.std.proofs.Common.{◌+◌, true, refl, subst, arith}
+use Rattle.std.proofs.Common.{◌+◌, true, refl, subst, arith, rules}
 use Rattle.std.proofs.lemmas.Result.{err_from_is_err_and}
 use Rattle.cells.specs.Contract.Book.{seen}
 use Rattle.numbers.specs.declared.complex.Complex.{Complex}
@@ -66,6 +66,7 @@ loop-q-preserved c =
       from = omega arith;
       few = (on _ _ c.requires.1.held.1 c.requires.0.held.1).0;
       rest = λ s t ls lt. (on s t ls lt).1;
+      same = search rules;
     }
 
 pub returns-clause-of_two : goal.returns-clause-of_two

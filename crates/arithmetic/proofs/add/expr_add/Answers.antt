@@ -11,10 +11,10 @@ use Rattle.arithmetic.proofs.add.expr_add.Goals as goal
 use Rattle.arithmetic.proofs.add.expr_add.Goals.{After-copy_within}
 
 copied : (c : After-copy_within) (s : Sum) → Lies (seen c.args.book.now) c.args.i (c.args.i + c.args.n) 4 s → Lies (seen c.copy_within.new.self) c.args.p (c.args.p + c.args.n) 4 s
-copied c s ls = lies-copied c.copy_within.ensures (room-less {n = c.args.p + 64} (omega (arith, c.requires.0.few)) c.requires.2) ls
+copied c s ls = lies-copied c.copy_within.ensures.copied (room-less {n = c.args.p + 64} (omega (arith, c.requires.0.few)) c.requires.2) ls
 
 kept : (c : After-copy_within) → Kept (seen c.args.book.now) (seen c.copy_within.new.self) c.args.p (c.args.p + 64)
-kept c = kept-wider (omega arith) (omega (arith, c.requires.0.few)) (copied-kept c.copy_within.ensures)
+kept c = kept-wider (omega arith) (omega (arith, c.requires.0.few)) (copied-kept c.copy_within.ensures.copied)
 
 pub add_each-requires : goal.add_each-requires
 add_each-requires c =

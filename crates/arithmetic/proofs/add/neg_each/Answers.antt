@@ -1,5 +1,5 @@
 -- Each entry is read, and written with its coefficient negated.
-use Rattle.std.proofs.Common.{arith}
+use Rattle.std.proofs.Common.{arith, rules}
 use Rattle.cells.proofs.Laws.{kept_trans, kept-wider, put-kept}
 use Rattle.sums.proofs.order.Walk.{next, next-at}
 use Rattle.arithmetic.proofs.add.Negating.{plain-negated, turn, done}
@@ -23,9 +23,10 @@ loop-k-preserved c =
     let n = next _ _ _ _ w.s' _ c.load-y.ensures w.lies c.loop-k-test.true in
     let within = n.within in
     record {
-      kept = kept_trans c.loop-k.invariant.kept (kept-wider c.loop-k.invariant.from (omega arith) (put-kept c.store.ensures));
+      kept = kept_trans c.loop-k.invariant.kept (kept-wider c.loop-k.invariant.from (omega arith) (put-kept c.store.ensures.put));
       from = omega arith;
-      rest = λ s ls. turn c.load-y.result c.load-y.ensures (c.loop-k.invariant.rest s ls) c.loop-k-test.true c.neg.ensures c.store.ensures;
+      rest = λ s ls. turn c.load-y.result c.load-y.ensures (c.loop-k.invariant.rest s ls) c.loop-k-test.true c.neg.ensures c.store.ensures.put;
+      same = search rules;
     }
 
 pub returns-clause-of_one : goal.returns-clause-of_one

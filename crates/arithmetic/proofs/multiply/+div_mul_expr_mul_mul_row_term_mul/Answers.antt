@@ -1,5 +1,5 @@
 -- Each time round there is one level less left. A sum goes row by row, a row pair by pair, and two Div by way of a book of their own for the product of their insides.
-use Rattle.std.proofs.Common.{◌+◌, ◌-◌, ◌≤◌, arith}
+use Rattle.std.proofs.Common.{◌+◌, ◌-◌, ◌≤◌, arith, rules}
 use Rattle.std.proofs.lemmas.Result.{err_from_is_err_and}
 use Rattle.std.proofs.Math.Dec.{lit≤}
 use Rattle.numbers.specs.Signs.{zero64}
@@ -21,12 +21,12 @@ use Rattle.arithmetic.proofs.multiply.+div_mul_expr_mul_mul_row_term_mul.Goals a
 -- ---- div_mul
 
 pub div_mul-expr_mul-requires : goal.div_mul-expr_mul-requires
-div_mul-expr_mul-requires t c = (omega arith, (copies c.side_by_side.ensures c.requires.2, room-less (lit≤ tt) c.side_by_side.ensures.room))
+div_mul-expr_mul-requires t c = (omega arith, (copies c.side_by_side.ensures.beside c.requires.2, room-less (lit≤ tt) c.side_by_side.ensures.beside.room))
 
 pub div_mul-returns-in_err-k-clause-of_three : goal.div_mul-returns-in_err-k-clause-of_three
 div_mul-returns-in_err-k-clause-of_three t c u v s lu lv ls =
     let w = c.requires.2 in
-    let d = c.side_by_side.ensures in
+    let d = c.side_by_side.ensures.beside in
     let agrees = c.expr_mul.ensures.of_two u v (first-copy d w.first.few lu) (second-copy d w.second.few lv) in
     let p = err_from_is_err_and c.from_residual.result c.from_residual.ensures.1 in
     rw (p.1, p.2)
@@ -36,7 +36,7 @@ div_mul-returns-in_err-k-clause-of_three t c u v s lu lv ls =
 pub div_mul-put_div-requires-clause-inner : goal.div_mul-put_div-requires-clause-inner
 div_mul-put_div-requires-clause-inner t c =
     let w = c.requires.2 in
-    let d = c.side_by_side.ensures in
+    let d = c.side_by_side.ensures.beside in
     let agrees = c.expr_mul.ensures.of_two w.s w.t (first-copy d w.first.few w.first.lies) (second-copy d w.second.few w.second.lies) in
     let a = agreed-done (seen c.expr_mul.new.book) 128 c.in_ok-k.k c.expr_mul.result (mul_into w.s w.t none) agrees c.in_ok-k.was in
     (made_some w c.requires.0 c.requires.1 a, a.few, (a.s, a.lies), room-same c.expr_mul.ensures.kept.long d.room)
@@ -44,7 +44,7 @@ div_mul-put_div-requires-clause-inner t c =
 pub div_mul-returns-clause-of_three : goal.div_mul-returns-clause-of_three
 div_mul-returns-clause-of_three t c u v s lu lv ls =
     let w = c.requires.2 in
-    let d = c.side_by_side.ensures in
+    let d = c.side_by_side.ensures.beside in
     let agrees = c.expr_mul.ensures.of_two u v (first-copy d w.first.few lu) (second-copy d w.second.few lv) in
     div-done (seen c.expr_mul.new.book) (seen c.put_div.new.book) c.args.p c.in_ok-k.k c.args.coef (mul_into u v none) s c.expr_mul.result c.put_div.result agrees c.in_ok-k.was
     (λ w l. c.put_div.ensures.of_inner w s l ls)
@@ -57,6 +57,7 @@ expr_mul-loop-q-init t c = record {
   from = omega arith;
   kept = kept_refl (seen c.args.book.now) _ _;
   rest = λ s v ls lv. outset (row_of v) (λ u. mulable u v) (nothing c.args.p c.requires.1) ls;
+  same = search rules;
 }
 
 pub expr_mul-load-x-requires : goal.expr_mul-load-x-requires
@@ -98,6 +99,7 @@ expr_mul-loop-q-preserved t c =
       from = omega arith;
       kept = kept_trans inv.kept c.mul_row.ensures.kept;
       rest = λ s v ls lv. (on s v ls lv).1;
+      same = search rules;
     }
 
 pub expr_mul-returns-clause-of_two : goal.expr_mul-returns-clause-of_two
@@ -159,6 +161,7 @@ mul_row-loop-q-preserved t c =
       from = omega arith;
       kept = kept_trans inv.kept c.term_mul.ensures.kept;
       rest = λ u v s lu lv ls. (on u v s lu lv ls).1;
+      same = search rules;
     }
 
 pub mul_row-returns-clause-of_three : goal.mul_row-returns-clause-of_three

@@ -1,7 +1,7 @@
 -- The measures: with as many levels left, a pair comes before the sums of its insides, and a sum before its rows.
 -- The loops' invariant: the result so far is kept apart from the operands, and with what is left of the sum it decides.
-use Rattle.std.proofs.Common.{◌+◌, ◌-◌, ◌*◌, ◌≤◌}
-use Rattle.cells.specs.Contract.Book.{seen}
+use Rattle.std.proofs.Common.{◌+◌, ◌-◌, ◌*◌, ◌≤◌, ◌≡◌}
+use Rattle.cells.specs.Contract.Book.{seen, slices}
 use Rattle.cells.specs.Contract.Moves.{Kept}
 use Rattle.sums.specs.Tree.Sums.{Sum, none}
 use Rattle.sums.specs.Contract.Lies.{Lies}
@@ -29,6 +29,7 @@ invariant-expr_mul-loop-q l = record {
   kept : Kept (seen l.fn.book) (seen l.book) l.p (l.p + 64);
   rest : (s v : Sum) → Lies (seen l.fn.book) l.i (l.i + l.n) l.left s → Lies (seen l.fn.book) l.j (l.j + l.m) l.left v
       → Folding (row_of v) (λ u. mulable u v) (seen l.book) l.p l.len l.q (l.i + l.n) l.left none s;
+  same : slices l.book ≡ slices l.fn.book;
 }
 
 abbrev pub decreases-expr_mul-loop-q : goal.decreases-expr_mul-loop-q
@@ -42,6 +43,7 @@ invariant-mul_row-loop-q l = record {
   rest : (u v s : Sum) → Lies (seen l.fn.book) l.i (l.i + l.x.inside) (l.left - 1) u → Lies (seen l.fn.book) l.j (l.j + l.m) l.left v
       → Lies (seen l.fn.book) l.p (l.p + l.n) 4 s
       → Folding (mul_term l.x (λ w. mul_into u w none)) (rowable l.x.kind (mulable u)) (seen l.book) l.p l.len l.q (l.j + l.m) l.left s v;
+  same : slices l.book ≡ slices l.fn.book;
 }
 
 abbrev pub decreases-mul_row-loop-q : goal.decreases-mul_row-loop-q

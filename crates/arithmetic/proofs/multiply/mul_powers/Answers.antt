@@ -1,5 +1,5 @@
 -- Each power of the first sum is read, and its row goes into the sum of powers that grows apart from both. The rows are the product.
-use Rattle.std.proofs.Common.{◌≡◌, ℕ, ◌+◌, ◌<◌, true, refl, subst, Result, Ok, Err, arith}
+use Rattle.std.proofs.Common.{◌≡◌, ℕ, ◌+◌, ◌<◌, true, refl, subst, Result, Ok, Err, arith, rules}
 use Rattle.std.proofs.lemmas.Result.{err_from_is_err_and}
 use Rattle.limits.specs.declared.Refusal.{Refusal}
 use Rattle.cells.specs.Contract.Book.{seen}
@@ -37,6 +37,7 @@ loop-q-init c = record {
   few = omega arith;
   only = λ k lo hi. absurd (omega arith);
   rest = λ s v ls lv. outset (row_of v) any (nothing c.args.p c.requires.2) ls;
+  same = search rules;
 }
 
 pub load-x-requires : goal.load-x-requires
@@ -85,6 +86,7 @@ loop-q-preserved c =
       few = (on _ _ c.requires.0.operand.held.1 c.requires.1.operand.held.1).0;
       only = subst (λ (r : Result ℕ Refusal). FormedPowers r (seen c.power_row.new.book) c.args.p) c.in_ok-len.was c.power_row.ensures.kept.1;
       rest = λ s v ls lv. subst (λ (q : ℕ). Folding (row_of v) any (seen c.power_row.new.book) c.args.p c.in_ok-len.len q (c.args.i + c.args.n) 4 none s) next (on s v ls lv).1;
+      same = search rules;
     }
 
 pub returns-clause-of_two : goal.returns-clause-of_two

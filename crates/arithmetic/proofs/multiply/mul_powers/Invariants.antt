@@ -1,6 +1,6 @@
 -- The loop's invariant: what is left, row by row into what there is, gives the answer, and there are only powers.
-use Rattle.std.proofs.Common.{◌+◌, ◌≤◌}
-use Rattle.cells.specs.Contract.Book.{seen}
+use Rattle.std.proofs.Common.{◌+◌, ◌≤◌, ◌≡◌}
+use Rattle.cells.specs.Contract.Book.{seen, slices}
 use Rattle.cells.specs.Contract.Moves.{Kept}
 use Rattle.sums.specs.Tree.Sums.{Sum, none}
 use Rattle.sums.specs.Contract.Lies.{Lies}
@@ -16,4 +16,5 @@ invariant-loop-q l = record {
   only : OnlyPowers (seen l.book).kinds l.p (l.p + l.len);
   rest : (s v : Sum) → Lies (seen l.fn.book) l.i (l.i + l.n) 4 s → Lies (seen l.fn.book) l.j (l.j + l.m) 4 v
       → Folding (row_of v) any (seen l.book) l.p l.len l.q (l.i + l.n) 4 none s;
+  same : slices l.book ≡ slices l.fn.book;
 }

@@ -1,5 +1,5 @@
 -- Each power is read, and its product with x is put into the sum of powers that grows apart from it.
-use Rattle.std.proofs.Common.{◌≡◌, ℕ, ◌+◌, ◌<◌, true, refl, subst, arith}
+use Rattle.std.proofs.Common.{◌≡◌, ℕ, ◌+◌, ◌<◌, true, refl, subst, arith, rules}
 use Rattle.std.proofs.lemmas.Result.{err_from_is_err_and}
 use Rattle.numbers.specs.Ops.{◌⊕◌}
 use Rattle.numbers.specs.declared.complex.Complex.{Complex}
@@ -72,6 +72,7 @@ loop-q-preserved c =
       only =
           put_only c.args.p c.loop-q.len (x.num ⊕ y.num) _ after c.put_below.result c.in_ok-len.len (w.s', w.lies-s) c.loop-q.invariant.only told c.in_ok-len.was;
       rest = λ s v ls lv. subst (λ (q : ℕ). Folding (power_into c.args.x) any (seen c.put_below.new.book) c.args.p c.in_ok-len.len q (c.args.j + c.args.m) 4 s v) next (on s v ls lv).1;
+      same = search rules;
     }
 
 pub returns-clause-of_two : goal.returns-clause-of_two

@@ -18,11 +18,11 @@ use Rattle.arithmetic.proofs.multiply.put_div.Goals.{After-copy_in, After-put_bl
 
 -- the sum lies in the other book
 copied : (c : After-copy_in) (s : Sum) → Lies (seen c.args.book.now) c.args.p (c.args.p + c.args.n) 4 s → Lies (seen c.copy_in.new.self) 192 (192 + c.args.n) 4 s
-copied c s ls = lies-copied c.copy_in.ensures (room-less {n = 256} (omega (arith, c.requires.growing.few)) c.requires.inner.3) ls
+copied c s ls = lies-copied c.copy_in.ensures.copied (room-less {n = 256} (omega (arith, c.requires.growing.few)) c.requires.inner.3) ls
 
 -- and so does the inside
 inside : (c : After-copy_in) (w : Sum) → Lies (seen c.args.other.now) 128 (128 + c.args.k) 4 w → Lies (seen c.copy_in.new.self) 128 (128 + c.args.k) 4 w
-inside c w lw = lies-below 128 (128 + c.args.k) 4 w (copied-kept c.copy_in.ensures) (omega (arith, c.requires.inner.1)) lw
+inside c w lw = lies-below 128 (128 + c.args.k) 4 w (copied-kept c.copy_in.ensures.copied) (omega (arith, c.requires.inner.1)) lw
 
 -- what was answered there
 told : (c : After-put_block) (w s : Sum) → Lies (seen c.args.other.now) 128 (128 + c.args.k) 4 w → Lies (seen c.args.book.now) c.args.p (c.args.p + c.args.n) 4 s
@@ -44,7 +44,7 @@ pub put_block-requires-clause-n_le_sum_entries : goal.put_block-requires-clause-
 put_block-requires-clause-n_le_sum_entries c =
     let d = (goal.at.put_block-requires-clause-n_le_sum_entries c).After-copy_in in
     let pre = c.requires.growing in
-    (pre.few, room-same c.copy_in.ensures.long c.requires.inner.3, (pre.held.0, copied d pre.held.0 pre.held.1))
+    (pre.few, room-same c.copy_in.ensures.copied.long c.requires.inner.3, (pre.held.0, copied d pre.held.0 pre.held.1))
 
 pub returns-in_err-m-clause-of_inner : goal.returns-in_err-m-clause-of_inner
 returns-in_err-m-clause-of_inner c w s lw ls =
@@ -56,17 +56,17 @@ returns-in_err-m-clause-of_inner c w s lw ls =
 pub copy_in-requires-2 : goal.copy_in-requires-2
 copy_in-requires-2 c =
     let few = (made (goal.at.copy_in-requires-2 c).After-put_block c.in_ok-m.m c.in_ok-m.was).few in
-    let room = room-same c.put_block.ensures.kept.long (room-same c.copy_in.ensures.long c.requires.inner.3) in
+    let room = room-same c.put_block.ensures.kept.long (room-same c.copy_in.ensures.copied.long c.requires.inner.3) in
     (room-less {n = 256} (omega arith) room, room-less {n = c.args.p + 64} (omega arith) c.requires.growing.room)
 
 pub returns-clause-kept : goal.returns-clause-kept
 returns-clause-kept c =
     let few = (made (goal.at.returns-clause-kept c).After-put_block c.in_ok-m.m c.in_ok-m.was).few in
-    kept-wider (omega arith) (omega arith) (copied-kept c.copy_in-2.ensures)
+    kept-wider (omega arith) (omega arith) (copied-kept c.copy_in-2.ensures.copied)
 
 pub returns-clause-of_inner : goal.returns-clause-of_inner
 returns-clause-of_inner c w s lw ls =
     let d = (goal.at.returns-clause-of_inner c).After-put_block in
     let a = agreed-done (seen c.put_block.new.book) 192 _ c.put_block.result _ (told d w s lw ls) c.in_ok-m.was in
     let few = a.few in
-    agree-done (seen c.copy_in-2.new.self) c.args.p _ _ a.s a.is a.few (lies-copied c.copy_in-2.ensures (room-less {n = c.args.p + 64} (omega arith) c.requires.growing.room) a.lies)
+    agree-done (seen c.copy_in-2.new.self) c.args.p _ _ a.s a.is a.few (lies-copied c.copy_in-2.ensures.copied (room-less {n = c.args.p + 64} (omega arith) c.requires.growing.room) a.lies)

@@ -52,9 +52,9 @@ put_block-requires-clause-n_le_sum_entries c =
     let y = c.requires.0 in
     (y.few, room-same c.mul.ensures.kept.long (room-result c.args.w y.room), (y.held.0, stays (goal.at.put_block-requires-clause-n_le_sum_entries c).In_ok-k y.held.0 y.held.1))
 
-pub returns : goal.returns
-returns c =
-    let d = (goal.at.returns c).In_ok-k in
+pub returns-clause-into : goal.returns-clause-into
+returns-clause-into c =
+    let d = (goal.at.returns-clause-into c).In_ok-k in
     record {
       kept = kept_trans (kept-working c.mul.ensures.kept) (kept_result c.put_block.ensures.kept);
       agrees =

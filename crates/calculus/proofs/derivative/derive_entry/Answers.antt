@@ -8,12 +8,12 @@ use Rattle.calculus.proofs.Into.{into-as, into_more, into-power}
 use Rattle.calculus.proofs.derivative.Steps.{derive-div-is}
 use Rattle.calculus.proofs.derivative.derive_entry.Goals as goal
 
-pub returns-then-x-eq-X : goal.returns-then-x-eq-X
-returns-then-x-eq-X c =
+pub returns-then-x-eq-X-clause-into : goal.returns-then-x-eq-X-clause-into
+returns-then-x-eq-X-clause-into c =
     let x = c.args.x in
     let is_x = eq-eqb x.kind kinds.X c.if-x-eq-X.true in
     into_more
     (into-power (derive_x x) c.requires.head c.if-x-eq-X.true (λ s. sym (derive-is-x x.kind x.inside x.num x.coef none s is_x)) c.derive_x.ensures.kept c.derive_x.ensures.of_one)
 
-pub returns-then-x-eq-DIV : goal.returns-then-x-eq-DIV
-returns-then-x-eq-DIV c = into-as (λ t s. derive-div-is c.args.x t s c.if-x-eq-DIV.true) c.derive_div.ensures
+pub returns-then-x-eq-DIV-clause-into : goal.returns-then-x-eq-DIV-clause-into
+returns-then-x-eq-DIV-clause-into c = into-as (λ t s. derive-div-is c.args.x t s c.if-x-eq-DIV.true) c.derive_div.ensures.into

@@ -11,8 +11,8 @@ use Rattle.calculus.proofs.derivative.derive_exp.Goals as goal
 pub load-argument-requires : goal.load-argument-requires
 load-argument-requires c = readable c.args.i c.requires.0.argument.held.1 (omega arith) (omega (arith, c.requires.1))
 
-pub returns : goal.returns
-returns c =
+pub returns-clause-into : goal.returns-clause-into
+returns-clause-into c =
     record {
       kept = c.put_block.ensures.kept;
       agrees =

@@ -21,8 +21,8 @@ with-ln x d t s l = turned_to kinds.Div (complex.over_real (complex.times x.coef
 abbrev with-prime : Entry → Sum → Sum → Complex → Outcome
 with-prime x t s d = by_ln (ln_of x.num) (with-ln x d t s)
 
-pub returns : goal.returns
-returns c =
+pub returns-clause-into : goal.returns-clause-into
+returns-clause-into c =
     let x = c.args.x in
     record {
       kept = c.put_block.ensures.kept;

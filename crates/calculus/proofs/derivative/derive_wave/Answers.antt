@@ -16,8 +16,8 @@ use Rattle.calculus.proofs.derivative.derive_wave.Goals as goal
 abbrev with-prime : Entry → Sum → Sum → Complex → Outcome
 with-prime x t s d = turned_to (turned_kind x.kind) (complex.times x.coef d) t (turned_how x.kind) s
 
-pub returns : goal.returns
-returns c =
+pub returns-clause-into : goal.returns-clause-into
+returns-clause-into c =
     record {
       kept = c.put_block.ensures.kept;
       agrees =

@@ -8,12 +8,12 @@ use Rattle.calculus.proofs.Into.{into-refused, into-power}
 use Rattle.calculus.proofs.integral.Storing.{integrate-not}
 use Rattle.calculus.proofs.integral.integrate_entry.Goals as goal
 
-pub returns-then-x-eq-X : goal.returns-then-x-eq-X
-returns-then-x-eq-X c =
+pub returns-then-x-eq-X-clause-into : goal.returns-then-x-eq-X-clause-into
+returns-then-x-eq-X-clause-into c =
     let x = c.args.x in
     let is_x = eq-eqb x.kind kinds.X c.if-x-eq-X.true in
     into-power (integrate_x x) c.requires.0.head c.if-x-eq-X.true (λ s. sym (integrate-is-x x.kind x.inside x.num x.coef none s is_x)) c.integrate_x.ensures.kept
     c.integrate_x.ensures.of_one
 
-pub returns-then-x-lt-SIN : goal.returns-then-x-lt-SIN
-returns-then-x-lt-SIN c = into-refused (λ t lt s. integrate-not c.args.x t s c.if-x-eq-X.false c.if-x-lt-SIN.true)
+pub returns-then-x-lt-SIN-clause-into : goal.returns-then-x-lt-SIN-clause-into
+returns-then-x-lt-SIN-clause-into c = into-refused (λ t lt s. integrate-not c.args.x t s c.if-x-eq-X.false c.if-x-lt-SIN.true)

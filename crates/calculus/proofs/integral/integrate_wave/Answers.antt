@@ -7,12 +7,12 @@ use Rattle.calculus.proofs.Into.{into-refused}
 use Rattle.calculus.proofs.integral.Storing.{wave-not, wave-stored}
 use Rattle.calculus.proofs.integral.integrate_wave.Goals as goal
 
-pub returns-then-not-is_x : goal.returns-then-not-is_x
-returns-then-not-is_x c =
+pub returns-then-not-is_x-clause-into : goal.returns-then-not-is_x-clause-into
+returns-then-not-is_x-clause-into c =
     into-refused (λ t lt s. wave-not c.args.x t s c.requires.2 c.requires.0.head.most (c.is_x.ensures t lt) lt.good c.if-not-is_x.true)
 
-pub returns : goal.returns
-returns c =
+pub returns-clause-into : goal.returns-clause-into
+returns-clause-into c =
     record {
       kept = c.put_block.ensures.kept;
       agrees =

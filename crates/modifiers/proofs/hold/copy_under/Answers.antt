@@ -22,15 +22,15 @@ asks c = copied-asks c.args.k c.in-Some.w c.in-Some-e.u c.requires c.in-Some.ens
 pub measure-d-requires : goal.measure-d-requires
 measure-d-requires c = search-asks c.requires
 
-pub returns-in_default : goal.returns-in_default
-returns-in_default c = copied-short c.args.at c.args.k c.too_few.result c.too_few.ensures c.in_default.ensures
+pub returns-in_default-clause-begins : goal.returns-in_default-clause-begins
+returns-in_default-clause-begins c = copied-short c.args.at c.args.k c.too_few.result c.too_few.ensures c.in_default.ensures
 
 pub measure-e-requires : goal.measure-e-requires
 measure-e-requires c = search-top c.args.k c.in-Some.w c.requires c.in-Some.ensures
 
-pub returns-in_default-e : goal.returns-in_default-e
-returns-in_default-e c =
-    absurd (copied-never c.args.k c.in-Some.w c.requires.some.0.stack c.in-Some.ensures (missed (goal.at.returns-in_default-e c).In_default-e) c.requires.some.1.stack)
+pub returns-in_default-e-clause-begins : goal.returns-in_default-e-clause-begins
+returns-in_default-e-clause-begins c =
+    absurd (copied-never c.args.k c.in-Some.w c.requires.some.0.stack c.in-Some.ensures (missed (goal.at.returns-in_default-e-clause-begins c).In_default-e) c.requires.some.1.stack)
 
 pub overflow_sub-u : goal.overflow_sub-u
 overflow_sub-u c = (asks c).0
@@ -38,6 +38,6 @@ overflow_sub-u c = (asks c).0
 pub copy_below-requires : goal.copy_below-requires
 copy_below-requires c = (c.requires, (asks (goal.at.copy_below-requires c).In-Some-e).1)
 
-pub returns : goal.returns
-returns c =
-    copied c.args.at c.args.k c.in-Some.w c.in-Some-e.u c.copy_below.result c.in-Some.ensures (next (goal.at.returns c).In-Some-e) c.copy_below.ensures
+pub returns-clause-begins : goal.returns-clause-begins
+returns-clause-begins c =
+    copied c.args.at c.args.k c.in-Some.w c.in-Some-e.u c.copy_below.result c.in-Some.ensures (next (goal.at.returns-clause-begins c).In-Some-e) c.copy_below.ensures.copies_below

@@ -17,23 +17,23 @@ within c = lowest-within (c.args.k - c.args.c) c.in-Some.w c.requires.2.0 (found
 pub measure-d-requires : goal.measure-d-requires
 measure-d-requires c = search-held c.args.v (c.args.v + c.args.m) c.requires.2.0 c.requires.1 c.requires.2.1
 
-pub returns-in_default : goal.returns-in_default
-returns-in_default c ss up len =
+pub returns-in_default-clause-stacked : goal.returns-in_default-clause-stacked
+returns-in_default-clause-stacked c ss up len =
     absurd (lent_never c.args.k c.args.c ss (found-for (slots c.args.arena.now) c.args.v (c.args.v + c.args.m) None c.less.ensures c.in_default.ensures) len up)
 
 pub overflow_sub-n : goal.overflow_sub-n
 overflow_sub-n c = (within c).0
 
-pub returns-then-v-used : goal.returns-then-v-used
-returns-then-v-used c ss up len =
-    let d = (goal.at.returns-then-v-used c).In-Some in
+pub returns-then-v-used-clause-stacked : goal.returns-then-v-used-clause-stacked
+returns-then-v-used-clause-stacked c ss up len =
+    let d = (goal.at.returns-then-v-used-clause-stacked c).In-Some in
     lent-full c.args.at (c.in-Some.w - c.args.v) (deepest c.args.c ss) c.requires.0 (lowest-at c.args.k c.args.c c.in-Some.w ss (found d) len up) c.if-v-used.true
 
 pub sink-requires : goal.sink-requires
 sink-requires c = (c.requires.0.some.1.below, space-less (within (goal.at.sink-requires c).In-Some).1 c.requires.1)
 
-pub returns : goal.returns
-returns c ss up len =
-    let d = (goal.at.returns c).In-Some in
+pub returns-clause-stacked : goal.returns-clause-stacked
+returns-clause-stacked c ss up len =
+    let d = (goal.at.returns-clause-stacked c).In-Some in
     lent_fits c.args.at (c.in-Some.w - c.args.v) (deepest c.args.c ss) c.requires.0 (space-less (within d).1 c.requires.1)
-    (lowest-at c.args.k c.args.c c.in-Some.w ss (found d) len up) c.if-v-used.false c.sink.ensures
+    (lowest-at c.args.k c.args.c c.in-Some.w ss (found d) len up) c.if-v-used.false c.sink.ensures.sunk

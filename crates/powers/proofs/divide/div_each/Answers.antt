@@ -1,5 +1,5 @@
 -- Each entry is read, divided, and put into the sum that grows apart from it.
-use Rattle.std.proofs.Common.{◌+◌, arith}
+use Rattle.std.proofs.Common.{◌+◌, arith, rules}
 use Rattle.std.proofs.lemmas.Result.{err_from_is_err_and}
 use Rattle.cells.specs.Contract.Book.{seen}
 use Rattle.cells.specs.declared.Entry.{Entry}
@@ -35,6 +35,7 @@ loop-q-init c =
       from = omega arith;
       few = omega arith;
       rest = λ s v ls d. outset (step c.args.y v) any (lies_empty b w 4 (room-less {n = w + (64 + 64)} (omega arith) c.requires.2)) ls;
+      same = search rules;
     }
 
 pub load-x-requires : goal.load-x-requires
@@ -74,6 +75,7 @@ loop-q-preserved c =
       from = omega arith;
       few = (on _ _ c.requires.0.held.1 c.requires.1.held.1).0;
       rest = λ s v ls d. (on s v ls d).1;
+      same = search rules;
     }
 
 pub returns-clause-of_divisor : goal.returns-clause-of_divisor

@@ -1,6 +1,6 @@
 -- The loop's invariant: what is left, divided and added into what there is, gives the answer.
-use Rattle.std.proofs.Common.{◌+◌, ◌-◌, ◌≤◌}
-use Rattle.cells.specs.Contract.Book.{seen}
+use Rattle.std.proofs.Common.{◌+◌, ◌-◌, ◌≤◌, ◌≡◌}
+use Rattle.cells.specs.Contract.Book.{seen, slices}
 use Rattle.cells.specs.Contract.Moves.{Kept}
 use Rattle.sums.specs.Tree.Sums.{Sum, none}
 use Rattle.sums.specs.Contract.Lies.{Lies}
@@ -17,6 +17,7 @@ invariant-loop-q l = record {
   few : l.len ≤ 64;
   rest : (s v : Sum) → Lies (seen l.fn.book) l.i (l.i + l.n) 4 s → Divisor (seen l.fn.book) l.y l.j v
       → Folding (λ x t u. div_term l.y v x u) any (seen l.book) l.w l.len l.q (l.i + l.n) 4 none s;
+  same : slices l.book ≡ slices l.fn.book;
 }
 
 abbrev pub decreases-loop-q : goal.decreases-loop-q

@@ -20,11 +20,11 @@ use Rattle.powers.proofs.divide.over_other.Goals.{After-insert}
 
 -- only working places were written
 kept : (c : After-insert) → Kept (seen c.args.book.now) (seen c.insert.new.self) (c.args.w + 64) (c.args.w + 64 + 64)
-kept c = let few = c.requires.0.held.1.few in kept-wider (omega arith) (omega arith) (inserted-kept c.insert.ensures)
+kept c = let few = c.requires.0.held.1.few in kept-wider (omega arith) (omega arith) (inserted-kept c.insert.ensures.inserted)
 
 laid : (c : After-insert) (v : Sum) → Divisor (seen c.args.book.now) c.args.y c.args.j v
     → Lies (seen c.insert.new.self) (c.args.w + 64) (c.args.w + 64 + (c.args.y.inside + 1)) 4 (single c.args.y.kind c.args.y.num v complex.one)
-laid c v d = single-lies v (room-working c.args.w c.requires.1.room) c.insert.ensures d
+laid c v d = single-lies v (room-working c.args.w c.requires.1.room) c.insert.ensures.inserted d
 
 -- the sum still lies
 stays : (c : After-insert) (s : Sum) → Lies (seen c.args.book.now) c.args.w (c.args.w + c.args.n) 4 s → Lies (seen c.insert.new.self) c.args.w (c.args.w + c.args.n) 4 s

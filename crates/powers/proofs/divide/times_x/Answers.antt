@@ -1,5 +1,5 @@
 -- Each entry is read, multiplied, and put into the sum that grows apart from it.
-use Rattle.std.proofs.Common.{◌≡◌, ◌+◌, sym, ◌∙◌, subst, arith}
+use Rattle.std.proofs.Common.{◌≡◌, ◌+◌, sym, ◌∙◌, subst, arith, rules}
 use Rattle.std.proofs.lemmas.Result.{err_from_is_err_and}
 use Rattle.numbers.specs.Ops.{◌⊕◌}
 use Rattle.numbers.specs.declared.complex.Complex.{Complex}
@@ -48,6 +48,7 @@ loop-q-init c =
       from = omega arith;
       few = omega arith;
       rest = λ t lt. outset (step_x c.args.power) any (lies_empty b p 4 (room-less {n = p + 64} (omega arith) c.requires.1)) lt;
+      same = search rules;
     }
 
 pub load-y-requires : goal.load-y-requires
@@ -78,6 +79,7 @@ loop-q-preserved c =
       from = omega arith;
       few = (on _ c.requires.0.held.1).0;
       rest = λ t lt. (on t lt).1;
+      same = search rules;
     }
 
 pub returns-clause-of_one : goal.returns-clause-of_one

@@ -1,5 +1,5 @@
 -- Each turn multiplies the product so far by the base, and counts the pairs of their outermost terms.
-use Rattle.std.proofs.Common.{◌≡◌, suc, ◌+◌, ◌*◌, ◌-◌, ◌≤◌, refl, ap₂, ◌∙◌, arith}
+use Rattle.std.proofs.Common.{◌≡◌, suc, ◌+◌, ◌*◌, ◌-◌, ◌≤◌, refl, ap₂, ◌∙◌, arith, rules}
 use native.Mathlib.Nat.{mul_comm}
 use borrow.Author.Tests.{eqb-true}
 use Rattle.cells.specs.Contract.Book.{seen, at}
@@ -63,6 +63,7 @@ loop-turn-init c = record {
   kept = kept_refl (seen c.args.book.now) c.args.w (c.args.w + (64 + 64));
   low = omega arith;
   so_far = λ s ls. so-far-start (omega arith) ls;
+  same = search rules;
 }
 
 pub overflow_mul-more : goal.overflow_mul-more
@@ -100,6 +101,7 @@ loop-turn-preserved c =
       kept = kept g.After-mul;
       low = omega (arith, c.loop-turn.invariant.low, few-pairs g.After-outermost);
       so_far = λ s ls. (next g.In-Ok s ls).1;
+      same = search rules;
     }
 
 pub returns-clause-of_one : goal.returns-clause-of_one

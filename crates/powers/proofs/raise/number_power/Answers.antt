@@ -20,10 +20,10 @@ fitting : (c : Start) → T (fits binary64 c.args.base)
 fitting c = search rules
 
 room-there : (c : After-store) → Room (seen c.store.new.self) 192
-room-there c = room-same c.store.ensures.long (room-fresh 192)
+room-there c = room-same c.store.ensures.put.long (room-fresh 192)
 
 number : (c : After-store) → Lies (seen c.store.new.self) 0 (0 + 1) 4 (constant (real c.args.base))
-number c = constant-lies _ c.requires.0 0 (room-less {n = 192} (omega arith) (room-fresh 192)) (fitting (goal.at.After-store c).Start) c.store.ensures
+number c = constant-lies _ c.requires.0 0 (room-less {n = 192} (omega arith) (room-fresh 192)) (fitting (goal.at.After-store c).Start) c.store.ensures.put
 
 told : (c : After-power_by-raised) → Agrees c.power_by-raised.result.formed (seen c.power_by-raised.new.book) 64 (power (constant (real c.args.base)) c.args.e)
 told c = c.power_by-raised.ensures.of_one _ (number (goal.at.After-power_by-raised c).After-store)
@@ -50,10 +50,10 @@ copy_in-requires c =
     (room-less {n = 192} (omega arith) (room-same c.power_by-raised.ensures.kept.long (room-there g.After-store)), room-less {n = c.args.p + 64} (omega arith) c.requires.2)
 
 pub returns-clause-kept : goal.returns-clause-kept
-returns-clause-kept c = let few = (made (goal.at.returns-clause-kept c).In_ok-m).few in kept-wider (omega arith) (omega arith) (copied-kept c.copy_in.ensures)
+returns-clause-kept c = let few = (made (goal.at.returns-clause-kept c).In_ok-m).few in kept-wider (omega arith) (omega arith) (copied-kept c.copy_in.ensures.copied)
 
 pub returns-clause-agrees : goal.returns-clause-agrees
 returns-clause-agrees c =
     let a = made (goal.at.returns-clause-agrees c).In_ok-m in
     let few = a.few in
-    agree-done (seen c.copy_in.new.self) c.args.p _ _ a.s a.is a.few (lies-copied c.copy_in.ensures (room-less {n = c.args.p + 64} (omega arith) c.requires.2) a.lies)
+    agree-done (seen c.copy_in.new.self) c.args.p _ _ a.s a.is a.few (lies-copied c.copy_in.ensures.copied (room-less {n = c.args.p + 64} (omega arith) c.requires.2) a.lies)

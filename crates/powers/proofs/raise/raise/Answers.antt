@@ -17,7 +17,7 @@ returns-then-times-eq0-clause-of_one c s ls =
     let few = c.requires.1.few in
     counted-agrees after c.args.w _ _ c.counted.ensures
     (agree-done after c.args.w c.args.n _ s (ap (λ (m : ℕ). raised m s s) c.if-times-eq0.true ∙ raised-none s s) few
-    (lies-copied c.copy_within.ensures (room-less {n = c.args.w + (64 + 64)} (omega arith) c.requires.2) ls))
+    (lies-copied c.copy_within.ensures.copied (room-less {n = c.args.w + (64 + 64)} (omega arith) c.requires.2) ls))
 
 pub returns-then-times-eq0-clause-of_one_2 : goal.returns-then-times-eq0-clause-of_one_2
 returns-then-times-eq0-clause-of_one_2 c s ls = counted_is c.counted.ensures (sym (ap (λ (m : ℕ). raised_pairs m s s) c.if-times-eq0.true ∙ raised-pairs-none s s))

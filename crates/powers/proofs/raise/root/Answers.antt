@@ -9,7 +9,7 @@ use Rattle.powers.proofs.raise.root.Goals as goal
 use Rattle.powers.proofs.raise.root.Goals.{After-copy_within}
 
 copied : (c : After-copy_within) (s : Sum) → Rooting (seen c.args.book.now) c.args.i c.args.n s → Rooting (seen c.copy_within.new.self) c.args.p c.args.n s
-copied c s r = rooting-copied c.copy_within.ensures (room-less {n = c.args.p + 64} (omega (arith, r.few)) c.requires.3) r
+copied c s r = rooting-copied c.copy_within.ensures.copied (room-less {n = c.args.p + 64} (omega (arith, r.few)) c.requires.3) r
 
 pub root_each-requires : goal.root_each-requires
 root_each-requires c = let held = c.requires.1 in (c.requires.0, (held.0, copied (goal.at.root_each-requires c).After-copy_within held.0 held.1))

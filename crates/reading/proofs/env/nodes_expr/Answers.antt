@@ -7,20 +7,20 @@ use Rattle.reading.proofs.env.nodes_expr.Goals as goal
 
 pub walk-ran-requires : goal.walk-ran-requires
 walk-ran-requires c =
-    let x = c.begin_with_x-env.ensures c.args.top c.requires.1 in
+    let x = c.begin_with_x-env.ensures.reaches c.args.top c.requires.1 in
     (x.0, (false, keeps (all-records c.args.list.now c.count_records-n.ensures c.requires.0), λ e. absurd (never e)))
 
 pub last_of-requires : goal.last_of-requires
 last_of-requires c =
-    let x = c.begin_with_x-env.ensures c.args.top c.requires.1 in
-    (c.args.top, read-ready c.args.list.now c.count_records-n.ensures x.1 c.in-Went.ensures x.0)
+    let x = c.begin_with_x-env.ensures.reaches c.args.top c.requires.1 in
+    (c.args.top, read-ready c.args.list.now c.count_records-n.ensures x.1 c.in-Went.ensures.does x.0)
 
-pub returns-in-Stopped : goal.returns-in-Stopped
-returns-in-Stopped c =
-    let x = c.begin_with_x-env.ensures c.args.top c.requires.1 in
-    read-stop c.args.list.now c.count_records-n.ensures x.1 (seen c.walk-ran.new.arena.book) c.in-Stopped.ensures
+pub returns-in-Stopped-clause-data_as : goal.returns-in-Stopped-clause-data_as
+returns-in-Stopped-clause-data_as c =
+    let x = c.begin_with_x-env.ensures.reaches c.args.top c.requires.1 in
+    read-stop c.args.list.now c.count_records-n.ensures x.1 (seen c.walk-ran.new.arena.book) c.in-Stopped.ensures.does
 
-pub returns-in-Went : goal.returns-in-Went
-returns-in-Went c =
-    let x = c.begin_with_x-env.ensures c.args.top c.requires.1 in
-    read-went c.args.list.now c.count_records-n.ensures x.1 c.in-Went.ensures c.last_of.result _ c.last_of.ensures
+pub returns-in-Went-clause-data_as : goal.returns-in-Went-clause-data_as
+returns-in-Went-clause-data_as c =
+    let x = c.begin_with_x-env.ensures.reaches c.args.top c.requires.1 in
+    read-went c.args.list.now c.count_records-n.ensures x.1 c.in-Went.ensures.does c.last_of.result _ c.last_of.ensures

@@ -1,5 +1,5 @@
 -- The functions of walks that call each other meet their contracts, by the lemmas in walk::Laws.
-use Rattle.std.proofs.Common.{◌+◌, ◌-◌, true, false, arith, refl, sym, ap, ◌∙◌}
+use Rattle.std.proofs.Common.{◌+◌, ◌-◌, true, false, arith, refl, sym, ap, ◌∙◌, rules}
 use Rattle.formats.specs.Names.{kind_of}
 use Rattle.formats.specs.Tree.{forest}
 use Rattle.formats.specs.declared.record.Record.{Record}
@@ -23,14 +23,14 @@ walk-overflow_add-next-in-loop-at t c =
 pub walk-leaf-requires : goal.walk-leaf-requires
 walk-leaf-requires t c = prepared c.loop-at.invariant.ready
 
-pub walk-returns-in-Stopped : goal.walk-returns-in-Stopped
-walk-returns-in-Stopped t c =
+pub walk-returns-in-Stopped-clause-does : goal.walk-returns-in-Stopped-clause-does
+walk-returns-in-Stopped-clause-does t c =
     let l = c.loop-at in
     let r = c.record_at-r.result in
     let h = 1152 - c.args.v in
     let fs = runners (l.at + 1) (forest c.args.list.now (l.at + 1) (l.at + 1 + r.inside)) in
     let plain = quick-inside (kind_of r.kind) (sym c.is_quick.ensures ∙ c.if-is_quick.true) in
-    let stopped = leaf-stopped (env_of l.used l.handled l.complex l.pairs) _ l.at r (kind_of r.kind) h (c.leaf.ensures l.at) c.in-Stopped.is in
+    let stopped = leaf-stopped (env_of l.used l.handled l.complex l.pairs) _ l.at r (kind_of r.kind) h (c.leaf.ensures.acts l.at) c.in-Stopped.is in
     going-stop _ l.invariant.going (step-leaf l.at r fs refl plain stopped) ((turn-here l.invariant.left c.loop-at-test.true c.record_at-r.ensures.0).on h)
 
 pub walk-loop-at-preserved-then-is_quick : goal.walk-loop-at-preserved-then-is_quick
@@ -41,11 +41,11 @@ walk-loop-at-preserved-then-is_quick t c =
     let fs = runners (l.at + 1) (forest c.args.list.now (l.at + 1) (l.at + 1 + r.inside)) in
     let plain = quick-inside (kind_of r.kind) (sym c.is_quick.ensures ∙ c.if-is_quick.true) in
     let went =
-    leaf-went (env_of l.used l.handled l.complex l.pairs) _ l.at r (kind_of r.kind) h (c.leaf.ensures l.at) c.in-Went.is
+    leaf-went (env_of l.used l.handled l.complex l.pairs) _ l.at r (kind_of r.kind) h (c.leaf.ensures.acts l.at) c.in-Went.is
     c.counted-handled.ensures c.flags-complex.ensures c.capped_sum-pairs.ensures in
     let turned = turn-here l.invariant.left c.loop-at-test.true c.record_at-r.ensures.0 in
     let gone = going_step l.invariant.going (step-leaf l.at r fs refl plain went) (turned.on h) in
-    record { left = (l.invariant.left.0, turned.rest, turned.one); ready = going-ready c.requires.0 gone; going = gone }
+    record { left = (l.invariant.left.0, turned.rest, turned.one); ready = going-ready c.requires.0 gone; going = gone; same = search rules }
 
 pub walk-loop-at-preserved-then-has_nodes : goal.walk-loop-at-preserved-then-has_nodes
 walk-loop-at-preserved-then-has_nodes t c =
@@ -53,27 +53,27 @@ walk-loop-at-preserved-then-has_nodes t c =
     let r = c.record_at-r in
     let left = l.invariant.left in
     let behind = descended c.args.list.now l.at c.args.to left.0 _ r.result left.1 left.2 c.loop-at-test.true r.ensures.0 (sym c.has_nodes.ensures ∙ c.if-has_nodes.true) in
-    record { left = (false, behind.0, λ e. absurd (never e)); ready = l.invariant.ready; going = going-same l.invariant.going (behind.1 (1152 - c.args.v)) }
+    record { left = (false, behind.0, λ e. absurd (never e)); ready = l.invariant.ready; going = going-same l.invariant.going (behind.1 (1152 - c.args.v)); same = l.invariant.same }
 
 pub walk-step-requires : goal.walk-step-requires
 walk-step-requires t c =
     let turned = turn-here c.loop-at.invariant.left c.loop-at-test.true c.record_at-r.ensures.0 in
     (omega (arith, turned.low), (ready-as c.env_of-cur.ensures c.loop-at.invariant.ready, turned.inside, sym c.has_nodes.ensures ∙ c.if-has_nodes.false))
 
-pub walk-returns-in-Stopped-step : goal.walk-returns-in-Stopped-step
-walk-returns-in-Stopped-step t c =
-    let stepped = does-as c.env_of-cur.ensures c.in-Stopped-step.ensures in
+pub walk-returns-in-Stopped-step-clause-does : goal.walk-returns-in-Stopped-step-clause-does
+walk-returns-in-Stopped-step-clause-does t c =
+    let stepped = does-as c.env_of-cur.ensures c.in-Stopped-step.ensures.does in
     going-stop _ c.loop-at.invariant.going stepped ((turn-here c.loop-at.invariant.left c.loop-at-test.true c.record_at-r.ensures.0).on (1152 - c.args.v))
 
 pub walk-loop-at-preserved : goal.walk-loop-at-preserved
 walk-loop-at-preserved t c =
     let l = c.loop-at in
     let turned = turn-here l.invariant.left c.loop-at-test.true c.record_at-r.ensures.0 in
-    let gone = going_step l.invariant.going (does-as c.env_of-cur.ensures c.in-Went-step.ensures) (turned.on (1152 - c.args.v)) in
-    record { left = (l.invariant.left.0, turned.rest, turned.one); ready = going-ready c.requires.0 gone; going = gone }
+    let gone = going_step l.invariant.going (does-as c.env_of-cur.ensures c.in-Went-step.ensures.does) (turned.on (1152 - c.args.v)) in
+    record { left = (l.invariant.left.0, turned.rest, turned.one); ready = going-ready c.requires.0 gone; going = gone; same = search rules }
 
-pub walk-returns : goal.walk-returns
-walk-returns t c =
+pub walk-returns-clause-does : goal.walk-returns-clause-does
+walk-returns-clause-does t c =
     does-back (ap Went c.env_of.ensures) (going_end c.loop-at.invariant.going (λ st. walk_none c.args.list.now c.loop-at.at c.args.to (1152 - c.args.v) st c.loop-at-test.false))
 
 -- ---- step
@@ -82,25 +82,25 @@ pub step-modify-requires : goal.step-modify-requires
 step-modify-requires t c =
     (omega arith, (c.requires.0, bodily-of c.args.list.now c.args.at c.args.r refl (bodies-inside c.args.r _ c.is_a.ensures c.if-is_a.true) c.requires.1))
 
-pub step-returns-then-is_a : goal.step-returns-then-is_a
-step-returns-then-is_a t c =
+pub step-returns-then-is_a-clause-does : goal.step-returns-then-is_a-clause-does
+step-returns-then-is_a-clause-does t c =
     let a = c.args in
     let fs = runners (a.at + 1) (forest a.list.now (a.at + 1) (a.at + 1 + a.r.inside)) in
-    step-bodies a.at a.r fs refl (bodies-inside a.r _ c.is_a.ensures c.if-is_a.true) c.modify.ensures
+    step-bodies a.at a.r fs refl (bodies-inside a.r _ c.is_a.ensures c.if-is_a.true) c.modify.ensures.does
 
-pub step-returns : goal.step-returns
-step-returns t c =
+pub step-returns-clause-does : goal.step-returns-clause-does
+step-returns-clause-does t c =
     let a = c.args in
     let fs = runners (a.at + 1) (forest a.list.now (a.at + 1) (a.at + 1 + a.r.inside)) in
-    step-leaf a.at a.r fs refl (nothing-else a.r _ c.is_a.ensures c.if-is_a.false c.requires.2) c.read_leaf.ensures
+    step-leaf a.at a.r fs refl (nothing-else a.r _ c.is_a.ensures c.if-is_a.false c.requires.2) c.read_leaf.ensures.does
 
 -- ---- modify
 
 pub modify-refuse-requires : goal.modify-refuse-requires
 modify-refuse-requires t c = halt-asks c.requires.0
 
-pub modify-returns-in-Refused : goal.modify-returns-in-Refused
-modify-returns-in-Refused t c =
+pub modify-returns-in-Refused-clause-does : goal.modify-returns-in-Refused-clause-does
+modify-returns-in-Refused-clause-does t c =
     let a = c.args in
     halt-does {F = modified a.list.now a.at a.r} c.refuse.ensures c.in-Refused.ensures
 
@@ -111,60 +111,60 @@ with_bodies-around-requires t c =
     let follows = c.plan_of-p.ensures _ c.requires.1 in (
       omega (arith, follows.first.low, follows.then.low),
       (
-        plan-round follows c.in-Held.ensures c.requires.0,
+        plan-round follows c.in-Held.ensures.begins c.requires.0,
         record { first = keeps follows.first; then = keeps follows.then; first_one = follows.first_one; then_one = follows.then_one },
       ),
     )
 
-pub with_bodies-returns-in-Halted : goal.with_bodies-returns-in-Halted
-with_bodies-returns-in-Halted t c = plan-stop (c.plan_of-p.ensures _ c.requires.1) c.in-Halted.ensures
+pub with_bodies-returns-in-Halted-clause-does : goal.with_bodies-returns-in-Halted-clause-does
+with_bodies-returns-in-Halted-clause-does t c = plan-stop (c.plan_of-p.ensures _ c.requires.1) c.in-Halted.ensures.begins
 
-pub with_bodies-returns-in-Held : goal.with_bodies-returns-in-Held
-with_bodies-returns-in-Held t c = plan-end (c.plan_of-p.ensures _ c.requires.1) c.in-Held.ensures c.around.ensures
+pub with_bodies-returns-in-Held-clause-does : goal.with_bodies-returns-in-Held-clause-does
+with_bodies-returns-in-Held-clause-does t c = plan-end (c.plan_of-p.ensures _ c.requires.1) c.in-Held.ensures.begins c.around.ensures.rounds
 
 -- ---- around
 
-pub around-returns-in-Stopped : goal.around-returns-in-Stopped
-around-returns-in-Stopped t c = round-stop c.args.list.now c.args.p c.requires.0 c.in-Stopped.ensures
+pub around-returns-in-Stopped-clause-rounds : goal.around-returns-in-Stopped-clause-rounds
+around-returns-in-Stopped-clause-rounds t c = round-stop c.args.list.now c.args.p c.requires.0 c.in-Stopped.ensures.does
 
 pub around-put_back-back-requires : goal.around-put_back-back-requires
 around-put_back-back-requires t c =
-    let held = round-held c.args.list.now c.args.p c.requires.0 c.in-Went.ensures in
-    (round-ready c.args.list.now c.args.p c.requires.0 c.in-Went.ensures, held.0, held.1)
+    let held = round-held c.args.list.now c.args.p c.requires.0 c.in-Went.ensures.does in
+    (round-ready c.args.list.now c.args.p c.requires.0 c.in-Went.ensures.does, held.0, held.1)
 
 pub around-walk-requires : goal.around-walk-requires
 around-walk-requires t c = (
   omega arith,
   (
-    round-back c.args.list.now c.args.p c.requires.0 c.in-Went.ensures c.put_back-back.ensures,
+    round-back c.args.list.now c.args.p c.requires.0 c.in-Went.ensures.does c.put_back-back.ensures.puts_back,
     (true, c.requires.1.then, λ e. c.requires.1.then_one),
   ),
 )
 
-pub around-returns-in-Went : goal.around-returns-in-Went
-around-returns-in-Went t c = round-end c.args.list.now c.args.p c.requires.0 c.in-Went.ensures c.put_back-back.ensures c.walk.ensures
+pub around-returns-in-Went-clause-rounds : goal.around-returns-in-Went-clause-rounds
+around-returns-in-Went-clause-rounds t c = round-end c.args.list.now c.args.p c.requires.0 c.in-Went.ensures.does c.put_back-back.ensures.puts_back c.walk.ensures.does
 
 -- ---- fork
 
 pub fork-overflow_sub-v : goal.fork-overflow_sub-v
-fork-overflow_sub-v t c = began-few c.requires.0 c.in-Held.ensures
+fork-overflow_sub-v t c = began-few c.requires.0 c.in-Held.ensures.begins
 
 pub fork-fork_each-requires : goal.fork-fork_each-requires
 fork-fork_each-requires t c =
     let a = c.args in
     let many =
-    fork-many a.list.now a.at a.r c.most_args-k.result c.requires.2 c.most_args-k.ensures c.in-Held.ensures c.requires.0 in
+    fork-many a.list.now a.at a.r c.most_args-k.result c.requires.2 c.most_args-k.ensures c.in-Held.ensures.begins c.requires.0 in
     (omega arith, (many.0, c.requires.1, many.1))
 
-pub fork-returns-in-Halted : goal.fork-returns-in-Halted
-fork-returns-in-Halted t c =
+pub fork-returns-in-Halted-clause-does : goal.fork-returns-in-Halted-clause-does
+fork-returns-in-Halted-clause-does t c =
     let a = c.args in
-    fork-stop a.list.now a.at a.r c.most_args-k.result c.requires.2 c.most_args-k.ensures c.in-Halted.ensures
+    fork-stop a.list.now a.at a.r c.most_args-k.result c.requires.2 c.most_args-k.ensures c.in-Halted.ensures.begins
 
-pub fork-returns-in-Held : goal.fork-returns-in-Held
-fork-returns-in-Held t c =
+pub fork-returns-in-Held-clause-does : goal.fork-returns-in-Held-clause-does
+fork-returns-in-Held-clause-does t c =
     let a = c.args in
-    fork-end a.list.now a.at a.r c.most_args-k.result c.requires.2 c.most_args-k.ensures c.in-Held.ensures c.requires.0 c.fork_each.ensures
+    fork-end a.list.now a.at a.r c.most_args-k.result c.requires.2 c.most_args-k.ensures c.in-Held.ensures.begins c.requires.0 c.fork_each.ensures.forks
 
 -- ---- fork_each
 
@@ -172,6 +172,7 @@ pub fork_each-loop-i-init : goal.fork_each-loop-i-init
 fork_each-loop-i-init t c = record {
   few = omega (arith, c.count_nodes-n.ensures);
   forking = forking-begin c.args.list.now c.args.at (c.args.at + 1) c.args.to _ c.requires.1 c.count_nodes-n.ensures;
+  same = refl;
 }
 
 pub fork_each-record_at-r-requires : goal.fork_each-record_at-r-requires
@@ -182,10 +183,10 @@ fork_each-lend_deepest-lent-requires t c =
     let w = forking-ready c.args.list.now c.args.at (c.args.at + 1) c.args.to _ c.requires.1 c.requires.0 c.requires.2 c.loop-i.invariant.forking in
     (w.0, w.1.space, w.1.held)
 
-pub fork_each-returns-in_default : goal.fork_each-returns-in_default
-fork_each-returns-in_default t c =
+pub fork_each-returns-in_default-clause-forks : goal.fork_each-returns-in_default-clause-forks
+fork_each-returns-in_default-clause-forks t c =
     let l = c.loop-i.invariant in
-    turn-lend-stop c.requires.1 (omega arith) l.few l.forking c.place_of-b.ensures c.record_at-r.ensures.0 c.wide.ensures c.requires.2 c.lend_deepest-lent.ensures c.in_default.is
+    turn-lend-stop c.requires.1 (omega arith) l.few l.forking c.place_of-b.ensures c.record_at-r.ensures.0 c.wide.ensures c.requires.2 c.lend_deepest-lent.ensures.stacked c.in_default.is
 
 pub fork_each-overflow_add-b : goal.fork_each-overflow_add-b
 fork_each-overflow_add-b t c = omega (arith, c.requires.1.few, turn-room c.requires.1 (omega arith) c.loop-i.invariant.few c.place_of-b.ensures)
@@ -201,16 +202,16 @@ fork_each-walk-ran-requires t c =
     let body = turn_body c.requires.1 (omega arith) l.few l.forking c.place_of-b.ensures c.record_at-r.ensures.0 c.wide.ensures in (
       omega (arith, body.low),
       (
-        turn-ready c.requires.1 (omega arith) l.few l.forking c.place_of-b.ensures c.record_at-r.ensures.0 c.wide.ensures c.requires.2 c.lend_deepest-lent.ensures c.in-Went.is c.requires.0,
+        turn-ready c.requires.1 (omega arith) l.few l.forking c.place_of-b.ensures c.record_at-r.ensures.0 c.wide.ensures c.requires.2 c.lend_deepest-lent.ensures.stacked c.in-Went.is c.requires.0,
         (true, keeps body, λ e k. ap (λ (x : Record). c.place_of-b.result + 1 + x.inside) (sym c.record_at-r.ensures.0)),
       ),
     )
 
-pub fork_each-returns-in_default-ran : goal.fork_each-returns-in_default-ran
-fork_each-returns-in_default-ran t c =
+pub fork_each-returns-in_default-ran-clause-forks : goal.fork_each-returns-in_default-ran-clause-forks
+fork_each-returns-in_default-ran-clause-forks t c =
     let l = c.loop-i.invariant in
-    turn-walk-stop c.requires.1 (omega arith) l.few l.forking c.place_of-b.ensures c.record_at-r.ensures.0 c.wide.ensures c.requires.2 c.lend_deepest-lent.ensures
-    c.in-Went.is c.walk-ran.ensures c.in_default-ran.is
+    turn-walk-stop c.requires.1 (omega arith) l.few l.forking c.place_of-b.ensures c.record_at-r.ensures.0 c.wide.ensures c.requires.2 c.lend_deepest-lent.ensures.stacked
+    c.in-Went.is c.walk-ran.ensures.does c.in_default-ran.is
 
 pub fork_each-loop-i-preserved : goal.fork_each-loop-i-preserved
 fork_each-loop-i-preserved t c =
@@ -218,9 +219,10 @@ fork_each-loop-i-preserved t c =
     record {
       few = omega (arith, l.few);
       forking =
-          turn-next c.requires.1 (omega arith) l.few l.forking c.place_of-b.ensures c.record_at-r.ensures.0 c.wide.ensures c.requires.2 c.lend_deepest-lent.ensures
-          c.in-Went.is c.walk-ran.ensures c.in-Went-ran.is;
+          turn-next c.requires.1 (omega arith) l.few l.forking c.place_of-b.ensures c.record_at-r.ensures.0 c.wide.ensures c.requires.2 c.lend_deepest-lent.ensures.stacked
+          c.in-Went.is c.walk-ran.ensures.does c.in-Went-ran.is;
+      same = search rules;
     }
 
-pub fork_each-returns : goal.fork_each-returns
-fork_each-returns t c = forking-done c.args.list.now c.args.at (c.args.at + 1) c.args.to _ c.requires.1 (omega arith) c.loop-i.invariant.forking
+pub fork_each-returns-clause-forks : goal.fork_each-returns-clause-forks
+fork_each-returns-clause-forks t c = forking-done c.args.list.now c.args.at (c.args.at + 1) c.args.to _ c.requires.1 (omega arith) c.loop-i.invariant.forking

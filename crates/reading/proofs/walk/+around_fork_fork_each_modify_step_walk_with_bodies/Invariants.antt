@@ -1,10 +1,10 @@
 -- What lies inside a record is a level lower. The walk's invariant: what is left of the stretch, from where the state is now, comes to what the whole comes to.
 -- That of a Fork's bodies: those from the i-th on have run.
-use Rattle.std.proofs.Common.{◌+◌, ◌-◌, ◌*◌, ◌≤◌, Bool, max}
+use Rattle.std.proofs.Common.{◌+◌, ◌-◌, ◌*◌, ◌≤◌, ◌≡◌, Bool, max}
 use Rattle.formats.specs.Tree.{forest, height, count}
 use Rattle.formats.specs.Contract.Walk.{Stretch}
 use Rattle.modifiers.specs.Contract.Walks.{walk_of}
-use Rattle.stack.specs.Contract.Arena.{slots}
+use Rattle.stack.specs.Contract.Arena.{slots, all_slices}
 use Rattle.stack.specs.Contract.Agree.{Ready, env_of}
 use Rattle.reading.specs.Contract.Runs.{OneBody}
 use Rattle.reading.proofs.walk.Laws.{Going, Forking}
@@ -37,6 +37,7 @@ invariant-walk-loop-at l = record {
   ready : Ready (slots l.arena) l.v (env_of l.used l.handled l.complex l.pairs);
   going : Going (slots l.fn.arena) (slots l.arena) l.v l.fn.env (env_of l.used l.handled l.complex l.pairs)
       (λ st. walk_of l.list l.from l.to (1152 - l.v) st) (λ st. walk_of l.list l.at l.to (1152 - l.v) st);
+  same : all_slices l.arena ≡ all_slices l.fn.arena;
 }
 
 abbrev pub decreases-walk-loop-at : goal.decreases-walk-loop-at
@@ -46,4 +47,5 @@ abbrev pub invariant-fork_each-loop-i : goal.invariant-fork_each-loop-i
 invariant-fork_each-loop-i l = record {
   few : l.i ≤ count (forest l.list (l.at + 1) l.to);
   forking : Forking (slots l.fn.arena) (slots l.arena) l.v l.m l.k l.fn.env l.cur l.list l.at (l.at + 1) l.to l.i;
+  same : all_slices l.arena ≡ all_slices l.fn.arena;
 }

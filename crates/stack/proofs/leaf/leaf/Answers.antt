@@ -5,11 +5,11 @@ use Rattle.stack.proofs.state.Laws.{does-stop}
 use Rattle.stack.proofs.leaf.Choices.{leaf-kind, leaf-unknown}
 use Rattle.stack.proofs.leaf.leaf.Goals as goal
 
-pub returns-in-Some : goal.returns-in-Some
-returns-in-Some c at complex pairs =
-    leaf-kind at (1152 - c.args.v) c.args.r c.in-Some.ensures (c.leaf_of.ensures at complex pairs)
+pub returns-in-Some-clause-acts : goal.returns-in-Some-clause-acts
+returns-in-Some-clause-acts c at complex pairs =
+    leaf-kind at (1152 - c.args.v) c.args.r c.in-Some.ensures (c.leaf_of.ensures.acts at complex pairs)
 
-pub returns-in-None : goal.returns-in-None
-returns-in-None c at complex pairs =
+pub returns-in-None-clause-acts : goal.returns-in-None-clause-acts
+returns-in-None-clause-acts c at complex pairs =
     let h = 1152 - c.args.v in
     leaf-kind at h c.args.r c.in-None.ensures (leaf-unknown at h c.args.r (does-stop (λ ss k. ap (ran_of at c.args.handled complex pairs) (c.halt.ensures ss k))))

@@ -11,7 +11,7 @@ use Rattle.stack.proofs.one_operand.flip.Goals.{After-copy_within}
 
 -- the arena is as large as it was
 space : (c : After-copy_within) → Space (of (seen c.copy_within.new.self) c.args.arena.now.sizes.now) c.args.u
-space c = space-same (kept-outside c.args.arena.now.sizes.now (copied-kept c.copy_within.ensures)).long c.requires.space
+space c = space-same (kept-outside c.args.arena.now.sizes.now (copied-kept c.copy_within.ensures.copied)).long c.requires.space
 
 pub overflow_sub-i : goal.overflow_sub-i
 overflow_sub-i c = let b = below c.requires.tops.0 c.requires.tops.1.1 in omega arith
@@ -36,10 +36,10 @@ bring-requires c =
       b.second,
       b.second-few,
       omega arith,
-      space-less {n = c.args.u} (omega arith) (space-same {a' = slots c.sink.new.arena} c.sink.ensures.outside.long (space (goal.at.bring-requires c).After-copy_within)),
+      space-less {n = c.args.u} (omega arith) (space-same {a' = slots c.sink.new.arena} c.sink.ensures.sunk.outside.long (space (goal.at.bring-requires c).After-copy_within)),
     )
 
-pub returns : goal.returns
-returns c =
+pub returns-clause-turned : goal.returns-clause-turned
+returns-clause-turned c =
     turned {b = seen c.copy_within.new.self} c.args.u c.args.n c.args.m c.requires.space c.requires.tops.0 (below c.requires.tops.0 c.requires.tops.1.1)
-    c.copy_within.ensures c.sink.ensures c.bring.ensures.outside c.bring.ensures.of_one
+    c.copy_within.ensures.copied c.sink.ensures.sunk c.bring.ensures.outside c.bring.ensures.of_one

@@ -44,8 +44,8 @@ push_formed-requires c =
       ready-working (worked d) (ready-popped c.requires.2 t.one.rest (omega arith)),
     )
 
-pub returns : goal.returns
-returns c at complex pairs =
-    let d = (goal.at.returns c).After-form_one-f in
+pub returns-clause-applies : goal.returns-clause-applies
+returns-clause-applies c at complex pairs =
+    let d = (goal.at.returns-clause-applies c).After-form_one-f in
     let p = primitive_of c.args.code in
-    one-formed at (1152 - c.args.v) p c.requires.0 c.requires.2 c.requires.1 (worked d) (λ s l g. c.push_formed.ensures (of_one p s) at (formed d s l) complex pairs)
+    one-formed at (1152 - c.args.v) p c.requires.0 c.requires.2 c.requires.1 (worked d) (λ s l g. c.push_formed.ensures.agrees (of_one p s) at (formed d s l) complex pairs)

@@ -12,10 +12,10 @@ push_cells-requires c =
     let low = stacked-le c.requires.1.some.1.stack in
     (few.0, few.1, omega arith, (c.args.handled, c.requires.1))
 
-pub returns-in-Ok : goal.returns-in-Ok
-returns-in-Ok c o at g complex pairs =
-    push-done _ at (1152 - c.args.v) c.in-Ok.n c.args.f o c.in-Ok.is (λ s l. c.push_cells.ensures s l at c.args.handled complex pairs) g
+pub returns-in-Ok-clause-agrees : goal.returns-in-Ok-clause-agrees
+returns-in-Ok-clause-agrees c o at g complex pairs =
+    push-done _ at (1152 - c.args.v) c.in-Ok.n c.args.f o c.in-Ok.is (λ s l. c.push_cells.ensures.of_one s l at c.args.handled complex pairs) g
 
-pub returns-in-Err : goal.returns-in-Err
-returns-in-Err c o at g complex pairs =
+pub returns-in-Err-clause-agrees : goal.returns-in-Err-clause-agrees
+returns-in-Err-clause-agrees c o at g complex pairs =
     push-refused _ at (1152 - c.args.v) c.in-Err.q c.args.f o c.in-Err.is (does-stop (λ ss k. ap (ran_of at c.args.handled complex pairs) (c.halt.ensures ss k))) g

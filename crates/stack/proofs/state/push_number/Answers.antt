@@ -15,23 +15,23 @@ use Rattle.stack.proofs.state.push_number.Goals.{Else-not-finite_bits}
 made : (c : Else-not-finite_bits) → constant_of c.args.re c.args.im ≡ sum (of-bits c.args.re c.args.im)
 made c = constant-formed _ _ c.finite_bits.ensures c.finite_bits-2.ensures c.if-not-finite_bits.false
 
-pub returns-then-not-finite_bits : goal.returns-then-not-finite_bits
-returns-then-not-finite_bits c at complex pairs =
+pub returns-then-not-finite_bits-clause-acts : goal.returns-then-not-finite_bits-clause-acts
+returns-then-not-finite_bits-clause-acts c at complex pairs =
     let x = c.args in
     let none = not_finite x.re x.im c.finite_bits.ensures c.finite_bits-2.ensures c.if-not-finite_bits.true in
     push-none at (1152 - x.v) none (does-stop (λ ss k. ap (ran_of at x.handled complex pairs) (c.halt.ensures ss k)))
 
-pub returns-then-v-used : goal.returns-then-v-used
-returns-then-v-used c at complex pairs =
+pub returns-then-v-used-clause-acts : goal.returns-then-v-used-clause-acts
+returns-then-v-used-clause-acts c at complex pairs =
     let x = c.args in
     let full = c.if-v-used.true in
-    rw (made (goal.at.returns-then-v-used c).Else-not-finite_bits) (does-full {n = 1} at (of-bits x.re x.im) c.requires.within (number_size x.re x.im) (omega arith))
+    rw (made (goal.at.returns-then-v-used-clause-acts c).Else-not-finite_bits) (does-full {n = 1} at (of-bits x.re x.im) c.requires.within (number_size x.re x.im) (omega arith))
 
-pub returns : goal.returns
-returns c at complex pairs =
+pub returns-clause-acts : goal.returns-clause-acts
+returns-clause-acts c at complex pairs =
     let x = c.args in
     let room = c.if-v-used.false in
-    let is = made (goal.at.returns c).Else-not-finite_bits in
+    let is = made (goal.at.returns-clause-acts c).Else-not-finite_bits in
     let a = slots x.arena.now in
     let top = numbered-top a x.used x.re x.im (space-less (omega arith) c.requires.space) is in
     rw is (does-push {n = 1} at (of-bits x.re x.im) c.requires.within (number_size x.re x.im) (omega arith) (numbered-outside a x.used x.re x.im) top)

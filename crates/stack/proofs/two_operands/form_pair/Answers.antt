@@ -63,14 +63,14 @@ push_formed-put-requires c =
       ready-working (worked d) (ready-popped c.requires.3 x.second.rest (omega arith)),
     )
 
-pub returns : goal.returns
-returns c at complex pairs =
+pub returns-clause-applies : goal.returns-clause-applies
+returns-clause-applies c at complex pairs =
     let put = c.push_formed-put in
-    let d = (goal.at.returns c).After-form_two-f in
+    let d = (goal.at.returns-clause-applies c).After-form_two-f in
     let p = primitive_of c.args.code in
     rw c.more_pairs.ensures
-    (two_formed at (1152 - c.args.v) p c.requires.0 c.requires.3 (tops (goal.at.returns c).After-top_size-low) (worked d)
+    (two_formed at (1152 - c.args.v) p c.requires.0 c.requires.3 (tops (goal.at.returns-clause-applies c).After-top_size-low) (worked d)
     (λ s t ls gs lt gt.
     let told = formed d t s lt ls in
     push-paired at (1152 - c.args.v) put.result c.form_two-f.result.formed (seen c.form_two-f.new.book) (of_two p t s) told.0 told.1
-    (put.ensures (of_two p t s) at told.0 complex pairs)))
+    (put.ensures.agrees (of_two p t s) at told.0 complex pairs)))

@@ -19,9 +19,9 @@ both c = pair (tops c) c.requires.3.some.1.stack
 pub flip-requires-clause-tops : goal.flip-requires-clause-tops
 flip-requires-clause-tops c = (tops (goal.at.flip-requires-clause-tops c).After-top_size-m, (c.requires.3.some.0.stack, c.requires.3.some.1.stack))
 
-pub returns-then-left-eq2 : goal.returns-then-left-eq2
-returns-then-left-eq2 c at complex pairs =
-    two-turned at (primitive_of c.args.code) (sym c.left-left.ensures ∙ c.if-left-eq2.true) c.requires.3 (tops (goal.at.returns-then-left-eq2 c).After-top_size-m) c.flip.ensures
+pub returns-then-left-eq2-clause-applies : goal.returns-then-left-eq2-clause-applies
+returns-then-left-eq2-clause-applies c at complex pairs =
+    two-turned at (primitive_of c.args.code) (sym c.left-left.ensures ∙ c.if-left-eq2.true) c.requires.3 (tops (goal.at.returns-then-left-eq2-clause-applies c).After-top_size-m) c.flip.ensures.turned
 
 pub overflow_sub-used-3 : goal.overflow_sub-used-3
 overflow_sub-used-3 c = let e = (both (goal.at.overflow_sub-used-3 c).After-top_size-m).second.ends in omega arith
@@ -33,8 +33,8 @@ push_cells-requires c =
     let second = x.second.ends in
     (x.second.some, x.second.few, omega arith, (c.args.handled, c.requires.3))
 
-pub returns : goal.returns
-returns c at complex pairs =
+pub returns-clause-applies : goal.returns-clause-applies
+returns-clause-applies c at complex pairs =
     let p = primitive_of c.args.code in
     let some : 3 ≤ (row p).left = omega (arith, c.left-left.ensures, (rows p).1 c.requires.0, c.if-left-eq1.false, c.if-left-eq2.false) in
-    two-over at (1152 - c.args.v) p some c.requires.3 (tops (goal.at.returns c).After-top_size-m) (λ t l. c.push_cells.ensures t l at c.args.handled complex pairs)
+    two-over at (1152 - c.args.v) p some c.requires.3 (tops (goal.at.returns-clause-applies c).After-top_size-m) (λ t l. c.push_cells.ensures.of_one t l at c.args.handled complex pairs)

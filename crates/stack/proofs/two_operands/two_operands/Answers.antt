@@ -14,8 +14,8 @@ tops c = let low = stacked-le c.requires.1.some.1.stack in tops-one {a = slots c
 top : (c : After-top_size-n) → Topmost (slots c.args.arena.now) c.args.used c.top_size-n.result c.requires.1.some.0.stack
 top c = topmost (tops c) c.requires.1.some.1.stack
 
-pub returns-then-used-eq-WORKING : goal.returns-then-used-eq-WORKING
-returns-then-used-eq-WORKING c at complex pairs = does-none 2 _ (omega arith) (ap (ran_of at c.args.handled complex pairs) c.short.ensures) c.if-used-eq-WORKING.true
+pub returns-then-used-eq-WORKING-clause-applies : goal.returns-then-used-eq-WORKING-clause-applies
+returns-then-used-eq-WORKING-clause-applies c at complex pairs = does-none 2 _ (omega arith) (ap (ran_of at c.args.handled complex pairs) c.short.ensures) c.if-used-eq-WORKING.true
 
 pub top_size-n-requires : goal.top_size-n-requires
 top_size-n-requires c =
@@ -27,9 +27,9 @@ top_size-n-requires c =
 pub overflow_sub-used : goal.overflow_sub-used
 overflow_sub-used c = let e = (top (goal.at.overflow_sub-used c).After-top_size-n).one.ends in omega arith
 
-pub returns-then-used-n-eq-WORKING : goal.returns-then-used-n-eq-WORKING
-returns-then-used-n-eq-WORKING c at complex pairs =
-    does-only _ (ap (ran_of at c.args.handled complex pairs) c.short-then-used-n-eq-WORKING.ensures) (tops (goal.at.returns-then-used-n-eq-WORKING c).After-top_size-n)
+pub returns-then-used-n-eq-WORKING-clause-applies : goal.returns-then-used-n-eq-WORKING-clause-applies
+returns-then-used-n-eq-WORKING-clause-applies c at complex pairs =
+    does-only _ (ap (ran_of at c.args.handled complex pairs) c.short-then-used-n-eq-WORKING.ensures) (tops (goal.at.returns-then-used-n-eq-WORKING-clause-applies c).After-top_size-n)
     c.if-used-n-eq-WORKING.true
 
 pub two_leave-requires : goal.two_leave-requires
@@ -38,5 +38,5 @@ two_leave-requires c =
     let low = (top d).one.low in
     (c.requires.0, tops d, omega arith, c.requires.1)
 
-pub returns : goal.returns
-returns c = c.two_leave.ensures
+pub returns-clause-applies : goal.returns-clause-applies
+returns-clause-applies c = c.two_leave.ensures.applies

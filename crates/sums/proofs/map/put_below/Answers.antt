@@ -26,13 +26,13 @@ pub returns-in-Same-clause-kept : goal.returns-in-Same-clause-kept
 returns-in-Same-clause-kept c =
     let pre = c.requires.n_le_sum_entries in
     let l = pre.2.1 in
-    let answer = c.put_same.ensures _ _ (power-putting (sym c.if-not-is_finite.ensures) pre.0 pre.1 l (sym (c.in-Same.ensures _ _ l refl refl))) in
+    let answer = c.put_same.ensures.puts _ _ (power-putting (sym c.if-not-is_finite.ensures) pre.0 pre.1 l (sym (c.in-Same.ensures _ _ l refl refl))) in
     answer.0
 
 pub returns-in-Same-clause-of_one_2 : goal.returns-in-Same-clause-of_one_2
 returns-in-Same-clause-of_one_2 c s l =
     let pre = c.requires.n_le_sum_entries in
-    let answer = c.put_same.ensures _ _ (power-putting (sym c.if-not-is_finite.ensures) pre.0 pre.1 l (sym (c.in-Same.ensures _ _ l refl refl))) in
+    let answer = c.put_same.ensures.puts _ _ (power-putting (sym c.if-not-is_finite.ensures) pre.0 pre.1 l (sym (c.in-Same.ensures _ _ l refl refl))) in
     answer.1
 
 -- it is new
@@ -46,11 +46,11 @@ pub returns-in-Before-clause-kept : goal.returns-in-Before-clause-kept
 returns-in-Before-clause-kept c =
     let pre = c.requires.n_le_sum_entries in
     let l = pre.2.1 in
-    let answer = c.put_new.ensures _ _ (power-putting (sym c.if-not-is_finite.ensures) pre.0 pre.1 l (sym (c.in-Before.ensures _ _ l refl refl))) in
+    let answer = c.put_new.ensures.puts _ _ (power-putting (sym c.if-not-is_finite.ensures) pre.0 pre.1 l (sym (c.in-Before.ensures _ _ l refl refl))) in
     answer.0
 
 pub returns-in-Before-clause-of_one_2 : goal.returns-in-Before-clause-of_one_2
 returns-in-Before-clause-of_one_2 c s l =
     let pre = c.requires.n_le_sum_entries in
-    let answer = c.put_new.ensures _ _ (power-putting (sym c.if-not-is_finite.ensures) pre.0 pre.1 l (sym (c.in-Before.ensures _ _ l refl refl))) in
+    let answer = c.put_new.ensures.puts _ _ (power-putting (sym c.if-not-is_finite.ensures) pre.0 pre.1 l (sym (c.in-Before.ensures _ _ l refl refl))) in
     answer.1

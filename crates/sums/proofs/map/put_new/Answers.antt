@@ -5,18 +5,18 @@ use Rattle.sums.proofs.map.Putting.{told-levels, answer-not, answer-deep, new-wr
 use Rattle.sums.proofs.map.put_new.Goals as goal
 
 -- the coefficient is not finite
-pub returns-then-not-is_finite : goal.returns-then-not-is_finite
-returns-then-not-is_finite c s t P = answer-not c.args.how P (new-coef c.args.how P c.merge-c.ensures) (sym c.if-not-is_finite.ensures)
+pub returns-then-not-is_finite-clause-puts : goal.returns-then-not-is_finite-clause-puts
+returns-then-not-is_finite-clause-puts c s t P = answer-not c.args.how P (new-coef c.args.how P c.merge-c.ensures) (sym c.if-not-is_finite.ensures)
 
 -- the inside has too many levels
-pub returns-then-not-nests_within : goal.returns-then-not-nests_within
-returns-then-not-nests_within c s t P =
+pub returns-then-not-nests_within-clause-puts : goal.returns-then-not-nests_within-clause-puts
+returns-then-not-nests_within-clause-puts c s t P =
     let deep = told-levels P c.nests_within.ensures c.if-not-nests_within.true in
     answer-deep c.args.how P (new-coef c.args.how P c.merge-c.ensures) (sym c.if-not-is_finite.ensures) deep
 
 -- there would be more than sum_entries entries
-pub returns-then-m-gt-SUM_ENTRIES : goal.returns-then-m-gt-SUM_ENTRIES
-returns-then-m-gt-SUM_ENTRIES c s t P =
+pub returns-then-m-gt-SUM_ENTRIES-clause-puts : goal.returns-then-m-gt-SUM_ENTRIES-clause-puts
+returns-then-m-gt-SUM_ENTRIES-clause-puts c s t P =
     let few-levels = told-levels P c.nests_within.ensures c.if-not-nests_within.false in
     new-full c.args.how P c.merge-c.ensures (sym c.if-not-is_finite.ensures) few-levels c.if-m-gt-SUM_ENTRIES.true
 
@@ -29,8 +29,8 @@ insert-requires-clause-plain c =
 pub insert-requires-clause-k_le_e : goal.insert-requires-clause-k_le_e
 insert-requires-clause-k_le_e c = let write = new-write c.args.how c.requires.0.2 (sym c.if-not-is_finite.ensures) c.if-m-gt-SUM_ENTRIES.false in write.1
 
-pub returns : goal.returns
-returns c s t P =
+pub returns-clause-puts : goal.returns-clause-puts
+returns-clause-puts c s t P =
     let fitting : Fitting c.args.x = record { num = search rules; re = search rules; im = search rules } in
     let few-levels = told-levels P c.nests_within.ensures c.if-not-nests_within.false in
-    new-done c.args.how P fitting c.merge-c.ensures (sym c.if-not-is_finite.ensures) few-levels c.if-m-gt-SUM_ENTRIES.false c.insert.ensures
+    new-done c.args.how P fitting c.merge-c.ensures (sym c.if-not-is_finite.ensures) few-levels c.if-m-gt-SUM_ENTRIES.false c.insert.ensures.inserted

@@ -8,12 +8,12 @@ pub load-y-requires : goal.load-y-requires
 load-y-requires c = same_read c.args.how c.requires.2
 
 -- it is not finite
-pub returns-then-not-is_finite : goal.returns-then-not-is_finite
-returns-then-not-is_finite c s t P = answer-not c.args.how P (same-coef c.args.how P c.load-y.ensures c.merge-v.ensures) (sym c.if-not-is_finite.ensures)
+pub returns-then-not-is_finite-clause-puts : goal.returns-then-not-is_finite-clause-puts
+returns-then-not-is_finite-clause-puts c s t P = answer-not c.args.how P (same-coef c.args.how P c.load-y.ensures c.merge-v.ensures) (sym c.if-not-is_finite.ensures)
 
 -- its inside has too many levels
-pub returns-then-not-nests_within : goal.returns-then-not-nests_within
-returns-then-not-nests_within c s t P =
+pub returns-then-not-nests_within-clause-puts : goal.returns-then-not-nests_within-clause-puts
+returns-then-not-nests_within-clause-puts c s t P =
     let deep = told-levels P c.nests_within.ensures c.if-not-nests_within.true in
     answer-deep c.args.how P (same-coef c.args.how P c.load-y.ensures c.merge-v.ensures) (sym c.if-not-is_finite.ensures) deep
 
@@ -21,8 +21,8 @@ pub store-requires : goal.store-requires
 store-requires c = same_write c.args.how c.requires.2 c.load-y.ensures (sym c.if-not-is_finite.ensures)
 
 -- it is written
-pub returns : goal.returns
-returns c s t P =
+pub returns-clause-puts : goal.returns-clause-puts
+returns-clause-puts c s t P =
     let fitting : Fitting c.args.x = record { num = search rules; re = search rules; im = search rules } in
     let few-levels = told-levels P c.nests_within.ensures c.if-not-nests_within.false in
-    same-done c.args.how P fitting c.load-y.ensures c.merge-v.ensures (sym c.if-not-is_finite.ensures) few-levels c.store.ensures
+    same-done c.args.how P fitting c.load-y.ensures c.merge-v.ensures (sym c.if-not-is_finite.ensures) few-levels c.store.ensures.put
