@@ -2,7 +2,7 @@
 // Where a derivative or an integral is taken it is formed in the SUM_ENTRIES places from w on, and as many behind them are working places.
 ghost use Rattle.std.specs.Prelude.{◌≡◌, ◌+◌, ◌≤◌};
 ghost use Rattle.limits.specs.Limits.{sum_entries, sum_levels};
-ghost use Rattle.cells.specs.Contract.Book.{seen, Room, slices};
+ghost use Rattle.cells.specs.Contract.Book.{seen, shown, Room, slices};
 ghost use Rattle.sums.specs.Contract.Lies.{Held, OfOne};
 ghost use Rattle.arithmetic.specs.Add.Contract.Operands.{Source};
 ghost use Rattle.formats.specs.Tree.{records_in};
@@ -11,7 +11,7 @@ ghost use Rattle.writing.specs.Draft.Contract.Lying.{Answered};
 ghost use Rattle.algebra.specs.Answer.Making.{of_sum, answer_of, Gives, answer_numbers, derive, integrate, invert};
 ghost use Rattle.algebra.specs.Contract.Writers.{list_by, write_by, derive_and_write_by, integrate_and_write_by};
 
-use cells::Book;
+use cells::{Book, Cells};
 use limits::Refusal;
 
 // What an entry answers: so many entries or records written, or a refusal with its place.
@@ -71,9 +71,9 @@ fn answer_of(w: Result<usize, Refusal>) -> Answer
 }
 
 // The sum itself, where there is room for it.
-pub fn put_out(book: &Book, i: usize, n: usize, out: &mut [u8]) -> Answer
-    requires { (n ≤ sum_entries) × Held (seen book.now) i (i + n) sum_levels }
-    ensures { OfOne (seen book.now) i (i + n) sum_levels (λ s. Gives entries_in (of_sum s) out.old out.new result) }
+pub fn put_out(book: &Cells, i: usize, n: usize, out: &mut [u8]) -> Answer
+    requires { (n ≤ sum_entries) × Held (shown book.now) i (i + n) sum_levels }
+    ensures { OfOne (shown book.now) i (i + n) sum_levels (λ s. Gives entries_in (of_sum s) out.old out.new result) }
 {
     let room = sums::bytes::count_entries(out);
     if room < n {
@@ -92,7 +92,7 @@ pub fn derive(book: &mut Book, i: usize, n: usize, w: usize, out: &mut [u8]) -> 
 {
     match calculus::derivative::expr_deriv(book, i, n, w) {
         Err(q) => Answer::Refused(q, 0),
-        Ok(m) => put_out(book, w, m, out),
+        Ok(m) => put_out(&book.cells(), w, m, out),
     }
 }
 
@@ -105,21 +105,21 @@ pub fn integrate(book: &mut Book, i: usize, n: usize, w: usize, out: &mut [u8]) 
 {
     match calculus::integral::expr_integral(book, i, n, w) {
         Err(q) => Answer::Refused(q, 0),
-        Ok(m) => put_out(book, w, m, out),
+        Ok(m) => put_out(&book.cells(), w, m, out),
     }
 }
 
 // The sum as a list, by either writer.
 fn list_by(
     writer: Writer,
-    book: &Book,
+    book: &Cells,
     i: usize,
     n: usize,
     complex: bool,
     out: &mut [u8],
 ) -> Result<usize, Refusal>
-    requires { (n ≤ sum_entries) × Held (seen book.now) i (i + n) sum_levels }
-    ensures { OfOne (seen book.now) i (i + n) sum_levels (λ s. Answered out.old out.new result (list_by writer complex s)) }
+    requires { (n ≤ sum_entries) × Held (shown book.now) i (i + n) sum_levels }
+    ensures { OfOne (shown book.now) i (i + n) sum_levels (λ s. Answered out.old out.new result (list_by writer complex s)) }
 {
     match writer {
         Writer::AsRust => writing::expr_to_node(book, i, n, complex, out),
@@ -130,14 +130,14 @@ fn list_by(
 // The same, answered.
 pub fn write_sum(
     writer: Writer,
-    book: &Book,
+    book: &Cells,
     i: usize,
     n: usize,
     complex: bool,
     out: &mut [u8],
 ) -> Answer
-    requires { (n ≤ sum_entries) × Held (seen book.now) i (i + n) sum_levels }
-    ensures { OfOne (seen book.now) i (i + n) sum_levels (λ s. Gives records_in (write_by writer complex s) out.old out.new result) }
+    requires { (n ≤ sum_entries) × Held (shown book.now) i (i + n) sum_levels }
+    ensures { OfOne (shown book.now) i (i + n) sum_levels (λ s. Gives records_in (write_by writer complex s) out.old out.new result) }
 {
     let wrote = list_by(writer, book, i, n, complex, out);
     answer_of(wrote)
@@ -160,7 +160,7 @@ pub fn derive_and_write(
 {
     match calculus::derivative::expr_deriv(book, i, n, w) {
         Err(q) => Answer::Refused(q, 0),
-        Ok(m) => write_sum(writer, book, w, m, complex, out),
+        Ok(m) => write_sum(writer, &book.cells(), w, m, complex, out),
     }
 }
 
@@ -181,15 +181,15 @@ pub fn integrate_and_write(
 {
     match calculus::integral::expr_integral(book, i, n, w) {
         Err(q) => Answer::Refused(q, 0),
-        Ok(m) => write_sum(writer, book, w, m, complex, out),
+        Ok(m) => write_sum(writer, &book.cells(), w, m, complex, out),
     }
 }
 
 // The list that undoes it.
 #[tactic(auto, unfolding(crate::specs::Answer::Making::invert))]
-pub fn invert(book: &Book, i: usize, n: usize, complex: bool, out: &mut [u8]) -> Answer
-    requires { (n ≤ sum_entries) × Held (seen book.now) i (i + n) sum_levels }
-    ensures { OfOne (seen book.now) i (i + n) sum_levels (λ s. Gives records_in (invert complex s) out.old out.new result) }
+pub fn invert(book: &Cells, i: usize, n: usize, complex: bool, out: &mut [u8]) -> Answer
+    requires { (n ≤ sum_entries) × Held (shown book.now) i (i + n) sum_levels }
+    ensures { OfOne (shown book.now) i (i + n) sum_levels (λ s. Gives records_in (invert complex s) out.old out.new result) }
 {
     let wrote = inverse::algebraic_inverse(book, i, n, complex, out);
     answer_of(wrote)

@@ -156,7 +156,7 @@ fn write_by(writer: Writer, sum: &[u8], complex: bool, out: &mut [u8]) -> Answer
     let taken = sums::bytes::take_in(&mut book, sum);
     match taken {
         Err(q) => Answer::Refused(q, 0),
-        Ok(n) => crate::answer::write_sum(writer, &book, 0, n, complex, out),
+        Ok(n) => crate::answer::write_sum(writer, &book.cells(), 0, n, complex, out),
     }
 }
 
@@ -190,7 +190,7 @@ fn value_taken(sum: &[u8], x: f64) -> Result<f64, Refusal>
     };
     let taken = sums::bytes::take_in(&mut book, sum);
     let n = taken?;
-    values::value_of(&book, n, x)
+    values::value_of(&book.cells(), n, x)
 }
 
 // The value at x of a sum that is handed over. No list is written, and a sum of powers of x is not taken in either.

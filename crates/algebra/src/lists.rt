@@ -6,7 +6,7 @@ ghost use Rattle.algebra.specs.Contract.Lists.{list_held, made_by, room_by, Make
 ghost use Rattle.algebra.specs.Entries.{inverse_of};
 ghost use Rattle.algebra.specs.Reading.{read_list, flagged};
 ghost use Rattle.arithmetic.specs.Add.Contract.Operands.{Source};
-ghost use Rattle.cells.specs.Contract.Book.{seen, Room, slices};
+ghost use Rattle.cells.specs.Contract.Book.{seen, shown, Room, slices};
 ghost use Rattle.formats.specs.Tree.{records_in};
 ghost use Rattle.limits.specs.Limits.{sum_entries, sum_levels};
 ghost use Rattle.modifiers.specs.Reading.{Read, done, refused_at};
@@ -16,7 +16,7 @@ ghost use Rattle.sums.specs.Contract.Lies.{Held, OfOne};
 
 use crate::ReadAnswer;
 use crate::answer::{Answer, Writer};
-use cells::Book;
+use cells::{Book, Cells};
 use limits::{LAST_REPLACED, Refusal};
 use reading::env::AlgebraData;
 use stack::slots::{ARENA, Arena, SMALL_ARENA, WORKING};
@@ -71,9 +71,9 @@ fn refuse(w: Wanted, q: Refusal, at: usize, handled: bool) -> Answer
 }
 
 // The list that undoes the sum of the first n cells, where what was read counts as handled.
-fn invert_read(book: &Book, n: usize, complex: bool, handled: bool, out: &mut [u8]) -> Answer
-    requires { (n ≤ sum_entries) × Held (seen book.now) working (working + n) sum_levels }
-    ensures { OfOne (seen book.now) working (working + n) sum_levels
+fn invert_read(book: &Cells, n: usize, complex: bool, handled: bool, out: &mut [u8]) -> Answer
+    requires { (n ≤ sum_entries) × Held (shown book.now) working (working + n) sum_levels }
+    ensures { OfOne (shown book.now) working (working + n) sum_levels
         (λ s. (pairs : ℕ) → Gives records_in (inverse_of (done s complex handled pairs)) out.old out.new result) }
 {
     if !handled {
@@ -97,14 +97,14 @@ fn make(
     ensures same_slices { slices book.new ≡ slices book.old }
 {
     match w {
-        Wanted::Sum => crate::answer::put_out(book, WORKING, n, out),
+        Wanted::Sum => crate::answer::put_out(&book.cells(), WORKING, n, out),
         Wanted::Derivative(writer) => crate::answer::derive_and_write(
             writer, book, WORKING, n, 0, complex, out,
         ),
         Wanted::Integral(writer) => crate::answer::integrate_and_write(
             writer, book, WORKING, n, 0, complex, out,
         ),
-        Wanted::Inverse => invert_read(book, n, complex, handled, out),
+        Wanted::Inverse => invert_read(&book.cells(), n, complex, handled, out),
     }
 }
 

@@ -3,7 +3,7 @@
 ghost use Rattle.std.specs.Prelude.{◌≡◌, ◌+◌};
 ghost use Rattle.limits.specs.Limits.{sum_entries, sum_levels};
 ghost use Rattle.numbers.specs.Signs.{zero64};
-ghost use Rattle.cells.specs.Contract.Book.{seen, Room, slices};
+ghost use Rattle.cells.specs.Contract.Book.{seen, shown, Room, slices};
 ghost use Rattle.cells.specs.Contract.Moves.{Apart, Kept};
 ghost use Rattle.sums.specs.Tree.Kinds.{X};
 ghost use Rattle.sums.specs.Tree.Sums.{none};
@@ -15,7 +15,7 @@ ghost use Rattle.sums.specs.Contract.Heads.{GoodHead};
 ghost use Rattle.arithmetic.specs.Add.Contract.Operands.{Operand, Growing, constant_of};
 
 use crate::Change;
-use cells::{Book, Entry};
+use cells::{Book, Cells, Entry};
 use limits::Refusal;
 use numbers::complex::Complex;
 use sums::tree::Merge;
@@ -28,9 +28,9 @@ pub fn is_one(x: Entry) -> bool
 }
 
 // The coefficient of the sum of n cells from i on, if it is a constant: one term, which is 1 and so has no inside.
-pub fn as_constant(book: &Book, i: usize, n: usize) -> Option<Complex>
-    requires { Held (seen book.now) i (i + n) sum_levels }
-    ensures { OfOne (seen book.now) i (i + n) sum_levels (λ s. result ≡ constant_of (as_constant s)) }
+pub fn as_constant(book: &Cells, i: usize, n: usize) -> Option<Complex>
+    requires { Held (shown book.now) i (i + n) sum_levels }
+    ensures { OfOne (shown book.now) i (i + n) sum_levels (λ s. result ≡ constant_of (as_constant s)) }
 {
     if n != 1 {
         return None;
@@ -41,9 +41,9 @@ pub fn as_constant(book: &Book, i: usize, n: usize) -> Option<Complex>
 }
 
 // Whether the sum of n cells from i on is one term, and that x, whatever its coefficient.
-pub fn is_x(book: &Book, i: usize, n: usize) -> bool
-    requires { Held (seen book.now) i (i + n) sum_levels }
-    ensures { OfOne (seen book.now) i (i + n) sum_levels (λ s. result ≡ is_x s) }
+pub fn is_x(book: &Cells, i: usize, n: usize) -> bool
+    requires { Held (shown book.now) i (i + n) sum_levels }
+    ensures { OfOne (shown book.now) i (i + n) sum_levels (λ s. result ≡ is_x s) }
 {
     if n != 1 {
         return false;
@@ -53,9 +53,9 @@ pub fn is_x(book: &Book, i: usize, n: usize) -> bool
 }
 
 // Whether any of the n cells from i on, at whatever level, is a power of x other than 0 and 1.
-pub fn is_complex(book: &Book, i: usize, n: usize) -> bool
-    requires { Held (seen book.now) i (i + n) sum_levels }
-    ensures { OfOne (seen book.now) i (i + n) sum_levels (λ s. result ≡ is_complex s) }
+pub fn is_complex(book: &Cells, i: usize, n: usize) -> bool
+    requires { Held (shown book.now) i (i + n) sum_levels }
+    ensures { OfOne (shown book.now) i (i + n) sum_levels (λ s. result ≡ is_complex s) }
 {
     for k in i..i + n {
         let x = book.load(k);

@@ -2,7 +2,7 @@
 // book, apart from each other.
 ghost use Rattle.std.specs.Prelude.{◌≡◌, ◌+◌, ◌-◌, ◌≤◌, ◌<◌};
 ghost use Rattle.limits.specs.Limits.{sum_entries, sum_levels};
-ghost use Rattle.cells.specs.Contract.Book.{seen, Room, slices};
+ghost use Rattle.cells.specs.Contract.Book.{seen, shown, Room, slices};
 ghost use Rattle.cells.specs.Contract.Moves.{Kept};
 ghost use Rattle.sums.specs.Tree.Sums.{none, size};
 ghost use Rattle.sums.specs.Tree.Map.{and_then_sum, each_into};
@@ -13,40 +13,59 @@ ghost use Rattle.arithmetic.specs.Multiply.Contract.Rows.{PowerOperand, PowersGr
 ghost use Rattle.arithmetic.specs.Multiply.Contract.Shapes.{Shaped, OfShapes};
 ghost use Rattle.arithmetic.specs.Multiply.Contract.Factors.{Pair, Row, Sums, Beside, Fits, Inner, OfThree, OfInner, div_into};
 
-use cells::{Book, Entry};
+use cells::{Book, Cells, Entry};
 use limits::{Refusal, SUM_ENTRIES, SUM_LEVELS};
 use numbers::complex::Complex;
 use sums::tree::Merge;
 
 // Whether two terms of kinds k and l, whose insides lie from i and from j on, have a product.
 #[cycle(can_mul_can_pair_can_row)]
-fn can_pair(k: u8, i: usize, n: usize, l: u8, j: usize, m: usize, book: &Book, left: usize) -> bool
+fn can_pair(
+    k: u8,
+    i: usize,
+    n: usize,
+    l: u8,
+    j: usize,
+    m: usize,
+    kinds: &[u8],
+    insides: &[u8],
+    left: usize,
+) -> bool
     requires le_k { (1 ≤ k) × (k ≤ 8) × (1 ≤ l) × (l ≤ 8) }
-    requires shaped { Shaped (seen book.now).kinds (seen book.now).insides i (i + n) left × Shaped (seen book.now).kinds (seen book.now).insides j (j + m) left }
-    ensures { OfShapes (seen book.now).kinds (seen book.now).insides i (i + n) left j (j + m) left (λ t v. result ≡ pairable k (mulable t) l v) }
+    requires shaped { Shaped kinds.now insides.now i (i + n) left × Shaped kinds.now insides.now j (j + m) left }
+    ensures { OfShapes kinds.now insides.now i (i + n) left j (j + m) left (λ t v. result ≡ pairable k (mulable t) l v) }
 {
     let c = crate::product_code(k, l);
     if c == crate::ADD_POWERS {
         return true;
     }
     if c == crate::MUL_INSIDES {
-        return can_mul(i, n, j, m, book, left);
+        return can_mul(i, n, j, m, kinds, insides, left);
     }
     false
 }
 
 // Whether a term of kind k has a product with each of the sum of m cells from j on.
 #[cycle(can_mul_can_pair_can_row)]
-fn can_row(k: u8, i: usize, n: usize, j: usize, m: usize, book: &Book, left: usize) -> bool
+fn can_row(
+    k: u8,
+    i: usize,
+    n: usize,
+    j: usize,
+    m: usize,
+    kinds: &[u8],
+    insides: &[u8],
+    left: usize,
+) -> bool
     requires le_k { (1 ≤ k) × (k ≤ 8) }
-    requires shaped { Shaped (seen book.now).kinds (seen book.now).insides i (i + n) (left - 1) × Shaped (seen book.now).kinds (seen book.now).insides j (j + m) left }
-    ensures { OfShapes (seen book.now).kinds (seen book.now).insides i (i + n) (left - 1) j (j + m) left (λ t v. result ≡ rowable k (mulable t) v) }
+    requires shaped { Shaped kinds.now insides.now i (i + n) (left - 1) × Shaped kinds.now insides.now j (j + m) left }
+    ensures { OfShapes kinds.now insides.now i (i + n) (left - 1) j (j + m) left (λ t v. result ≡ rowable k (mulable t) v) }
 {
     let end = j + m;
     let mut q = j;
     while q < end {
-        let d = book.insides[q] as usize;
-        if !can_pair(k, i, n, book.kinds[q], q + 1, d, book, left - 1) {
+        let d = insides[q] as usize;
+        if !can_pair(k, i, n, kinds[q], q + 1, d, kinds, insides, left - 1) {
             return false;
         }
         q = q + 1 + d;
@@ -56,15 +75,23 @@ fn can_row(k: u8, i: usize, n: usize, j: usize, m: usize, book: &Book, left: usi
 
 // Whether the sums of n cells from i on and of m from j on have a product.
 #[cycle(can_mul_can_pair_can_row)]
-pub fn can_mul(i: usize, n: usize, j: usize, m: usize, book: &Book, left: usize) -> bool
-    requires { Shaped (seen book.now).kinds (seen book.now).insides i (i + n) left × Shaped (seen book.now).kinds (seen book.now).insides j (j + m) left }
-    ensures { OfShapes (seen book.now).kinds (seen book.now).insides i (i + n) left j (j + m) left (λ s t. result ≡ mulable s t) }
+pub fn can_mul(
+    i: usize,
+    n: usize,
+    j: usize,
+    m: usize,
+    kinds: &[u8],
+    insides: &[u8],
+    left: usize,
+) -> bool
+    requires { Shaped kinds.now insides.now i (i + n) left × Shaped kinds.now insides.now j (j + m) left }
+    ensures { OfShapes kinds.now insides.now i (i + n) left j (j + m) left (λ s t. result ≡ mulable s t) }
 {
     let end = i + n;
     let mut q = i;
     while q < end {
-        let d = book.insides[q] as usize;
-        if !can_row(book.kinds[q], q + 1, d, j, m, book, left) {
+        let d = insides[q] as usize;
+        if !can_row(kinds[q], q + 1, d, j, m, kinds, insides, left) {
             return false;
         }
         q = q + 1 + d;
@@ -80,9 +107,9 @@ const BEHIND_ALL: usize = 3 * SUM_ENTRIES;
 const FOUR_SUMS: usize = 4 * SUM_ENTRIES;
 
 // Copies the a cells from i on to 0 of another book, and the b from j on to SUM_ENTRIES.
-fn side_by_side(from: &Book, i: usize, a: usize, j: usize, b: usize, book: &mut Book)
-    requires { Fits (seen from.now) (seen book.old) i a j b }
-    ensures beside { Beside (seen from.now) (seen book.new) i a j b }
+fn side_by_side(from: &Cells, i: usize, a: usize, j: usize, b: usize, book: &mut Book)
+    requires { Fits (shown from.now) (seen book.old) i a j b }
+    ensures beside { Beside (shown from.now) (seen book.new) i a j b }
     ensures same_slices { slices book.new ≡ slices book.old }
 {
     book.copy_in(from, i, a, 0);
@@ -113,9 +140,9 @@ fn put_div(
         num: 0.0,
         coef: coef,
     };
-    other.copy_in(book, p, n, BEHIND_ALL);
+    other.copy_in(&book.cells(), p, n, BEHIND_ALL);
     let m = sums::map::put_block(other, Merge::Add, head, BEHIND_BOTH, BEHIND_ALL, n)?;
-    book.copy_in(other, BEHIND_ALL, m, p);
+    book.copy_in(&other.cells(), BEHIND_ALL, m, p);
     Ok(m)
 }
 
@@ -147,7 +174,7 @@ fn div_mul(
         insides: &mut other_insides,
         numbers: &mut other_numbers,
     };
-    side_by_side(book, i, a, j, b, &mut other);
+    side_by_side(&book.cells(), i, a, j, b, &mut other);
     let k = expr_mul(&mut other, 0, a, SUM_ENTRIES, b, BEHIND_BOTH, left)?;
     put_div(&mut other, k, coef, book, p, n)
 }
@@ -305,10 +332,11 @@ fn mul_some(
     ensures of_two { OfTwo (seen book.old) i (i + n) j (j + m) sum_levels (λ s t. Agrees result (seen book.new) p (product s t)) }
     ensures same_slices { slices book.new ≡ slices book.old }
 {
-    if sums::order::all_powers(book, i, n) & sums::order::all_powers(book, j, m) {
+    let cells = book.cells();
+    if sums::order::all_powers(cells.kinds, i, n) & sums::order::all_powers(cells.kinds, j, m) {
         return mul_powers(book, i, n, j, m, p);
     }
-    if !can_mul(i, n, j, m, book, SUM_LEVELS) {
+    if !can_mul(i, n, j, m, cells.kinds, cells.insides, SUM_LEVELS) {
         return Err(Refusal::TooComplex);
     }
     expr_mul(book, i, n, j, m, p, SUM_LEVELS)

@@ -1,7 +1,7 @@
 // The derivative of a sum, one outermost entry a step.
 ghost use Rattle.std.specs.Prelude.{◌≡◌, ◌+◌, ◌≤◌};
 ghost use Rattle.limits.specs.Limits.{sum_entries, sum_levels};
-ghost use Rattle.cells.specs.Contract.Book.{seen, Room, slices};
+ghost use Rattle.cells.specs.Contract.Book.{seen, shown, Room, slices};
 ghost use Rattle.cells.specs.Contract.Moves.{Kept};
 ghost use Rattle.sums.specs.Tree.Kinds.{Log};
 ghost use Rattle.sums.specs.Tree.Sums.{none};
@@ -11,7 +11,7 @@ ghost use Rattle.sums.specs.Contract.Lies.{Held, OfOne, Agrees};
 ghost use Rattle.arithmetic.specs.Add.Contract.Operands.{Source, Growing, constant_of};
 ghost use Rattle.calculus.specs.Contract.Into.{Ready, Into, derive_wave};
 
-use cells::{Book, Entry};
+use cells::{Book, Cells, Entry};
 use limits::{Refusal, SUM_ENTRIES};
 use numbers::complex::Complex;
 use sums::tree::Merge;
@@ -30,9 +30,9 @@ fn prime_step(acc: Complex, p: f64, c: Complex) -> Option<Complex>
 }
 
 // The constant that the derivative of the sum of n cells from i on is, if it is one.
-fn prime_of(book: &Book, i: usize, n: usize) -> Option<Complex>
-    requires { Held (seen book.now) i (i + n) sum_levels }
-    ensures { OfOne (seen book.now) i (i + n) sum_levels (λ s. result ≡ constant_of (prime s)) }
+fn prime_of(book: &Cells, i: usize, n: usize) -> Option<Complex>
+    requires { Held (shown book.now) i (i + n) sum_levels }
+    ensures { OfOne (shown book.now) i (i + n) sum_levels (λ s. result ≡ constant_of (prime s)) }
 {
     let end = i + n;
     let mut acc = Complex::ZERO;
@@ -69,7 +69,7 @@ fn derive_wave(book: &mut Book, x: Entry, i: usize, w: usize, len: usize) -> Res
     ensures into { Into (seen book.old) (seen book.new) x i w len sum_entries result derive_wave }
     ensures same_slices { slices book.new ≡ slices book.old }
 {
-    let Some(d) = prime_of(book, i, x.inside as usize) else {
+    let Some(d) = prime_of(&book.cells(), i, x.inside as usize) else {
         return Err(Refusal::TooComplex);
     };
     let kind = crate::turned_kind(x.kind);
@@ -89,7 +89,7 @@ fn derive_exp(book: &mut Book, x: Entry, i: usize, w: usize, len: usize) -> Resu
     ensures into { Into (seen book.old) (seen book.new) x i w len sum_entries result derive_exp }
     ensures same_slices { slices book.new ≡ slices book.old }
 {
-    if !arithmetic::add::is_x(book, i, x.inside as usize) {
+    if !arithmetic::add::is_x(&book.cells(), i, x.inside as usize) {
         return Err(Refusal::TooComplex);
     }
     let argument = book.load(i);
@@ -108,7 +108,7 @@ fn derive_log(book: &mut Book, x: Entry, i: usize, w: usize, len: usize) -> Resu
     ensures into { Into (seen book.old) (seen book.new) x i w len sum_entries result derive_log }
     ensures same_slices { slices book.new ≡ slices book.old }
 {
-    let Some(d) = prime_of(book, i, x.inside as usize) else {
+    let Some(d) = prime_of(&book.cells(), i, x.inside as usize) else {
         return Err(Refusal::TooComplex);
     };
     let Some(l) = crate::ln_of(x.num) else {

@@ -59,7 +59,7 @@ fn integrate_wave(
     ensures into { Into (seen book.old) (seen book.new) x i w len sum_entries result integrate_into }
     ensures same_slices { slices book.new ≡ slices book.old }
 {
-    if !arithmetic::add::is_x(book, i, x.inside as usize) {
+    if !arithmetic::add::is_x(&book.cells(), i, x.inside as usize) {
         return Err(Refusal::TooComplex);
     }
     let kind = crate::turned_kind(x.kind);

@@ -11,6 +11,14 @@ use Rattle.cells.specs.declared.Entry.{Entry}
 use Rattle.cells.specs.Contract.Book.{Book, book, Room, cell, word, decoded, encoded, at}
 use Rattle.cells.specs.Contract.Moves.{SameRoom, Kept, Put, Copied, Inserted}
 
+-- ---- books that are one, as a book and what is lent of it for reading
+
+pub kinds-one : {a b : Book} → a ≡ b → a.kinds ≡ b.kinds
+kinds-one e = ap (λ (x : Book). x.kinds) e
+
+pub insides-one : {a b : Book} → a ≡ b → a.insides ≡ b.insides
+insides-one e = ap (λ (x : Book). x.insides) e
+
 -- ---- cells
 
 -- the same cell stands for the same entry

@@ -3,7 +3,7 @@
 #![tactic(auto)]
 
 ghost use Rattle.std.specs.Prelude.{◌+◌, ◌≤◌, ◌<◌, ◌≡◌};
-ghost use Rattle.cells.specs.Contract.Book.{seen, slices, Room, Plain, at};
+ghost use Rattle.cells.specs.Contract.Book.{seen, shown, slices, Room, Plain, at};
 ghost use Rattle.cells.specs.Contract.Moves.{Apart, Put, Moved, Copied, Inserted};
 
 use numbers::complex::Complex;
@@ -17,19 +17,19 @@ pub struct Entry {
     pub coef: Complex,
 }
 
-// The three arrays, lent. Contracts see them as one book (`seen`).
-#[derive(Drop)]
-pub struct Book<'a> {
-    pub kinds: &'a mut [u8],
-    pub insides: &'a mut [u8],
-    pub numbers: &'a mut [[u64; 3]],
+// The three arrays, shared: for reading. Contracts see them as one book too (`shown`).
+#[derive(Clone, Copy)]
+pub struct Cells<'a> {
+    pub kinds: &'a [u8],
+    pub insides: &'a [u8],
+    pub numbers: &'a [[u64; 3]],
 }
 
-impl<'a> Book<'a> {
+impl<'a> Cells<'a> {
     // The entry that the cell at i stands for.
     pub fn load(&self, i: usize) -> Entry
-        requires { Room (seen self.now) (i + 1) × Plain (at (seen self.now) i) }
-        ensures { result ≡ at (seen self.now) i }
+        requires { Room (shown self.now) (i + 1) × Plain (at (shown self.now) i) }
+        ensures { result ≡ at (shown self.now) i }
     {
         let words = self.numbers[i];
         let re = f64::from_bits(words[1]);
@@ -40,6 +40,35 @@ impl<'a> Book<'a> {
             num: f64::from_bits(words[0]),
             coef: Complex { re: re, im: im },
         }
+    }
+}
+
+// The three arrays, lent. Contracts see them as one book (`seen`).
+#[derive(Drop)]
+pub struct Book<'a> {
+    pub kinds: &'a mut [u8],
+    pub insides: &'a mut [u8],
+    pub numbers: &'a mut [[u64; 3]],
+}
+
+impl<'a> Book<'a> {
+    // The cells, for reading.
+    pub fn cells(&self) -> Cells<'_>
+        ensures { shown result ≡ seen self.now }
+    {
+        Cells {
+            kinds: self.kinds,
+            insides: self.insides,
+            numbers: self.numbers,
+        }
+    }
+
+    // The entry that the cell at i stands for.
+    pub fn load(&self, i: usize) -> Entry
+        requires { Room (seen self.now) (i + 1) × Plain (at (seen self.now) i) }
+        ensures { result ≡ at (seen self.now) i }
+    {
+        self.cells().load(i)
     }
 
     // Writes x as the cell at k.
@@ -74,17 +103,17 @@ impl<'a> Book<'a> {
     }
 
     // The n cells from i on of another book are copied to k.
-    pub fn copy_in(&mut self, from: &Book, i: usize, n: usize, k: usize)
-        requires { Room (seen from.now) (i + n) × Room (seen self.old) (k + n) }
-        ensures copied { Copied (seen from.now) (seen self.old) (seen self.new) i n k }
+    pub fn copy_in(&mut self, from: &Cells, i: usize, n: usize, k: usize)
+        requires { Room (shown from.now) (i + n) × Room (seen self.old) (k + n) }
+        ensures copied { Copied (shown from.now) (seen self.old) (seen self.new) i n k }
         ensures same_slices { slices self.new ≡ slices self.old }
     {
         let kinds = &mut *self.kinds;
         let insides = &mut *self.insides;
         let numbers = &mut *self.numbers;
-        let from_kinds = &*from.kinds;
-        let from_insides = &*from.insides;
-        let from_numbers = &*from.numbers;
+        let from_kinds = from.kinds;
+        let from_insides = from.insides;
+        let from_numbers = from.numbers;
         for j in 0..n {
             kinds[k + j] = from_kinds[i + j];
             insides[k + j] = from_insides[i + j];

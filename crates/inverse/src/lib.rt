@@ -2,7 +2,7 @@
 #![tactic(auto)]
 
 ghost use Rattle.std.specs.Prelude.{◌+◌, ◌*◌, ◌≤◌, length, Bool, [], ◌∷◌, ◌≡◌};
-ghost use Rattle.cells.specs.Contract.Book.{seen};
+ghost use Rattle.cells.specs.Contract.Book.{shown};
 ghost use Rattle.formats.specs.Tree.{end};
 ghost use Rattle.inverse.specs.Contract.Steps.{inverse_records, next_other, others_of, by_others, ReadyTo, Spelt, Told};
 ghost use Rattle.inverse.specs.Inverse.{num, act, spell, coef_of, low, others, less_constant, over_factor, unpower, is_int, of_power, simple_quadratic, root, larger, full_quadratic, linear, of_constant, of_quadratic, inverse};
@@ -12,7 +12,7 @@ ghost use Rattle.numbers.specs.Signs.{one64};
 ghost use Rattle.sums.specs.Contract.Lies.{Held, OfOne};
 ghost use Rattle.writing.specs.Draft.Contract.Lying.{Answered};
 
-use cells::{Book, Entry};
+use cells::{Cells, Entry};
 use formats::record::Primitive;
 use limits::{RECORD_BYTES, Refusal};
 use numbers::complex::Complex;
@@ -33,9 +33,9 @@ fn wide(x: u8) -> usize
 }
 
 // The coefficient of x to the q in the sum of m cells from j on, +0 where there is none.
-fn coef_of(book: &Book, j: usize, m: usize, q: f64) -> Complex
-    requires { Held (seen book.now) j (j + m) sum_levels }
-    ensures { OfOne (seen book.now) j (j + m) sum_levels (λ s. result ≡ coef_of q s) }
+fn coef_of(book: &Cells, j: usize, m: usize, q: f64) -> Complex
+    requires { Held (shown book.now) j (j + m) sum_levels }
+    ensures { OfOne (shown book.now) j (j + m) sum_levels (λ s. result ≡ coef_of q s) }
 {
     let end = j + m;
     let mut i = j;
@@ -77,9 +77,9 @@ fn next_other(found: Others, x: Entry) -> Others
 }
 
 // What the sum of m cells from j on has besides x to the 0, 1 and 2.
-fn others_of(book: &Book, j: usize, m: usize) -> Others
-    requires { Held (seen book.now) j (j + m) sum_levels }
-    ensures { OfOne (seen book.now) j (j + m) sum_levels (λ s. result ≡ others_of (others s)) }
+fn others_of(book: &Cells, j: usize, m: usize) -> Others
+    requires { Held (shown book.now) j (j + m) sum_levels }
+    ensures { OfOne (shown book.now) j (j + m) sum_levels (λ s. result ≡ others_of (others s)) }
 {
     let end = j + m;
     let mut i = j;
@@ -348,14 +348,14 @@ const INVERSE_RECORDS: usize = 8 + 8 + 2;
 
 // The list that undoes the sum of m cells from j on.
 pub fn algebraic_inverse(
-    book: &Book,
+    book: &Cells,
     j: usize,
     m: usize,
     complex: bool,
     out: &mut [u8],
 ) -> Result<usize, Refusal>
-    requires { Held (seen book.now) j (j + m) sum_levels }
-    ensures { OfOne (seen book.now) j (j + m) sum_levels (λ s. Answered out.old out.new result (inverse complex s)) }
+    requires { Held (shown book.now) j (j + m) sum_levels }
+    ensures { OfOne (shown book.now) j (j + m) sum_levels (λ s. Answered out.old out.new result (inverse complex s)) }
 {
     let a = coef_of(book, j, m, 2.0);
     let q = coef_of(book, j, m, 1.0);

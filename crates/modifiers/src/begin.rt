@@ -87,7 +87,7 @@ pub fn begin(code: u8, n: usize, at: usize, arena: &mut Arena, v: usize, env: Al
 {
     let m = formats::record::modifier_of(code);
     match begins_by(m) {
-        Manner::Drops => crate::hold::drop_top(at, arena, v, env),
+        Manner::Drops => crate::hold::drop_top(at, &arena.book.cells(), arena.sizes(), v, env),
         Manner::Copies => crate::hold::copy_under(n, at, arena, v, env),
         Manner::Holds => hold_for(m, n, at, arena, v, env),
     }

@@ -2,13 +2,15 @@
 ghost use Rattle.std.specs.Prelude.{◌≡◌, ◌+◌, ◌-◌, ◌≤◌, leb};
 ghost use Rattle.limits.specs.Limits.{handled_needed};
 ghost use Rattle.limits.specs.declared.Refusal.TheVariants.{TooManyVariables};
-ghost use Rattle.stack.specs.Contract.Arena.{slots, places, all_slices};
+ghost use Rattle.cells.specs.Contract.Book.{shown};
+ghost use Rattle.stack.specs.Contract.Arena.{of, slots, places, all_slices};
 ghost use Rattle.stack.specs.State.{taking};
 ghost use Rattle.stack.specs.Contract.Agree.{Ready};
 ghost use Rattle.modifiers.specs.Holding.{dropping, copying};
 ghost use Rattle.modifiers.specs.Contract.Begins.{Begins, CopiesBelow};
 ghost use Rattle.modifiers.specs.declared.hold.Begun.TheVariants.{Halted};
 
+use cells::Cells;
 use limits::{HANDLED_NEEDED, Refusal};
 use stack::slots::{Arena, WORKING};
 use stack::state::AlgebraEnv;
@@ -44,7 +46,7 @@ pub fn hold(k: usize, at: usize, arena: &mut Arena, v: usize, env: AlgebraEnv) -
     ensures same_slices { all_slices arena.new ≡ all_slices arena.old }
 {
     let used = env.used;
-    let d = stack::slots::measure(arena, WORKING, used, k);
+    let d = stack::slots::measure(arena.sizes(), WORKING, used, k);
     let Some(w) = d else {
         return too_few(at, env);
     };
@@ -53,12 +55,12 @@ pub fn hold(k: usize, at: usize, arena: &mut Arena, v: usize, env: AlgebraEnv) -
 }
 
 // The top is taken off, and nothing held.
-pub fn drop_top(at: usize, arena: &Arena, v: usize, env: AlgebraEnv) -> Begun
-    requires { Ready (slots arena.now) v env }
-    ensures { Begins (slots arena.now) (slots arena.now) v env result (λ st f. dropping at st f) }
+pub fn drop_top(at: usize, book: &Cells, sizes: &[u8], v: usize, env: AlgebraEnv) -> Begun
+    requires { Ready (of (shown book.now) sizes.now) v env }
+    ensures { Begins (of (shown book.now) sizes.now) (of (shown book.now) sizes.now) v env result (λ st f. dropping at st f) }
 {
     let used = env.used;
-    let d = stack::slots::measure(arena, WORKING, used, 1);
+    let d = stack::slots::measure(sizes, WORKING, used, 1);
     let Some(w) = d else {
         return too_few(at, env);
     };
@@ -93,11 +95,11 @@ pub fn copy_under(k: usize, at: usize, arena: &mut Arena, v: usize, env: Algebra
     ensures same_slices { all_slices arena.new ≡ all_slices arena.old }
 {
     let used = env.used;
-    let d = stack::slots::measure(arena, WORKING, used, k);
+    let d = stack::slots::measure(arena.sizes(), WORKING, used, k);
     let Some(w) = d else {
         return too_few(at, env);
     };
-    let e = stack::slots::measure(arena, w, used, less(k, 1));
+    let e = stack::slots::measure(arena.sizes(), w, used, less(k, 1));
     let Some(u) = e else {
         return too_few(at, env);
     };

@@ -30,7 +30,7 @@ pub fn lend_deepest(
     ensures same_slices { all_slices arena.new ≡ all_slices arena.old }
 {
     let used = env.used;
-    let d = stack::slots::measure(arena, v, v + m, crate::hold::less(k, c));
+    let d = stack::slots::measure(arena.sizes(), v, v + m, crate::hold::less(k, c));
     let Some(w) = d else {
         return Ran::Stopped(Refusal::NoRoom, at, false);
     };

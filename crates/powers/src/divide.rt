@@ -2,7 +2,7 @@
 // places, and no other place is written: operands lie apart from all of these and stay as they are.
 ghost use Rattle.std.specs.Prelude.{◌≡◌, List, ℕ, ◌+◌, ◌≤◌, Float};
 ghost use Rattle.limits.specs.Limits.{sum_entries, sum_levels};
-ghost use Rattle.cells.specs.Contract.Book.{book as listed, seen, Room, slices};
+ghost use Rattle.cells.specs.Contract.Book.{book as listed, seen, shown, Room, slices};
 ghost use Rattle.cells.specs.Contract.Moves.{Kept};
 ghost use Rattle.sums.specs.Tree.Kinds.{X, CosH};
 ghost use Rattle.sums.specs.Tree.Sums.{Sum, none};
@@ -16,23 +16,23 @@ ghost use Rattle.arithmetic.specs.Add.Contract.Operands.{Operand, Source};
 ghost use Rattle.powers.specs.Divide.Contract.Dividing.{Operands, Working, Divisor, By, OfDivisor, over_div, over_other, power_of};
 
 use arithmetic::Change;
-use cells::{Book, Entry};
+use cells::{Book, Cells, Entry};
 use limits::{Refusal, SUM_ENTRIES, SUM_LEVELS};
 use numbers::complex::Complex;
 use sums::tree::Merge;
 
 // Whether every outermost term of the sum of m cells from j on is a power of x: then a power of x times it is a sum.
-fn all_x(book: &Book, j: usize, m: usize) -> bool
-    requires { (numbers : List (List ℕ)) × Held (listed (seen book.now).kinds (seen book.now).insides numbers) j (j + m) sum_levels }
-    ensures { (numbers : List (List ℕ)) (p : Float) → OfOne (listed (seen book.now).kinds (seen book.now).insides numbers) j (j + m) sum_levels (λ t. result ≡ mulable (x_to p) t) }
+fn all_x(kinds: &[u8], insides: &[u8], j: usize, m: usize) -> bool
+    requires { (numbers : List (List ℕ)) × Held (listed kinds.now insides.now numbers) j (j + m) sum_levels }
+    ensures { (numbers : List (List ℕ)) (p : Float) → OfOne (listed kinds.now insides.now numbers) j (j + m) sum_levels (λ t. result ≡ mulable (x_to p) t) }
 {
     let end = j + m;
     let mut q = j;
     while q < end {
-        if book.kinds[q] != sums::tree::X {
+        if kinds[q] != sums::tree::X {
             return false;
         }
-        q = q + 1 + book.insides[q] as usize;
+        q = q + 1 + insides[q] as usize;
     }
     true
 }
@@ -44,7 +44,8 @@ fn times_x(book: &mut Book, power: f64, j: usize, m: usize, p: usize) -> Result<
     ensures of_one { OfOne (seen book.old) j (j + m) sum_levels (λ t. Agrees result (seen book.new) p (product (x_to power) t)) }
     ensures same_slices { slices book.new ≡ slices book.old }
 {
-    if !all_x(book, j, m) {
+    let cells = book.cells();
+    if !all_x(cells.kinds, cells.insides, j, m) {
         return Err(Refusal::TooComplex);
     }
     let end = j + m;
@@ -115,17 +116,17 @@ fn over_other(
 }
 
 // Whether the term x, whose inside lies from i on, has a quotient by the term y, whose inside lies from j on.
-fn can_div_term(book: &Book, x: Entry, i: usize, y: Entry, j: usize) -> bool
+fn can_div_term(book: &Cells, x: Entry, i: usize, y: Entry, j: usize) -> bool
     requires le_kind { (X ≤ x.kind) × (x.kind ≤ CosH) × (X ≤ y.kind) × (y.kind ≤ CosH) }
-    requires held { Held (seen book.now) i (i + x.inside) sum_levels × Held (seen book.now) j (j + y.inside) sum_levels }
-    ensures { OfTwo (seen book.now) i (i + x.inside) j (j + y.inside) sum_levels (λ t v. result ≡ divable x t y v) }
+    requires held { Held (shown book.now) i (i + x.inside) sum_levels × Held (shown book.now) j (j + y.inside) sum_levels }
+    ensures { OfTwo (shown book.now) i (i + x.inside) j (j + y.inside) sum_levels (λ t v. result ≡ divable x t y v) }
 {
     let code = arithmetic::quotient_code(x.kind, y.kind);
     if code == arithmetic::X_BY_X {
         return true;
     }
     if code == arithmetic::X_BY_DIV {
-        return arithmetic::add::is_one(x) | all_x(book, j, y.inside as usize);
+        return arithmetic::add::is_one(x) | all_x(book.kinds, book.insides, j, y.inside as usize);
     }
     if code == arithmetic::X_BY_OTHER {
         return arithmetic::add::is_one(x);
@@ -137,9 +138,9 @@ fn can_div_term(book: &Book, x: Entry, i: usize, y: Entry, j: usize) -> bool
 }
 
 // Whether each term of the sum of n cells from i on has a quotient by the term y, whose inside lies from j on.
-fn can_div(book: &Book, i: usize, n: usize, y: Entry, j: usize) -> bool
-    requires { Held (seen book.now) i (i + n) sum_levels × ((v : Sum) × Divisor (seen book.now) y j v) }
-    ensures { OfDivisor (seen book.now) i (i + n) y j (λ s v. result ≡ all_divable y v s) }
+fn can_div(book: &Cells, i: usize, n: usize, y: Entry, j: usize) -> bool
+    requires { Held (shown book.now) i (i + n) sum_levels × ((v : Sum) × Divisor (shown book.now) y j v) }
+    ensures { OfDivisor (shown book.now) i (i + n) y j (λ s v. result ≡ all_divable y v s) }
 {
     let end = i + n;
     let mut q = i;
@@ -265,7 +266,7 @@ fn by_several(
     ensures of_two { OfTwo (seen book.old) i (i + n) j (j + m) sum_levels (λ s t. Agrees result (seen book.new) w (div_by_several s t (as_constant s))) }
     ensures same_slices { slices book.new ≡ slices book.old }
 {
-    match arithmetic::add::as_constant(book, i, n) {
+    match arithmetic::add::as_constant(&book.cells(), i, n) {
         Some(c) => constant_by(book, c, i, n, j, m, w),
         None => Err(Refusal::TooComplex),
     }
@@ -289,7 +290,7 @@ pub fn div(
     if 1 + y.inside as usize != m {
         return by_several(book, i, n, j, m, w);
     }
-    if !can_div(book, i, n, y, j + 1) {
+    if !can_div(&book.cells(), i, n, y, j + 1) {
         return Err(Refusal::TooComplex);
     }
     div_each(book, i, n, y, j + 1, w)

@@ -6,7 +6,7 @@ ghost use Rattle.limits.specs.Limits.{sum_entries, sum_levels, highest_power};
 ghost use Rattle.numbers.specs.Numbers.{small_whole};
 ghost use Rattle.numbers.specs.Complex.Arith.{real, one};
 ghost use Rattle.cells.specs.declared.Entry.{Entry};
-ghost use Rattle.cells.specs.Contract.Book.{seen, Room, slices};
+ghost use Rattle.cells.specs.Contract.Book.{seen, shown, Room, slices};
 ghost use Rattle.cells.specs.Contract.Moves.{Apart, Kept};
 ghost use Rattle.sums.specs.Tree.Sums.{Sum, entry, size, len};
 ghost use Rattle.sums.specs.Tree.Kinds.{X};
@@ -21,7 +21,7 @@ ghost use Rattle.powers.specs.Raise.Contract.Reals.{real_of, euler_is};
 ghost use Rattle.powers.specs.Raise.Contract.Roots.{Rooting, root_entry};
 ghost use Rattle.powers.specs.Raise.Contract.Turns.{turn_place};
 
-use cells::{Book, Entry};
+use cells::{Book, Cells, Entry};
 use limits::{Refusal, SUM_ENTRIES, SUM_LEVELS};
 use numbers::complex::Complex;
 use sums::tree::Merge;
@@ -40,9 +40,9 @@ fn counted(formed: Result<usize, Refusal>, pairs: u64) -> Raised
 }
 
 // Whether the sum of n cells from i on is one term, an X or a Div of such a sum: then each cell's inside is all that follows.
-pub fn can_root(book: &Book, i: usize, n: usize) -> bool
-    requires { Held (seen book.now) i (i + n) sum_levels }
-    ensures { OfOne (seen book.now) i (i + n) sum_levels (λ s. result ≡ rootable s) }
+pub fn can_root(book: &Cells, i: usize, n: usize) -> bool
+    requires { Held (shown book.now) i (i + n) sum_levels }
+    ensures { OfOne (shown book.now) i (i + n) sum_levels (λ s. result ≡ rootable s) }
 {
     let end = i + n;
     for k in i..end {
@@ -61,9 +61,9 @@ pub fn can_root(book: &Book, i: usize, n: usize) -> bool
 }
 
 // Whether the first coefficient of the sum of n cells from i on is 1, and that of its inside, all the way down.
-pub fn unit_coefs(book: &Book, i: usize, n: usize) -> bool
-    requires { Held (seen book.now) i (i + n) sum_levels }
-    ensures { OfOne (seen book.now) i (i + n) sum_levels (λ s. result ≡ unit_coefs s) }
+pub fn unit_coefs(book: &Cells, i: usize, n: usize) -> bool
+    requires { Held (shown book.now) i (i + n) sum_levels }
+    ensures { OfOne (shown book.now) i (i + n) sum_levels (λ s. result ≡ unit_coefs s) }
 {
     for k in i..i + n {
         let x = book.load(k);
@@ -151,14 +151,14 @@ fn turn_place(w: usize, left: u64) -> usize
 }
 
 // How many outermost terms the sum of n cells from i on has: each cell is one where nothing lies inside any.
-fn outermost(book: &Book, i: usize, n: usize, flat: bool) -> u64
-    requires { i + n ≤ length (seen book.now).insides }
-    ensures { (f : ℕ → Entry) (s : Sum) → ((k : ℕ) → (f k).inside ≡ get_or (seen book.now).insides k 0) → At f i s → n ≡ size s → (flat ≡ true → len s ≡ size s) → result ≡ len s }
+fn outermost(insides: &[u8], i: usize, n: usize, flat: bool) -> u64
+    requires { i + n ≤ length insides.now }
+    ensures { (f : ℕ → Entry) (s : Sum) → ((k : ℕ) → (f k).inside ≡ get_or insides.now k 0) → At f i s → n ≡ size s → (flat ≡ true → len s ≡ size s) → result ≡ len s }
 {
     if flat {
         return n as u64;
     }
-    sums::order::count(book, i, n) as u64
+    sums::order::count(insides, i, n) as u64
 }
 
 // So many more products of the sum of n cells from i on with itself, one at least.
@@ -169,7 +169,7 @@ fn multiply(book: &mut Book, times: u64, i: usize, n: usize, w: usize) -> Raised
     ensures of_one_2 { OfOne (seen book.old) i (i + n) sum_levels (λ s. Counted result (raised_pairs times s s)) }
     ensures same_slices { slices book.new ≡ slices book.old }
 {
-    let terms = sums::order::count(book, i, n);
+    let terms = sums::order::count(book.cells().insides, i, n);
     let flat = terms == n;
     let base = terms as u64;
     let mut from = i;
@@ -177,7 +177,7 @@ fn multiply(book: &mut Book, times: u64, i: usize, n: usize, w: usize) -> Raised
     let mut pairs = 0u64;
     for turn in 0..times {
         let p = turn_place(w, times - turn);
-        let more = base * outermost(book, from, len, flat);
+        let more = base * outermost(book.cells().insides, from, len, flat);
         match arithmetic::multiply::mul(book, from, len, i, n, p) {
             Ok(m) => len = m,
             Err(r) => return counted(Err(r), 0),
@@ -262,7 +262,8 @@ pub fn whole_power(book: &mut Book, e: f64, i: usize, n: usize, w: usize) -> Rai
             raise(book, k - 1, i, n, w)
         }
         None => {
-            if !arithmetic::multiply::can_mul(i, n, i, n, book, SUM_LEVELS) {
+            let cells = book.cells();
+            if !arithmetic::multiply::can_mul(i, n, i, n, cells.kinds, cells.insides, SUM_LEVELS) {
                 return counted(Err(Refusal::TooComplex), 0);
             }
             counted(Err(Refusal::BigPower), 0)
@@ -281,10 +282,10 @@ pub fn power_by(book: &mut Book, e: f64, i: usize, n: usize, w: usize) -> Raised
     if numbers::is_whole(e) & (0.0 <= e) {
         return whole_power(book, e, i, n, w);
     }
-    if !can_root(book, i, n) {
+    if !can_root(&book.cells(), i, n) {
         return counted(Err(Refusal::TooComplex), 0);
     }
-    if !unit_coefs(book, i, n) {
+    if !unit_coefs(&book.cells(), i, n) {
         return counted(Err(Refusal::NeedsMath), 0);
     }
     counted(root(book, e, i, n, w), 0)
@@ -350,11 +351,13 @@ pub fn pow(book: &mut Book, i: usize, n: usize, j: usize, m: usize, w: usize) ->
     ensures of_two_2 { OfTwo (seen book.old) i (i + n) j (j + m) sum_levels (λ s t. Counted result (pow_pairs s t)) }
     ensures same_slices { slices book.new ≡ slices book.old }
 {
-    if is_euler(arithmetic::add::as_constant(book, i, n)) & arithmetic::add::is_x(book, j, m) {
+    if is_euler(arithmetic::add::as_constant(&book.cells(), i, n))
+        & arithmetic::add::is_x(&book.cells(), j, m)
+    {
         let exp = sums::tree::EXP;
         return counted(over(book, exp, 0.0, j, m, w), 0);
     }
-    match real_of(arithmetic::add::as_constant(book, j, m)) {
+    match real_of(arithmetic::add::as_constant(&book.cells(), j, m)) {
         Some(e) => power_by(book, e, i, n, w),
         None => counted(Err(Refusal::TooComplex), 0),
     }
@@ -388,7 +391,7 @@ fn number_power(book: &mut Book, base: f64, e: f64, p: usize) -> Result<usize, R
     let raised = power_by(&mut other, e, 0, 1, SUM_ENTRIES);
     let formed = raised.formed;
     let m = formed?;
-    book.copy_in(&other, SUM_ENTRIES, m, p);
+    book.copy_in(&other.cells(), SUM_ENTRIES, m, p);
     Ok(m)
 }
 
@@ -400,10 +403,10 @@ pub fn pow_of(book: &mut Book, base: f64, i: usize, n: usize, p: usize) -> Resul
     ensures same_slices { slices book.new ≡ slices book.old }
 {
     let c = Complex { re: base, im: 0.0 };
-    if is_euler(Some(c)) & arithmetic::add::is_x(book, i, n) {
+    if is_euler(Some(c)) & arithmetic::add::is_x(&book.cells(), i, n) {
         return over(book, sums::tree::EXP, 0.0, i, n, p);
     }
-    match real_of(arithmetic::add::as_constant(book, i, n)) {
+    match real_of(arithmetic::add::as_constant(&book.cells(), i, n)) {
         Some(e) => number_power(book, base, e, p),
         None => Err(Refusal::TooComplex),
     }
@@ -423,7 +426,7 @@ pub fn log(
     ensures of_two { OfTwo (seen book.old) i (i + n) j (j + m) sum_levels (λ s t. Agrees result (seen book.new) p (log s t)) }
     ensures same_slices { slices book.new ≡ slices book.old }
 {
-    match real_of(arithmetic::add::as_constant(book, j, m)) {
+    match real_of(arithmetic::add::as_constant(&book.cells(), j, m)) {
         Some(base) => over(book, sums::tree::LOG, base, i, n, p),
         None => Err(Refusal::TooComplex),
     }

@@ -106,8 +106,8 @@ fn complex(
     ensures of_two { OfTwo (seen book.old) i (i + n) j (j + m) sum_levels (λ b a. Agrees result (seen book.new) w (complex_sum a b)) }
     ensures same_slices { slices book.new ≡ slices book.old }
 {
-    let first = arithmetic::add::as_constant(book, i, n);
-    let second = arithmetic::add::as_constant(book, j, m);
+    let first = arithmetic::add::as_constant(&book.cells(), i, n);
+    let second = arithmetic::add::as_constant(&book.cells(), j, m);
     let Some(c) = second else {
         return add_times_i(book, i, n, j, m, w);
     };
@@ -156,7 +156,8 @@ fn multiplied(book: &mut Book, i: usize, n: usize, j: usize, m: usize, w: usize)
     ensures of_two_2 { OfTwo (seen book.old) i (i + n) j (j + m) sum_levels (λ b a. Counted result (pairs b a)) }
     ensures same_slices { slices book.new ≡ slices book.old }
 {
-    let pairs = sums::order::count(book, i, n) * sums::order::count(book, j, m);
+    let cells = book.cells();
+    let pairs = sums::order::count(cells.insides, i, n) * sums::order::count(cells.insides, j, m);
     let formed = arithmetic::multiply::mul(book, i, n, j, m, w);
     Raised {
         formed,

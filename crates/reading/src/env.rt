@@ -5,12 +5,12 @@ ghost use Rattle.formats.specs.Rules.{verdict};
 ghost use Rattle.stack.specs.State.{State, went};
 ghost use Rattle.modifiers.specs.Reading.{start, ended};
 ghost use Rattle.modifiers.specs.Contract.Room.{read_held};
-ghost use Rattle.cells.specs.Contract.Book.{seen};
-ghost use Rattle.stack.specs.Contract.Arena.{slots, Space, working, places, all_slices};
+ghost use Rattle.cells.specs.Contract.Book.{seen, shown};
+ghost use Rattle.stack.specs.Contract.Arena.{of, slots, Space, working, places, all_slices};
 ghost use Rattle.stack.specs.Contract.Agree.{Stands, Ready};
 ghost use Rattle.reading.specs.Contract.Data.{Reaches, DataAs};
 
-use cells::{Book, Entry};
+use cells::{Cells, Entry};
 use limits::{HANDLED_NEEDED, Refusal};
 use numbers::complex::Complex;
 use stack::slots::{Arena, WORKING};
@@ -48,16 +48,16 @@ fn begin_with_x(arena: &mut Arena) -> AlgebraEnv
 }
 
 // One sum must be left.
-fn last_of(arena: &Arena, env: AlgebraEnv) -> AlgebraData
-    requires { (v : ℕ) × Ready (slots arena.now) v env }
-    ensures { (v : ℕ) (st : State) → Stands (slots arena.now) v env st → DataAs result (seen arena.now.book) (ended (went st)) }
+fn last_of(book: &Cells, sizes: &[u8], env: AlgebraEnv) -> AlgebraData
+    requires { (v : ℕ) × Ready (of (shown book.now) sizes.now) v env }
+    ensures { (v : ℕ) (st : State) → Stands (of (shown book.now) sizes.now) v env st → DataAs result (shown book.now) (ended (went st)) }
 {
     let many = HANDLED_NEEDED <= env.handled;
-    let handled = many | stack::slots::any_complex(arena, env.used);
+    let handled = many | stack::slots::any_complex(book, sizes, env.used);
     if env.used == WORKING {
         return AlgebraData::Refused(Refusal::NoOutput, 0, handled);
     }
-    let n = stack::slots::top_size(arena, WORKING, env.used);
+    let n = stack::slots::top_size(sizes, WORKING, env.used);
     if WORKING + n != env.used {
         return AlgebraData::Refused(Refusal::TooManyOutputs, 0, handled);
     }
@@ -75,6 +75,6 @@ pub fn nodes_expr(list: &[u8], arena: &mut Arena, top: usize) -> AlgebraData
     let ran = crate::walk::walk(list, 0, n, arena, top, env);
     match ran {
         Ran::Stopped(q, at, b) => AlgebraData::Refused(q, at, b),
-        Ran::Went(end) => last_of(arena, end),
+        Ran::Went(end) => last_of(&arena.book.cells(), arena.sizes(), end),
     }
 }

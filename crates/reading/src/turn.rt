@@ -1,18 +1,20 @@
 // A record that has no inside, with what is counted of it, and a record that is refused as it is.
 ghost use Rattle.std.specs.Prelude.{◌≡◌, ◌||◌, cond, List, suc, ◌-◌, ◌≤◌, min, leb, length, Some, None};
 ghost use Rattle.limits.specs.Limits.{handled_needed};
+ghost use Rattle.cells.specs.Contract.Book.{shown};
 ghost use Rattle.sums.specs.Tree.Sums.{Sum};
 ghost use Rattle.formats.specs.Names.{kind_of};
 ghost use Rattle.stack.specs.Stack.{any_complex};
 ghost use Rattle.modifiers.specs.Reading.{inside_of};
 ghost use Rattle.stack.specs.Steps.{leaf_step};
-ghost use Rattle.stack.specs.Contract.Arena.{slots, working, places, all_slices};
+ghost use Rattle.stack.specs.Contract.Arena.{of, slots, working, places, all_slices};
 ghost use Rattle.stack.specs.Contract.Stacked.{Stacked};
 ghost use Rattle.stack.specs.Contract.Agree.{Ready, Does, env_of};
 ghost use Rattle.stack.specs.Contract.Acting.{handled_by};
 ghost use Rattle.reading.specs.Contract.After.{after};
 ghost use Rattle.reading.specs.Contract.Quick.{is_quick, has_nodes};
 
+use cells::Cells;
 use formats::record::{Kind, Record};
 use limits::{HANDLED_NEEDED, Refusal};
 use modifiers::Inside;
@@ -83,11 +85,11 @@ pub fn env_of(used: usize, handled: usize, complex: bool, pairs: u64) -> Algebra
 }
 
 // A refusal at a place.
-pub fn refuse(q: Refusal, at: usize, arena: &Arena, env: AlgebraEnv) -> Ran
-    requires { (env.used ≤ length (slots arena.now).sizes) × ((ss : List Sum) × Stacked (slots arena.now) working env.used ss) }
-    ensures { (ss : List Sum) → Stacked (slots arena.now) working env.used ss → result ≡ Ran.Stopped q at (leb handled_needed env.handled || any_complex ss) }
+pub fn refuse(q: Refusal, at: usize, book: &Cells, sizes: &[u8], env: AlgebraEnv) -> Ran
+    requires { (env.used ≤ length sizes.now) × ((ss : List Sum) × Stacked (of (shown book.now) sizes.now) working env.used ss) }
+    ensures { (ss : List Sum) → Stacked (of (shown book.now) sizes.now) working env.used ss → result ≡ Ran.Stopped q at (leb handled_needed env.handled || any_complex ss) }
 {
-    match stack::state::halt(q, arena, env.used, env.handled) {
+    match stack::state::halt(q, book, sizes, env.used, env.handled) {
         Stepped::Went(_, _) => Ran::Went(env),
         Stepped::Stopped(r, b) => Ran::Stopped(r, at, b),
     }

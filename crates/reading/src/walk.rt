@@ -100,7 +100,7 @@ fn modify(list: &[u8], at: usize, r: Record, arena: &mut Arena, v: usize, env: A
     ensures same_slices { all_slices arena.new ≡ all_slices arena.old }
 {
     match modifiers::use_of(list, at, r) {
-        Use::Refused(q) => crate::turn::refuse(q, at, arena, env),
+        Use::Refused(q) => crate::turn::refuse(q, at, &arena.book.cells(), arena.sizes(), env),
         Use::Bodies => with_bodies(list, at, r, arena, v, env),
         Use::Forks => fork(list, at, r, arena, v, env),
     }

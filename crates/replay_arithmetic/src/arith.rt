@@ -1,13 +1,13 @@
 // One primitive on sums that are laid out: n cells from FIRST on, and m cells from SECOND on where it takes two. The result is formed from 0 on
 // in the same book.
 ghost use Rattle.std.specs.Prelude.{◌≡◌, true, ◌*◌, ◌≤◌, length};
-ghost use Rattle.cells.specs.Contract.Book.{seen, Room};
+ghost use Rattle.cells.specs.Contract.Book.{seen, shown, Room};
 ghost use Rattle.replay_arithmetic.specs.Contract.Ready.{Ready};
 ghost use Rattle.limits.specs.Limits.{sum_entries};
 
 use crate::cases;
 use crate::cases::Case;
-use cells::Book;
+use cells::{Book, Cells};
 use limits::{SUM_ENTRIES, SUM_LEVELS};
 
 // A case is run in a book of four sums: from 0 on its result is formed, with as many working places behind it, and then the operands lie.
@@ -28,9 +28,9 @@ fn takes(code: u8, m: usize) -> bool {
 }
 
 // Whether two good sums lie there, the first with an entry or more.
-fn ready(book: &Book, n: usize, m: usize) -> bool
-    requires { Room (seen book.now) (4 * sum_entries) }
-    ensures { result ≡ true → Ready (seen book.now) n m }
+fn ready(book: &Cells, n: usize, m: usize) -> bool
+    requires { Room (shown book.now) (4 * sum_entries) }
+    ensures { result ≡ true → Ready (shown book.now) n m }
 {
     0 < n
         && n <= SUM_ENTRIES
@@ -45,7 +45,7 @@ fn is_given(case: Case, book: &mut Book) -> bool
 {
     let n = case.first.len();
     let m = case.second.len();
-    if !takes(case.code, m) || !ready(book, n, m) {
+    if !takes(case.code, m) || !ready(&book.cells(), n, m) {
         return false;
     }
     let p = formats::record::primitive_of(case.code);
@@ -54,7 +54,7 @@ fn is_given(case: Case, book: &mut Book) -> bool
     } else {
         primitives::form_two(book, p, FIRST, n, SECOND, m, 0).formed
     };
-    case.is_given(book, formed)
+    case.is_given(&book.cells(), formed)
 }
 
 // Whether a case gives what is stored; none of more entries than a sum has does.

@@ -1,10 +1,10 @@
 // A case is five bytes, the code, the entries of the two operands, the refusal's number or 0, and the entries of the result; and then the
 // entries, 32 bytes each.
 ghost use Rattle.std.specs.Prelude.{◌≡◌, ◌+◌, ◌≤◌, length, IfSome};
-ghost use Rattle.cells.specs.Contract.Book.{seen, Room, slices};
+ghost use Rattle.cells.specs.Contract.Book.{seen, shown, Room, slices};
 ghost use Rattle.cells.specs.Contract.Moves.{SameRoom};
 
-use cells::Book;
+use cells::{Book, Cells};
 use limits::{ENTRY_BYTES, Refusal};
 
 // An entry as it is stored: its kind and how many lie inside it, four bytes each, and its numbers, eight bytes each, least byte first.
@@ -76,8 +76,8 @@ impl Cell {
     }
 
     // The cell at i.
-    fn at(book: &Book, i: usize) -> Cell
-        requires { Room (seen book.now) (i + 1) }
+    fn at(book: &Cells, i: usize) -> Cell
+        requires { Room (shown book.now) (i + 1) }
     {
         Cell {
             kind: u32::from(book.kinds[i]),
@@ -101,8 +101,8 @@ pub fn lay(book: &mut Book, k: usize, entries: &[Stored])
 }
 
 // Whether these entries are the first cells.
-fn same_cells(book: &Book, entries: &[Stored]) -> bool
-    requires { Room (seen book.now) (length entries.now) }
+fn same_cells(book: &Cells, entries: &[Stored]) -> bool
+    requires { Room (shown book.now) (length entries.now) }
 {
     for (i, entry) in entries.iter().enumerate() {
         if Cell::at(book, i) != Cell::stored(entry) {
@@ -114,8 +114,8 @@ fn same_cells(book: &Book, entries: &[Stored]) -> bool
 
 impl<'a> Case<'a> {
     // Whether an answer is what is stored: the same number, and the same cells.
-    pub fn is_given(self, book: &Book, formed: Result<usize, Refusal>) -> bool
-        requires { Room (seen book.now) (length self.result.now) }
+    pub fn is_given(self, book: &Cells, formed: Result<usize, Refusal>) -> bool
+        requires { Room (shown book.now) (length self.result.now) }
     {
         match formed {
             Ok(n) => self.number == 0 && n == self.result.len() && same_cells(book, self.result),

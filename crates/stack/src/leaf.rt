@@ -21,7 +21,13 @@ fn apply(arena: &mut Arena, code: u8, v: usize, used: usize, handled: usize) -> 
 {
     let taken = formats::table::taken(code);
     if taken == 0 {
-        return crate::state::halt(Refusal::NotSupported, arena, used, handled);
+        return crate::state::halt(
+            Refusal::NotSupported,
+            &arena.book.cells(),
+            arena.sizes(),
+            used,
+            handled,
+        );
     }
     if taken == 1 {
         return crate::one_operand::one_operand(arena, code, v, used, handled);
@@ -52,7 +58,13 @@ fn leaf_of(k: Kind, r: Record, arena: &mut Arena, v: usize, used: usize, handled
         Kind::ComplexPush => crate::state::push_number(arena, r.re, r.im, v, used, handled),
         Kind::Primitive => apply(arena, r.code, v, used, handled),
         Kind::UnderMarker => Stepped::Went(used, 0),
-        _ => crate::state::halt(why_not(k), arena, used, handled),
+        _ => crate::state::halt(
+            why_not(k),
+            &arena.book.cells(),
+            arena.sizes(),
+            used,
+            handled,
+        ),
     }
 }
 
@@ -64,7 +76,13 @@ pub fn leaf(r: Record, arena: &mut Arena, v: usize, used: usize, handled: usize)
 {
     match formats::record::kind_of(r.kind) {
         Some(k) => leaf_of(k, r, arena, v, used, handled),
-        None => crate::state::halt(Refusal::NotSupported, arena, used, handled),
+        None => crate::state::halt(
+            Refusal::NotSupported,
+            &arena.book.cells(),
+            arena.sizes(),
+            used,
+            handled,
+        ),
     }
 }
 

@@ -48,7 +48,7 @@ pub fn one_operand(arena: &mut Arena, code: u8, v: usize, used: usize, handled: 
     if used == WORKING {
         return crate::state::short(handled);
     }
-    let n = crate::slots::top_size(arena, WORKING, used);
+    let n = crate::slots::top_size(arena.sizes(), WORKING, used);
     let left = formats::table::left(code);
     if left == 0 {
         return Stepped::Went(used - n, 0);

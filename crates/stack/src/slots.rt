@@ -2,15 +2,15 @@
 // behind them lies the stack, and at the end what is held.
 ghost use Rattle.std.specs.Prelude.{◌≡◌, List, ◌∷◌, ℕ, ◌+◌, ◌≤◌, ◌<◌, length};
 ghost use Rattle.limits.specs.Limits.{sum_entries, sum_levels};
-ghost use Rattle.cells.specs.Contract.Book.{seen};
+ghost use Rattle.cells.specs.Contract.Book.{seen, shown};
 ghost use Rattle.stack.specs.Stack.{any_complex};
 ghost use Rattle.sums.specs.Contract.Lies.{OfOne};
 ghost use Rattle.sums.specs.Tree.Sums.{Sum};
-ghost use Rattle.stack.specs.Contract.Arena.{slots, Space, working, all_slices};
+ghost use Rattle.stack.specs.Contract.Arena.{of, slots, Space, working, all_slices};
 ghost use Rattle.stack.specs.Contract.Stacked.{Top, Stacked, Sized, deep};
 ghost use Rattle.stack.specs.Contract.Blocks.{Outside, Raised, Sunk};
 
-use cells::Book;
+use cells::{Book, Cells};
 use limits::{STACK_ENTRIES, SUM_ENTRIES};
 
 // Two sums can be formed there. They count towards no limit.
@@ -26,6 +26,15 @@ pub const SMALL_ARENA: usize = WORKING + SUM_ENTRIES + SUM_ENTRIES;
 pub struct Arena<'a> {
     pub book: Book<'a>,
     pub sizes: &'a mut [u8],
+}
+
+impl<'a> Arena<'a> {
+    // The sizes, for reading.
+    pub fn sizes(&self) -> &[u8]
+        ensures { result.now ≡ self.now.sizes.now }
+    {
+        self.sizes
+    }
 }
 
 fn wide(x: u8) -> usize
@@ -66,17 +75,17 @@ pub fn bring(arena: &mut Arena, i: usize, n: usize, u: usize)
 }
 
 // How many cells the sum has that ends at u, of those stacked from lo on.
-pub fn top_size(arena: &Arena, lo: usize, u: usize) -> usize
-    requires { (0 < u) × (u ≤ length (slots arena.now).sizes) }
-    ensures { (n : ℕ) (ns : List ℕ) → Sized (slots arena.now).sizes lo u (n ∷ ns) → result ≡ n }
+pub fn top_size(sizes: &[u8], lo: usize, u: usize) -> usize
+    requires { (0 < u) × (u ≤ length sizes.now) }
+    ensures { (n : ℕ) (ns : List ℕ) → Sized sizes.now lo u (n ∷ ns) → result ≡ n }
 {
-    wide(arena.sizes[u - 1])
+    wide(sizes[u - 1])
 }
 
 // Where the top k sums of those from lo up to hi begin.
-pub fn measure(arena: &Arena, lo: usize, hi: usize, k: usize) -> Option<usize>
-    requires { (hi ≤ length (slots arena.now).sizes) × ((ns : List ℕ) × Sized (slots arena.now).sizes lo hi ns) }
-    ensures { (ns : List ℕ) → Sized (slots arena.now).sizes lo hi ns → result ≡ deep k ns hi }
+pub fn measure(sizes: &[u8], lo: usize, hi: usize, k: usize) -> Option<usize>
+    requires { (hi ≤ length sizes.now) × ((ns : List ℕ) × Sized sizes.now lo hi ns) }
+    ensures { (ns : List ℕ) → Sized sizes.now lo hi ns → result ≡ deep k ns hi }
 {
     let mut p = hi;
     let mut left = k;
@@ -84,22 +93,22 @@ pub fn measure(arena: &Arena, lo: usize, hi: usize, k: usize) -> Option<usize>
         if p <= lo {
             return None;
         }
-        p = p - top_size(arena, lo, p);
+        p = p - top_size(sizes, lo, p);
         left = left - 1;
     }
     Some(p)
 }
 
 // Whether any of the sums on the stack, which ends at u, has a power of x other than 0 and 1.
-pub fn any_complex(arena: &Arena, u: usize) -> bool
-    requires { (u ≤ length (slots arena.now).sizes) × ((ss : List Sum) × Stacked (slots arena.now) working u ss) }
-    ensures { (ss : List Sum) → Stacked (slots arena.now) working u ss → result ≡ any_complex ss }
+pub fn any_complex(book: &Cells, sizes: &[u8], u: usize) -> bool
+    requires { (u ≤ length sizes.now) × ((ss : List Sum) × Stacked (of (shown book.now) sizes.now) working u ss) }
+    ensures { (ss : List Sum) → Stacked (of (shown book.now) sizes.now) working u ss → result ≡ any_complex ss }
 {
     let mut p = u;
     while WORKING < p {
-        let n = top_size(arena, WORKING, p);
+        let n = top_size(sizes, WORKING, p);
         p = p - n;
-        if arithmetic::add::is_complex(&arena.book, p, n) {
+        if arithmetic::add::is_complex(book, p, n) {
             return true;
         }
     }

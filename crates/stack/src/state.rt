@@ -3,18 +3,19 @@ ghost use Rattle.std.specs.Prelude.{◌≡◌, Bool, ◌||◌, List, ◌+◌, �
 ghost use Rattle.limits.specs.Limits.{sum_entries, sum_levels, handled_needed};
 ghost use Rattle.sums.specs.Tree.Sums.{Sum};
 ghost use Rattle.sums.specs.Tree.Map.{Outcome, sum};
-ghost use Rattle.cells.specs.Contract.Book.{seen};
+ghost use Rattle.cells.specs.Contract.Book.{seen, shown};
 ghost use Rattle.sums.specs.Contract.Lies.{OfOne, Agrees};
 ghost use Rattle.stack.specs.Stack.{any_complex};
 ghost use Rattle.stack.specs.State.{push, most_pairs};
 ghost use Rattle.stack.specs.Steps.{constant_of};
-ghost use Rattle.stack.specs.Contract.Arena.{slots, places, all_slices};
+ghost use Rattle.stack.specs.Contract.Arena.{of, slots, places, all_slices};
 ghost use Rattle.stack.specs.Contract.Arena as arenas;
 ghost use Rattle.stack.specs.Contract.Stacked.{Stacked};
 ghost use Rattle.stack.specs.Contract.Agree.{Prepared, Acts};
 ghost use Rattle.stack.specs.Contract.Parts.{Filled};
 
 use crate::slots::Arena;
+use cells::Cells;
 use limits::{HANDLED_NEEDED, Refusal};
 
 // A number of pairs, or of steps, from here on is told as this one.
@@ -52,11 +53,11 @@ pub fn capped_sum(a: u64, b: u64) -> u64
 }
 
 // A refusal. What was read counts as handled where HANDLED_NEEDED primitives were, or where a sum on the stack is complex.
-pub fn halt(q: Refusal, arena: &Arena, used: usize, handled: usize) -> Stepped
-    requires { (used ≤ length (slots arena.now).sizes) × ((ss : List Sum) × Stacked (slots arena.now) arenas.working used ss) }
-    ensures { (ss : List Sum) → Stacked (slots arena.now) arenas.working used ss → result ≡ Stepped.Stopped q (leb handled_needed handled || any_complex ss) }
+pub fn halt(q: Refusal, book: &Cells, sizes: &[u8], used: usize, handled: usize) -> Stepped
+    requires { (used ≤ length sizes.now) × ((ss : List Sum) × Stacked (of (shown book.now) sizes.now) arenas.working used ss) }
+    ensures { (ss : List Sum) → Stacked (of (shown book.now) sizes.now) arenas.working used ss → result ≡ Stepped.Stopped q (leb handled_needed handled || any_complex ss) }
 {
-    let complex = crate::slots::any_complex(arena, used);
+    let complex = crate::slots::any_complex(book, sizes, used);
     Stepped::Stopped(q, (HANDLED_NEEDED <= handled) | complex)
 }
 
@@ -96,7 +97,7 @@ pub fn push_formed(
 {
     match f {
         Ok(n) => push_cells(arena, 0, n, v, used),
-        Err(q) => halt(q, arena, used, handled),
+        Err(q) => halt(q, &arena.book.cells(), arena.sizes(), used, handled),
     }
 }
 
@@ -114,7 +115,13 @@ pub fn push_number(
     ensures same_slices { all_slices arena.new ≡ all_slices arena.old }
 {
     if !(numbers::finite_bits(re) & numbers::finite_bits(im)) {
-        return halt(Refusal::NotFinite, arena, used, handled);
+        return halt(
+            Refusal::NotFinite,
+            &arena.book.cells(),
+            arena.sizes(),
+            used,
+            handled,
+        );
     }
     if v <= used {
         return Stepped::Stopped(Refusal::NoRoom, false);

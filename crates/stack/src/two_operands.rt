@@ -36,7 +36,7 @@ fn form_pair(
 {
     let p = formats::record::primitive_of(code);
     let up = used - n;
-    let low = crate::slots::top_size(arena, WORKING, up);
+    let low = crate::slots::top_size(arena.sizes(), WORKING, up);
     let down = up - low;
     let f = primitives::form_two(&mut arena.book, p, down, low, up, n, 0);
     let formed = f.formed;
@@ -61,7 +61,7 @@ fn two_leave(
     if left == 1 {
         return form_pair(arena, code, n, v, used, handled);
     }
-    let m = crate::slots::top_size(arena, WORKING, used - n);
+    let m = crate::slots::top_size(arena.sizes(), WORKING, used - n);
     if left == 2 {
         crate::one_operand::flip(arena, n, m, used);
         return Stepped::Went(used, 0);
@@ -78,7 +78,7 @@ pub fn two_operands(arena: &mut Arena, code: u8, v: usize, used: usize, handled:
     if used == WORKING {
         return crate::state::short(handled);
     }
-    let n = crate::slots::top_size(arena, WORKING, used);
+    let n = crate::slots::top_size(arena.sizes(), WORKING, used);
     if used - n == WORKING {
         return crate::state::short(handled);
     }

@@ -2,7 +2,7 @@
 ghost use Rattle.std.specs.Prelude.{◌≡◌, ℕ, ◌+◌, ◌*◌, ◌≤◌, length};
 ghost use Rattle.std.proofs.lemmas.List.Edits.{sets};
 ghost use Rattle.limits.specs.Limits.{sum_entries, sum_levels, entry_bytes};
-ghost use Rattle.cells.specs.Contract.Book.{seen, Room, slices};
+ghost use Rattle.cells.specs.Contract.Book.{seen, shown, Room, slices};
 ghost use Rattle.cells.specs.Contract.Moves.{SameRoom};
 ghost use Rattle.sums.specs.Contract.Lies.{Held, OfOne};
 ghost use Rattle.sums.specs.Entry.Encoding.{entries_in, encode_sum};
@@ -11,7 +11,7 @@ ghost use Rattle.sums.specs.Entry.Contract.Steps.{clean_at};
 ghost use Rattle.sums.specs.Contract.Laid.{Laid};
 ghost use Rattle.sums.specs.Contract.Steps.{Loaded, Answered, Stored};
 
-use cells::Book;
+use cells::{Book, Cells};
 use limits::{ENTRY_BYTES, Refusal, SUM_ENTRIES, SUM_LEVELS};
 
 // What lies inside an entry is fewer than this.
@@ -49,9 +49,9 @@ fn read_cells(book: &mut Book, list: &[u8], n: usize) -> bool
 }
 
 // What the first `n` cells are: a good sum of at most SUM_LEVELS, a good sum of more, or none.
-fn answer(book: &Book, n: usize) -> Result<usize, Refusal>
-    requires { Room (seen book.now) n }
-    ensures { Answered (seen book.now) n result }
+fn answer(book: &Cells, n: usize) -> Result<usize, Refusal>
+    requires { Room (shown book.now) n }
+    ensures { Answered (shown book.now) n result }
 {
     if crate::good::good_sum(book, 0, n, SUM_LEVELS) {
         return Ok(n);
@@ -83,7 +83,7 @@ pub fn take_in(book: &mut Book, list: &[u8]) -> Result<usize, Refusal>
     if !read_cells(book, list, n) {
         return Err(Refusal::BadRecord);
     }
-    answer(book, n)
+    answer(&book.cells(), n)
 }
 
 // Writes a cell's five numbers as the entry at place `j`.
@@ -107,9 +107,9 @@ pub fn count_entries(out: &[u8]) -> usize
 }
 
 // Writes the sum that lies in the `n` cells from `i` on.
-pub fn put_sum(book: &Book, i: usize, n: usize, out: &mut [u8])
-    requires { Held (seen book.now) i (i + n) sum_levels × (entry_bytes * n ≤ length out.old) }
-    ensures { OfOne (seen book.now) i (i + n) sum_levels (λ s. out.new ≡ sets out.old 0 (encode_sum s)) }
+pub fn put_sum(book: &Cells, i: usize, n: usize, out: &mut [u8])
+    requires { Held (shown book.now) i (i + n) sum_levels × (entry_bytes * n ≤ length out.old) }
+    ensures { OfOne (shown book.now) i (i + n) sum_levels (λ s. out.new ≡ sets out.old 0 (encode_sum s)) }
 {
     for j in 0..n {
         let k = i + j;

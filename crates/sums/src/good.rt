@@ -1,10 +1,10 @@
 // Whether what lies in a book is a good sum: every entry one that a sum may hold, and each level strictly rising.
 ghost use Rattle.std.specs.Prelude.{◌≡◌, true, ◌↔◌, ◌+◌, ◌^◌, ◌<◌};
-ghost use Rattle.cells.specs.Contract.Book.{seen, Room};
+ghost use Rattle.cells.specs.Contract.Book.{shown, Room};
 ghost use Rattle.sums.specs.Contract.Lies.{Held};
 ghost use Rattle.sums.specs.Contract.Fine.{head_ok, is_less, Fine, Term, Follows};
 
-use cells::Book;
+use cells::Cells;
 use std::cmp::Ordering;
 
 // A kind from X to CosH; a number only with X and Log; an inside unless it is an X. That the number's bits are below 2^64 is told
@@ -18,9 +18,9 @@ fn good_head(kind: u8, inside: u8, num: u64) -> bool
 }
 
 // The cell at k by itself, with an inside that ends by `end`.
-fn good_cell(book: &Book, k: usize, end: usize) -> bool
-    requires { (k < end) × Room (seen book.now) (k + 1) }
-    ensures { (result ≡ true) ↔ Fine (seen book.now) k end }
+fn good_cell(book: &Cells, k: usize, end: usize) -> bool
+    requires { (k < end) × Room (shown book.now) (k + 1) }
+    ensures { (result ≡ true) ↔ Fine (shown book.now) k end }
 {
     let words = book.numbers[k];
     let inside = book.insides[k];
@@ -41,10 +41,10 @@ fn is_less(o: Ordering) -> bool
 }
 
 // Whether the term at k comes after the one at `last`; the first follows nothing.
-fn follows(book: &Book, last: usize, k: usize, left: usize) -> bool
-    requires term { last < k → Term (seen book.now) last left }
-    requires term_2 { Term (seen book.now) k left }
-    ensures { Follows (seen book.now) last k left result }
+fn follows(book: &Cells, last: usize, k: usize, left: usize) -> bool
+    requires term { last < k → Term (shown book.now) last left }
+    requires term_2 { Term (shown book.now) k left }
+    ensures { Follows (shown book.now) last k left result }
 {
     if k <= last {
         return true;
@@ -55,9 +55,9 @@ fn follows(book: &Book, last: usize, k: usize, left: usize) -> bool
 }
 
 // Whether the n cells from i on are a good sum of at most `left` levels. The empty sum is one.
-pub fn good_sum(book: &Book, i: usize, n: usize, left: usize) -> bool
-    requires { Room (seen book.now) (i + n) }
-    ensures { (result ≡ true) ↔ Held (seen book.now) i (i + n) left }
+pub fn good_sum(book: &Cells, i: usize, n: usize, left: usize) -> bool
+    requires { Room (shown book.now) (i + n) }
+    ensures { (result ≡ true) ↔ Held (shown book.now) i (i + n) left }
 {
     if left == 0 {
         return n == 0;

@@ -52,7 +52,7 @@ fn put_same(
     if !v.is_finite() {
         return Err(Refusal::NotFinite);
     }
-    if !crate::order::nests_within(book, i, x.inside as usize, INSIDE_LEVELS) {
+    if !crate::order::nests_within(book.cells().insides, i, x.inside as usize, INSIDE_LEVELS) {
         return Err(Refusal::TooDeep);
     }
     let e = Entry {
@@ -83,7 +83,7 @@ fn put_new(
     if !c.is_finite() {
         return Err(Refusal::NotFinite);
     }
-    if !crate::order::nests_within(book, i, x.inside as usize, INSIDE_LEVELS) {
+    if !crate::order::nests_within(book.cells().insides, i, x.inside as usize, INSIDE_LEVELS) {
         return Err(Refusal::TooDeep);
     }
     let m = n + (1 + x.inside as usize);
@@ -120,7 +120,7 @@ pub fn put_block(
         let why = crate::tree::not_finite(x.kind);
         return Err(why);
     }
-    match crate::order::find(book, x, i, p, n, SUM_LEVELS) {
+    match crate::order::find(&book.cells(), x, i, p, n, SUM_LEVELS) {
         Found::Same(k) => put_same(book, how, x, i, p, n, k),
         Found::Before(k) => put_new(book, how, x, i, p, n, k),
     }
@@ -152,7 +152,7 @@ pub fn put_below(
         num: num,
         coef: c,
     };
-    match crate::order::find_power(book, num, p, n, end) {
+    match crate::order::find_power(&book.cells(), num, p, n, end) {
         Found::Same(k) => put_same(book, how, x, p, p, n, k),
         Found::Before(k) => put_new(book, how, x, p, p, n, k),
     }
@@ -172,6 +172,6 @@ pub fn put_power(
     ensures of_one { OfOne (seen book.old) p (p + n) sum_levels (λ s. Agrees result (seen book.new) p (formed how (entry X 0 num c) none s)) }
     ensures same_slices { slices book.new ≡ slices book.old }
 {
-    let end = crate::order::powers_end(book, p, n);
+    let end = crate::order::powers_end(book.cells().kinds, p, n);
     put_below(book, how, num, c, p, n, end)
 }

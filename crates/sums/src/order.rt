@@ -4,7 +4,7 @@ ghost use Rattle.std.specs.Prelude.{◌≡◌, true, ◌↔◌, ℕ, ◌+◌, �
 ghost use Rattle.std.specs.Float.Ieee.Scale.{finite};
 ghost use Rattle.limits.specs.Limits.{sum_levels};
 ghost use Rattle.cells.specs.declared.Entry.{Entry};
-ghost use Rattle.cells.specs.Contract.Book.{seen};
+ghost use Rattle.cells.specs.Contract.Book.{shown};
 ghost use Rattle.sums.specs.Tree.Sums.{Sum, none, size, len, levels};
 ghost use Rattle.sums.specs.Tree.Kinds.{X};
 ghost use Rattle.sums.specs.Tree.Good.{Good};
@@ -14,7 +14,7 @@ ghost use Rattle.sums.specs.Contract.Lies.{At, Lies, Held, OfOne, OfTwo};
 ghost use Rattle.sums.specs.Contract.Nests.{Nests, Nested};
 ghost use Rattle.sums.specs.Contract.Place.{place, powers, OnlyPowers};
 
-use cells::{Book, Entry};
+use cells::{Cells, Entry};
 use std::cmp::Ordering;
 
 // Where a term stands in a sum, or before which cell it belongs.
@@ -46,15 +46,15 @@ pub fn cmp_head(x: Entry, y: Entry) -> Ordering
 }
 
 // How many outermost entries the n cells from i on have.
-pub fn count(book: &Book, i: usize, n: usize) -> usize
-    requires { i + n ≤ length (seen book.now).insides }
-    ensures { (f : ℕ → Entry) (s : Sum) → ((k : ℕ) → (f k).inside ≡ get_or (seen book.now).insides k 0) → At f i s → n ≡ size s → result ≡ len s }
+pub fn count(insides: &[u8], i: usize, n: usize) -> usize
+    requires { i + n ≤ length insides.now }
+    ensures { (f : ℕ → Entry) (s : Sum) → ((k : ℕ) → (f k).inside ≡ get_or insides.now k 0) → At f i s → n ≡ size s → result ≡ len s }
 {
     let end = i + n;
     let mut k = i;
     let mut c = 0usize;
     while k < end {
-        let d = book.insides[k] as usize;
+        let d = insides[k] as usize;
         k = k + 1 + d;
         c = c + 1;
     }
@@ -63,10 +63,10 @@ pub fn count(book: &Book, i: usize, n: usize) -> usize
 
 // Two terms: their heads, and then their insides, which lie from i and from j on.
 #[cycle(cmp_sum_cmp_term)]
-pub fn cmp_term(book: &Book, x: Entry, i: usize, y: Entry, j: usize, left: usize) -> Ordering
-    requires held { Held (seen book.now) i (i + x.inside) left }
-    requires held_2 { Held (seen book.now) j (j + y.inside) left }
-    ensures { OfTwo (seen book.now) i (i + x.inside) j (j + y.inside) left (λ s t. result ≡ cmp_term x s y t) }
+pub fn cmp_term(book: &Cells, x: Entry, i: usize, y: Entry, j: usize, left: usize) -> Ordering
+    requires held { Held (shown book.now) i (i + x.inside) left }
+    requires held_2 { Held (shown book.now) j (j + y.inside) left }
+    ensures { OfTwo (shown book.now) i (i + x.inside) j (j + y.inside) left (λ s t. result ≡ cmp_term x s y t) }
 {
     let n = x.inside as usize;
     let m = y.inside as usize;
@@ -79,12 +79,12 @@ pub fn cmp_term(book: &Book, x: Entry, i: usize, y: Entry, j: usize, left: usize
 
 // Two sums, the n entries from i on and the m from j on: by length, then each term, then its coefficient.
 #[cycle(cmp_sum_cmp_term)]
-pub fn cmp_sum(book: &Book, i: usize, n: usize, j: usize, m: usize, left: usize) -> Ordering
-    requires held { Held (seen book.now) i (i + n) left }
-    requires held_2 { Held (seen book.now) j (j + m) left }
-    ensures { OfTwo (seen book.now) i (i + n) j (j + m) left (λ s t. result ≡ cmp_sum s t) }
+pub fn cmp_sum(book: &Cells, i: usize, n: usize, j: usize, m: usize, left: usize) -> Ordering
+    requires held { Held (shown book.now) i (i + n) left }
+    requires held_2 { Held (shown book.now) j (j + m) left }
+    ensures { OfTwo (shown book.now) i (i + n) j (j + m) left (λ s t. result ≡ cmp_sum s t) }
 {
-    match cmp_nat(count(book, i, n), count(book, j, m)) {
+    match cmp_nat(count(book.insides, i, n), count(book.insides, j, m)) {
         Ordering::Less => return Ordering::Less,
         Ordering::Greater => return Ordering::Greater,
         Ordering::Equal => {}
@@ -115,10 +115,10 @@ pub fn same_head(x: Entry, y: Entry) -> bool
 
 // The Rust's == on two terms, whose insides lie from i and from j on: coefficients don't count.
 #[cycle(eq_sum_eq_term)]
-pub fn eq_term(book: &Book, x: Entry, i: usize, y: Entry, j: usize, left: usize) -> bool
-    requires held { Held (seen book.now) i (i + x.inside) left }
-    requires held_2 { Held (seen book.now) j (j + y.inside) left }
-    ensures { OfTwo (seen book.now) i (i + x.inside) j (j + y.inside) left (λ s t. result ≡ same_term x s y t) }
+pub fn eq_term(book: &Cells, x: Entry, i: usize, y: Entry, j: usize, left: usize) -> bool
+    requires held { Held (shown book.now) i (i + x.inside) left }
+    requires held_2 { Held (shown book.now) j (j + y.inside) left }
+    ensures { OfTwo (shown book.now) i (i + x.inside) j (j + y.inside) left (λ s t. result ≡ same_term x s y t) }
 {
     let n = x.inside as usize;
     let m = y.inside as usize;
@@ -130,10 +130,10 @@ pub fn eq_term(book: &Book, x: Entry, i: usize, y: Entry, j: usize, left: usize)
 
 // The Rust's == on two sums, the n entries from i on and the m from j on.
 #[cycle(eq_sum_eq_term)]
-pub fn eq_sum(book: &Book, i: usize, n: usize, j: usize, m: usize, left: usize) -> bool
-    requires held { Held (seen book.now) i (i + n) left }
-    requires held_2 { Held (seen book.now) j (j + m) left }
-    ensures { OfTwo (seen book.now) i (i + n) j (j + m) left (λ s t. result ≡ same_sum s t) }
+pub fn eq_sum(book: &Cells, i: usize, n: usize, j: usize, m: usize, left: usize) -> bool
+    requires held { Held (shown book.now) i (i + n) left }
+    requires held_2 { Held (shown book.now) j (j + m) left }
+    ensures { OfTwo (shown book.now) i (i + n) j (j + m) left (λ s t. result ≡ same_sum s t) }
 {
     let end = i + n;
     let stop = j + m;
@@ -152,9 +152,9 @@ pub fn eq_sum(book: &Book, i: usize, n: usize, j: usize, m: usize, left: usize) 
 }
 
 // Whether the sum of n cells from i on has at most `left` levels.
-fn nests_inside(book: &Book, i: usize, n: usize, left: usize) -> bool
-    requires { Nested (seen book.now).insides i (i + n) }
-    ensures { (s : Sum) → Nests (seen book.now).insides i (i + n) s → result ≡ leb (levels s) left }
+fn nests_inside(insides: &[u8], i: usize, n: usize, left: usize) -> bool
+    requires { Nested insides.now i (i + n) }
+    ensures { (s : Sum) → Nests insides.now i (i + n) s → result ≡ leb (levels s) left }
 {
     if left == 0 {
         return n == 0;
@@ -162,8 +162,8 @@ fn nests_inside(book: &Book, i: usize, n: usize, left: usize) -> bool
     let end = i + n;
     let mut k = i;
     while k < end {
-        let d = book.insides[k] as usize;
-        if !nests_inside(book, k + 1, d, left - 1) {
+        let d = insides[k] as usize;
+        if !nests_inside(insides, k + 1, d, left - 1) {
             return false;
         }
         k = k + 1 + d;
@@ -172,21 +172,21 @@ fn nests_inside(book: &Book, i: usize, n: usize, left: usize) -> bool
 }
 
 // Whether the sum has no more than so many levels. Nothing has none, and most terms have nothing inside: a call of a function on itself isn't begun for them.
-pub fn nests_within(book: &Book, i: usize, n: usize, left: usize) -> bool
-    requires { Nested (seen book.now).insides i (i + n) }
-    ensures { (s : Sum) → Nests (seen book.now).insides i (i + n) s → result ≡ leb (levels s) left }
+pub fn nests_within(insides: &[u8], i: usize, n: usize, left: usize) -> bool
+    requires { Nested insides.now i (i + n) }
+    ensures { (s : Sum) → Nests insides.now i (i + n) s → result ≡ leb (levels s) left }
 {
     if n == 0 {
         return true;
     }
-    nests_inside(book, i, n, left)
+    nests_inside(insides, i, n, left)
 }
 
 // Where the term x, whose inside lies from i on, stands or belongs in the sum of n entries from p on.
-pub fn find(book: &Book, x: Entry, i: usize, p: usize, n: usize, left: usize) -> Found
-    requires held { Held (seen book.now) i (i + x.inside) left }
-    requires held_2 { Held (seen book.now) p (p + n) left }
-    ensures { OfTwo (seen book.now) p (p + n) i (i + x.inside) left (λ s t. result ≡ place x t s p) }
+pub fn find(book: &Cells, x: Entry, i: usize, p: usize, n: usize, left: usize) -> Found
+    requires held { Held (shown book.now) i (i + x.inside) left }
+    requires held_2 { Held (shown book.now) p (p + n) left }
+    ensures { OfTwo (shown book.now) p (p + n) i (i + x.inside) left (λ s t. result ≡ place x t s p) }
 {
     let end = p + n;
     let mut k = p;
@@ -204,27 +204,27 @@ pub fn find(book: &Book, x: Entry, i: usize, p: usize, n: usize, left: usize) ->
 
 // Whether each of the n cells from p on is a power of x. It looks at all of them whatever it finds: a loop with no way out in its middle is compiled to one that
 // takes many cells at once.
-pub fn all_powers(book: &Book, p: usize, n: usize) -> bool
-    requires { p + n ≤ length (seen book.now).kinds }
-    ensures { (result ≡ true) ↔ OnlyPowers (seen book.now).kinds p (p + n) }
+pub fn all_powers(kinds: &[u8], p: usize, n: usize) -> bool
+    requires { p + n ≤ length kinds.now }
+    ensures { (result ≡ true) ↔ OnlyPowers kinds.now p (p + n) }
 {
     let mut all = true;
     for k in p..p + n {
-        all = all & (book.kinds[k] == crate::tree::X);
+        all = all & (kinds[k] == crate::tree::X);
     }
     all
 }
 
 // Up to which cell the powers of x go that stand first in the sum of n cells from p on: they have no inside, and come before every
 // other term.
-pub fn powers_end(book: &Book, p: usize, n: usize) -> usize
-    requires { p + n ≤ length (seen book.now).kinds }
+pub fn powers_end(kinds: &[u8], p: usize, n: usize) -> usize
+    requires { p + n ≤ length kinds.now }
     ensures lower_bound { (p ≤ result) × (result ≤ p + n) }
-    ensures by_index { (f : ℕ → Entry) (s : Sum) → ((k : ℕ) → (f k).kind ≡ get_or (seen book.now).kinds k 0) → At f p s → Good sum_levels s → n ≡ size s → result ≡ p + powers s }
+    ensures by_index { (f : ℕ → Entry) (s : Sum) → ((k : ℕ) → (f k).kind ≡ get_or kinds.now k 0) → At f p s → Good sum_levels s → n ≡ size s → result ≡ p + powers s }
 {
     let end = p + n;
     for k in p..end {
-        if book.kinds[k] != crate::tree::X {
+        if kinds[k] != crate::tree::X {
             return k;
         }
     }
@@ -232,10 +232,10 @@ pub fn powers_end(book: &Book, p: usize, n: usize) -> usize
 }
 
 // Where a power of x stands or belongs in the sum of n cells from p on, whose powers end before the cell `end`: numbers tell, from the last power down.
-pub fn find_power(book: &Book, num: f64, p: usize, n: usize, end: usize) -> Found
-    requires t { T (finite num) × Held (seen book.now) p (p + n) sum_levels }
-    requires of_one { OfOne (seen book.now) p (p + n) sum_levels (λ s. end ≡ p + powers s) }
-    ensures { (s : Sum) (x : Entry) → Lies (seen book.now) p (p + n) sum_levels s → x.kind ≡ X → x.num ≡ num → result ≡ place x none s p }
+pub fn find_power(book: &Cells, num: f64, p: usize, n: usize, end: usize) -> Found
+    requires t { T (finite num) × Held (shown book.now) p (p + n) sum_levels }
+    requires of_one { OfOne (shown book.now) p (p + n) sum_levels (λ s. end ≡ p + powers s) }
+    ensures { (s : Sum) (x : Entry) → Lies (shown book.now) p (p + n) sum_levels s → x.kind ≡ X → x.num ≡ num → result ≡ place x none s p }
 {
     for j in (p..end).rev() {
         let words = book.numbers[j];

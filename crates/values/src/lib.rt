@@ -5,14 +5,14 @@ pub mod powers;
 
 ghost use Rattle.std.specs.Prelude.{◌≡◌, [], ◌+◌, ◌-◌, ◌≤◌, ◌<◌};
 ghost use Rattle.limits.specs.Limits.{sum_levels};
-ghost use Rattle.cells.specs.Contract.Book.{seen};
+ghost use Rattle.cells.specs.Contract.Book.{shown};
 ghost use Rattle.running.specs.Primitives.{times};
 ghost use Rattle.sums.specs.Contract.Lies.{Held, OfOne};
 ghost use Rattle.values.specs.Value.{is_one, times_unless};
 ghost use Rattle.values.specs.ValueOf.{value_of, value_numbers};
 ghost use Rattle.values.specs.Contract.Findings.{plus, onward, judged, Reached, Adds, Takes, Starts, Finds};
 
-use cells::{Book, Entry};
+use cells::{Cells, Entry};
 use limits::Refusal;
 use numbers::complex::Complex;
 use sums::tree::X;
@@ -195,9 +195,9 @@ fn nothing_found(x: f64) -> Found
 }
 
 // The outermost terms of the sum of the first n cells, in turn.
-fn find(book: &Book, n: usize, x: f64) -> Found
-    requires { Held (seen book.now) 0 n sum_levels }
-    ensures { OfOne (seen book.now) 0 n sum_levels (λ s. Finds x s result) }
+fn find(book: &Cells, n: usize, x: f64) -> Found
+    requires { Held (shown book.now) 0 n sum_levels }
+    ensures { OfOne (shown book.now) 0 n sum_levels (λ s. Finds x s result) }
 {
     let mut f = nothing_found(x);
     let mut i = 0usize;
@@ -210,9 +210,9 @@ fn find(book: &Book, n: usize, x: f64) -> Found
 }
 
 // The value at x of the sum of the first n cells.
-pub fn value_of(book: &Book, n: usize, x: f64) -> Result<f64, Refusal>
-    requires { Held (seen book.now) 0 n sum_levels }
-    ensures { OfOne (seen book.now) 0 n sum_levels (λ s. result ≡ value_of s x) }
+pub fn value_of(book: &Cells, n: usize, x: f64) -> Result<f64, Refusal>
+    requires { Held (shown book.now) 0 n sum_levels }
+    ensures { OfOne (shown book.now) 0 n sum_levels (λ s. result ≡ value_of s x) }
 {
     if !numbers::is_finite(x) {
         return Err(Refusal::NotFinite);

@@ -3,7 +3,7 @@
 ghost use Rattle.std.specs.Prelude.{◌+◌, ◌*◌, ◌≤◌, T, length, false, ◌≡◌};
 ghost use Rattle.std.specs.Float.Ieee.Scale.{finite};
 ghost use Rattle.std.proofs.lemmas.List.Edits.{sets};
-ghost use Rattle.cells.specs.Contract.Book.{seen};
+ghost use Rattle.cells.specs.Contract.Book.{shown};
 ghost use Rattle.formats.specs.Bytes.{part};
 ghost use Rattle.formats.specs.Tree.{end};
 ghost use Rattle.limits.specs.Limits.{sum_entries, sum_levels};
@@ -16,7 +16,7 @@ ghost use Rattle.writing.specs.Draft.Contract.Lying.{Answered};
 ghost use Rattle.writing.specs.Faithful.{write_faithful, faithful};
 
 use crate::draft::Draft;
-use cells::{Book, Entry};
+use cells::{Cells, Entry};
 use limits::{RECORD_BYTES, Refusal, SUM_ENTRIES, SUM_LEVELS};
 
 // Places free in front of an argument: two for each of its entries.
@@ -33,15 +33,15 @@ fn bring_down(b: &mut [u8], from: usize, n: usize)
 // The sum of n cells from i on, written into a buffer of its own and brought down to its first byte.
 #[cycle(write_apart_write_argument_write_sum_write_term_write_turn)]
 fn write_apart(
-    book: &Book,
+    book: &Cells,
     i: usize,
     n: usize,
     complex: bool,
     left: usize,
     b: &mut [u8],
 ) -> Result<Draft, Refusal>
-    requires { Held (seen book.now) i (i + n) left × Separate b.old n left }
-    ensures { OfOne (seen book.now) i (i + n) left (λ t. AtFront b.old b.new result (10 * n + 2) (write_faithful complex t false end)) }
+    requires { Held (shown book.now) i (i + n) left × Separate b.old n left }
+    ensures { OfOne (shown book.now) i (i + n) left (λ t. AtFront b.old b.new result (10 * n + 2) (write_faithful complex t false end)) }
 {
     let e = Draft {
         from: ARGUMENT_FRONT,
@@ -56,7 +56,7 @@ fn write_apart(
 // The same in the part of the buffer behind the list so far, which it continues then.
 #[cycle(write_apart_write_argument_write_sum_write_term_write_turn)]
 fn write_argument(
-    book: &Book,
+    book: &Cells,
     i: usize,
     n: usize,
     complex: bool,
@@ -64,8 +64,8 @@ fn write_argument(
     b: &mut [u8],
     d: Draft,
 ) -> Result<Draft, Refusal>
-    requires { Held (seen book.now) i (i + n) left × Ready b.old d 0 (10 * n + 2 + argument_front * (left + 1)) × (n ≤ sum_entries) }
-    ensures { OfOne (seen book.now) i (i + n) left (λ t. Spoken b.old b.new d result 0 (10 * n + 2) (λ ns. apart complex t ns)) }
+    requires { Held (shown book.now) i (i + n) left × Ready b.old d 0 (10 * n + 2 + argument_front * (left + 1)) × (n ≤ sum_entries) }
+    ensures { OfOne (shown book.now) i (i + n) left (λ t. Spoken b.old b.new d result 0 (10 * n + 2) (λ ns. apart complex t ns)) }
 {
     let start = RECORD_BYTES * d.end;
     let f = write_apart(book, i, n, complex, left, &mut b[start..])?;
@@ -78,7 +78,7 @@ fn write_argument(
 // The term of the entry x, whose inside lies from i on.
 #[cycle(write_apart_write_argument_write_sum_write_term_write_turn)]
 fn write_term(
-    book: &Book,
+    book: &Cells,
     x: Entry,
     i: usize,
     complex: bool,
@@ -86,9 +86,9 @@ fn write_term(
     b: &mut [u8],
     d: Draft,
 ) -> Result<Draft, Refusal>
-    requires { Held (seen book.now) i (i + x.inside) left × Ready b.old d (2 * x.inside) (10 * x.inside + 5 + argument_front * (left + 1))
+    requires { Held (shown book.now) i (i + x.inside) left × Ready b.old d (2 * x.inside) (10 * x.inside + 5 + argument_front * (left + 1))
         × T (finite x.num) × (x.inside ≤ sum_entries) }
-    ensures { OfOne (seen book.now) i (i + x.inside) left (λ t. TermApart complex x t b.old b.new d result) }
+    ensures { OfOne (shown book.now) i (i + x.inside) left (λ t. TermApart complex x t b.old b.new d result) }
 {
     if x.kind == sums::tree::X {
         return crate::write_power(b, d, x.num, complex, x.coef);
@@ -100,7 +100,7 @@ fn write_term(
 // One turn: the entry x, whose inside lies from i on.
 #[cycle(write_apart_write_argument_write_sum_write_term_write_turn)]
 fn write_turn(
-    book: &Book,
+    book: &Cells,
     x: Entry,
     i: usize,
     complex: bool,
@@ -109,9 +109,9 @@ fn write_turn(
     b: &mut [u8],
     d: Draft,
 ) -> Result<Draft, Refusal>
-    requires { Held (seen book.now) i (i + x.inside) left × Ready b.old d (2 * x.inside + 2) (10 * x.inside + 9 + argument_front * (left + 1))
+    requires { Held (shown book.now) i (i + x.inside) left × Ready b.old d (2 * x.inside + 2) (10 * x.inside + 9 + argument_front * (left + 1))
         × T (finite x.num) × (x.inside ≤ sum_entries) }
-    ensures { OfOne (seen book.now) i (i + x.inside) left (λ t. TurnApart complex identity x t b.old b.new d result) }
+    ensures { OfOne (shown book.now) i (i + x.inside) left (λ t. TurnApart complex identity x t b.old b.new d result) }
 {
     if x.coef.is_zero() {
         return Ok(d);
@@ -125,7 +125,7 @@ fn write_turn(
 // The sum of m cells from j on, after what was written. `identity` says that x was met and nothing written for it.
 #[cycle(write_apart_write_argument_write_sum_write_term_write_turn)]
 fn write_sum(
-    book: &Book,
+    book: &Cells,
     j: usize,
     m: usize,
     complex: bool,
@@ -133,8 +133,8 @@ fn write_sum(
     b: &mut [u8],
     d: Draft,
 ) -> Result<Draft, Refusal>
-    requires { Held (seen book.now) j (j + m) left × Ready b.old d (2 * m) (10 * m + 2 + argument_front * left) × (m ≤ sum_entries) }
-    ensures { OfOne (seen book.now) j (j + m) left (λ s. Spoken b.old b.new d result (2 * m) (10 * m + 2) (λ ns. write_faithful complex s false ns)) }
+    requires { Held (shown book.now) j (j + m) left × Ready b.old d (2 * m) (10 * m + 2 + argument_front * left) × (m ≤ sum_entries) }
+    ensures { OfOne (shown book.now) j (j + m) left (λ s. Spoken b.old b.new d result (2 * m) (10 * m + 2) (λ ns. write_faithful complex s false ns)) }
 {
     let mut q = j;
     let mut identity = false;
@@ -158,14 +158,14 @@ const DRAFT_RECORDS: usize = FRONT + 10 * SUM_ENTRIES + 2 + SUM_LEVELS * ARGUMEN
 
 // A sum with functions in it.
 fn write_functions(
-    book: &Book,
+    book: &Cells,
     j: usize,
     m: usize,
     complex: bool,
     out: &mut [u8],
 ) -> Result<usize, Refusal>
-    requires { Held (seen book.now) j (j + m) sum_levels × (m ≤ sum_entries) }
-    ensures { OfOne (seen book.now) j (j + m) sum_levels (λ s. Answered out.old out.new result (faithful complex s)) }
+    requires { Held (shown book.now) j (j + m) sum_levels × (m ≤ sum_entries) }
+    ensures { OfOne (shown book.now) j (j + m) sum_levels (λ s. Answered out.old out.new result (faithful complex s)) }
 {
     let mut b = [0u8; RECORD_BYTES * DRAFT_RECORDS];
     let d = Draft {
@@ -178,16 +178,16 @@ fn write_functions(
 
 // The sum of m cells from j on goes to the front of out as a list that means what the sum says, or is refused as by the first writer. Of powers of x alone both write the same.
 pub fn expr_to_node(
-    book: &Book,
+    book: &Cells,
     j: usize,
     m: usize,
     complex: bool,
     out: &mut [u8],
 ) -> Result<usize, Refusal>
-    requires { Held (seen book.now) j (j + m) sum_levels × (m ≤ sum_entries) }
-    ensures { OfOne (seen book.now) j (j + m) sum_levels (λ s. Answered out.old out.new result (faithful complex s)) }
+    requires { Held (shown book.now) j (j + m) sum_levels × (m ≤ sum_entries) }
+    ensures { OfOne (shown book.now) j (j + m) sum_levels (λ s. Answered out.old out.new result (faithful complex s)) }
 {
-    if sums::order::powers_end(book, j, m) == j + m {
+    if sums::order::powers_end(book.kinds, j, m) == j + m {
         return crate::expr_to_node(book, j, m, complex, out);
     }
     write_functions(book, j, m, complex, out)

@@ -7,7 +7,7 @@ pub mod draft;
 pub mod faithful;
 
 ghost use Rattle.std.specs.Prelude.{◌+◌, ◌*◌, ◌≤◌, T, false, ◌≡◌};
-ghost use Rattle.cells.specs.Contract.Book.{seen};
+ghost use Rattle.cells.specs.Contract.Book.{shown};
 ghost use Rattle.limits.specs.Limits.{sum_entries, sum_levels};
 ghost use Rattle.numbers.specs.Signs.{zero64};
 ghost use Rattle.sums.specs.Contract.Lies.{Held, OfOne};
@@ -21,7 +21,7 @@ ghost use Rattle.writing.specs.ToNodes.{form, constant, primitive_for, over, fun
 ghost use Rattle.std.specs.Float.Ieee.Scale.{finite};
 
 use crate::draft::Draft;
-use cells::{Book, Entry};
+use cells::{Cells, Entry};
 use formats::record::Primitive;
 use limits::{RECORD_BYTES, Refusal, SUM_ENTRIES, SUM_LEVELS};
 use numbers::complex::Complex;
@@ -208,7 +208,7 @@ fn finish(b: &mut [u8], d: Draft, x: Entry, complex: bool, first: bool) -> Resul
 // The term of the entry x, whose inside lies from i on.
 #[cycle(write_sum_write_term_write_turn)]
 fn write_term(
-    book: &Book,
+    book: &Cells,
     x: Entry,
     i: usize,
     complex: bool,
@@ -216,8 +216,8 @@ fn write_term(
     b: &mut [u8],
     d: Draft,
 ) -> Result<Draft, Refusal>
-    requires { Held (seen book.now) i (i + x.inside) left × Ready b.old d (2 * x.inside) (9 * x.inside + 5) × T (finite x.num) }
-    ensures { OfOne (seen book.now) i (i + x.inside) left (λ t. TermSpoken complex x t b.old b.new d result) }
+    requires { Held (shown book.now) i (i + x.inside) left × Ready b.old d (2 * x.inside) (9 * x.inside + 5) × T (finite x.num) }
+    ensures { OfOne (shown book.now) i (i + x.inside) left (λ t. TermSpoken complex x t b.old b.new d result) }
 {
     if x.kind == sums::tree::X {
         return write_power(b, d, x.num, complex, x.coef);
@@ -229,7 +229,7 @@ fn write_term(
 // One turn: the entry x, whose inside lies from i on.
 #[cycle(write_sum_write_term_write_turn)]
 fn write_turn(
-    book: &Book,
+    book: &Cells,
     x: Entry,
     i: usize,
     complex: bool,
@@ -238,8 +238,8 @@ fn write_turn(
     b: &mut [u8],
     d: Draft,
 ) -> Result<Draft, Refusal>
-    requires { Held (seen book.now) i (i + x.inside) left × Ready b.old d (2 * x.inside + 2) (9 * x.inside + 9) × T (finite x.num) }
-    ensures { OfOne (seen book.now) i (i + x.inside) left (λ t. TurnSpoken complex identity x t b.old b.new d result) }
+    requires { Held (shown book.now) i (i + x.inside) left × Ready b.old d (2 * x.inside + 2) (9 * x.inside + 9) × T (finite x.num) }
+    ensures { OfOne (shown book.now) i (i + x.inside) left (λ t. TurnSpoken complex identity x t b.old b.new d result) }
 {
     if x.coef.is_zero() {
         return Ok(d);
@@ -253,7 +253,7 @@ fn write_turn(
 // The sum of m cells from j on, after what was written. `identity` says that x was met and nothing written for it.
 #[cycle(write_sum_write_term_write_turn)]
 fn write_sum(
-    book: &Book,
+    book: &Cells,
     j: usize,
     m: usize,
     complex: bool,
@@ -261,8 +261,8 @@ fn write_sum(
     b: &mut [u8],
     d: Draft,
 ) -> Result<Draft, Refusal>
-    requires { Held (seen book.now) j (j + m) left × Ready b.old d (2 * m) (9 * m + 2) }
-    ensures { OfOne (seen book.now) j (j + m) left (λ s. Spoken b.old b.new d result (2 * m) (9 * m + 2) (λ ns. write complex s false ns)) }
+    requires { Held (shown book.now) j (j + m) left × Ready b.old d (2 * m) (9 * m + 2) }
+    ensures { OfOne (shown book.now) j (j + m) left (λ s. Spoken b.old b.new d result (2 * m) (9 * m + 2) (λ ns. write complex s false ns)) }
 {
     let mut q = j;
     let mut identity = false;
@@ -292,7 +292,7 @@ const FEW_RECORDS: usize = FEW_FRONT + 9 * FEW_ENTRIES + 2;
 
 // The sum of m cells from j on, written into a draft that begins at the place `front` of b.
 fn write_in(
-    book: &Book,
+    book: &Cells,
     j: usize,
     m: usize,
     complex: bool,
@@ -300,8 +300,8 @@ fn write_in(
     front: usize,
     out: &mut [u8],
 ) -> Result<usize, Refusal>
-    requires { Held (seen book.now) j (j + m) sum_levels × Spacious b.old front m }
-    ensures { OfOne (seen book.now) j (j + m) sum_levels (λ s. Answered out.old out.new result (to_nodes complex s)) }
+    requires { Held (shown book.now) j (j + m) sum_levels × Spacious b.old front m }
+    ensures { OfOne (shown book.now) j (j + m) sum_levels (λ s. Answered out.old out.new result (to_nodes complex s)) }
 {
     let d = Draft {
         from: front,
@@ -313,14 +313,14 @@ fn write_in(
 
 // A sum of few entries.
 fn write_few(
-    book: &Book,
+    book: &Cells,
     j: usize,
     m: usize,
     complex: bool,
     out: &mut [u8],
 ) -> Result<usize, Refusal>
-    requires { Held (seen book.now) j (j + m) sum_levels × (m ≤ few_entries) }
-    ensures { OfOne (seen book.now) j (j + m) sum_levels (λ s. Answered out.old out.new result (to_nodes complex s)) }
+    requires { Held (shown book.now) j (j + m) sum_levels × (m ≤ few_entries) }
+    ensures { OfOne (shown book.now) j (j + m) sum_levels (λ s. Answered out.old out.new result (to_nodes complex s)) }
 {
     let mut b = [0u8; RECORD_BYTES * FEW_RECORDS];
     write_in(book, j, m, complex, &mut b, FEW_FRONT, out)
@@ -328,14 +328,14 @@ fn write_few(
 
 // A sum of any size. The two drafts stand in functions of their own, so that the room that they take on the stack is not added up.
 fn write_many(
-    book: &Book,
+    book: &Cells,
     j: usize,
     m: usize,
     complex: bool,
     out: &mut [u8],
 ) -> Result<usize, Refusal>
-    requires { Held (seen book.now) j (j + m) sum_levels × (m ≤ sum_entries) }
-    ensures { OfOne (seen book.now) j (j + m) sum_levels (λ s. Answered out.old out.new result (to_nodes complex s)) }
+    requires { Held (shown book.now) j (j + m) sum_levels × (m ≤ sum_entries) }
+    ensures { OfOne (shown book.now) j (j + m) sum_levels (λ s. Answered out.old out.new result (to_nodes complex s)) }
 {
     let mut b = [0u8; RECORD_BYTES * DRAFT_RECORDS];
     write_in(book, j, m, complex, &mut b, FRONT, out)
@@ -343,14 +343,14 @@ fn write_many(
 
 // The sum of m cells from j on goes to the front of out as a list of records, or is refused: 15 where a number cannot be written, then 17 where there is no room.
 pub fn expr_to_node(
-    book: &Book,
+    book: &Cells,
     j: usize,
     m: usize,
     complex: bool,
     out: &mut [u8],
 ) -> Result<usize, Refusal>
-    requires { Held (seen book.now) j (j + m) sum_levels × (m ≤ sum_entries) }
-    ensures { OfOne (seen book.now) j (j + m) sum_levels (λ s. Answered out.old out.new result (to_nodes complex s)) }
+    requires { Held (shown book.now) j (j + m) sum_levels × (m ≤ sum_entries) }
+    ensures { OfOne (shown book.now) j (j + m) sum_levels (λ s. Answered out.old out.new result (to_nodes complex s)) }
 {
     if m <= FEW_ENTRIES {
         return write_few(book, j, m, complex, out);

@@ -1,6 +1,7 @@
 -- Each term of the one sum meets each of the other.
 use Rattle.std.proofs.Common.{◌*◌, ◌+◌, ◌≤◌, ◌≡◌, refl, sym, ap₂, ◌∙◌, arith}
 use Rattle.cells.specs.Contract.Book.{seen, at}
+use Rattle.cells.proofs.Laws.{insides-one}
 use Rattle.sums.specs.Tree.Sums.{Sum, len}
 use Rattle.sums.specs.Contract.Lies.{Lies}
 use Rattle.arithmetic.proofs.Pairs.{pairs_len, len-most, product-most}
@@ -9,11 +10,11 @@ use Rattle.primitives.proofs.multiplied.Goals.{After-count-2}
 
 -- how many terms the first has
 first : (c : After-count-2) (b : Sum) → Lies (seen c.args.book.now) c.args.i (c.args.i + c.args.n) 4 b → c.count.result ≡ len b
-first c b l = c.count.ensures (at (seen c.args.book.now)) b (λ j. refl) l.laid (let e = l.ends in omega arith)
+first c b l = (rw (insides-one c.cells-cells.ensures) at c.count.ensures) (at (seen c.args.book.now)) b (λ j. refl) l.laid (let e = l.ends in omega arith)
 
 -- and the second
 second : (c : After-count-2) (a : Sum) → Lies (seen c.args.book.now) c.args.j (c.args.j + c.args.m) 4 a → c.count-2.result ≡ len a
-second c a l = c.count-2.ensures (at (seen c.args.book.now)) a (λ j. refl) l.laid (let e = l.ends in omega arith)
+second c a l = (rw (insides-one c.cells-cells.ensures) at c.count-2.ensures) (at (seen c.args.book.now)) a (λ j. refl) l.laid (let e = l.ends in omega arith)
 
 few : (c : After-count-2) → c.count.result * c.count-2.result ≤ 4096
 few c =

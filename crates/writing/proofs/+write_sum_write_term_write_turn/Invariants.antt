@@ -1,6 +1,6 @@
 -- An argument has one level less left; in the loop, what is left of the sum decides.
 use Rattle.std.proofs.Common.{◌+◌, ◌-◌, ◌*◌}
-use Rattle.cells.specs.Contract.Book.{seen}
+use Rattle.cells.specs.Contract.Book.{shown}
 use Rattle.sums.specs.Tree.Sums.{Sum}
 use Rattle.sums.specs.Contract.Lies.{Lies}
 use Rattle.writing.proofs.Turning.{Left, rust-loop}
@@ -17,7 +17,7 @@ decreases-write_turn l = 3 * l.left + 2
 
 abbrev pub invariant-write_sum-loop-q : goal.invariant-write_sum-loop-q
 invariant-write_sum-loop-q l =
-    (s : Sum) → Lies (seen l.book) l.j (l.j + l.m) l.left s → Left l.fn.b l.b l.fn.d l.draft (seen l.book) l.j l.q (l.j + l.m) l.left (rust-loop l.complex) l.identity s
+    (s : Sum) → Lies (shown l.book) l.j (l.j + l.m) l.left s → Left l.fn.b l.b l.fn.d l.draft (shown l.book) l.j l.q (l.j + l.m) l.left (rust-loop l.complex) l.identity s
 
 abbrev pub decreases-write_sum-loop-q : goal.decreases-write_sum-loop-q
 decreases-write_sum-loop-q l = l.j + l.m - l.q

@@ -1,6 +1,5 @@
 -- The measures: with as many levels left, a pair comes before the sums of its insides, and a sum before its rows. The loops' invariant: what is left of the sum decides.
 use Rattle.std.proofs.Common.{◌+◌, ◌-◌, ◌*◌}
-use Rattle.cells.specs.Contract.Book.{seen}
 use Rattle.sums.specs.Tree.Sums.{Sum}
 use Rattle.arithmetic.specs.Product.{rowable, mulable}
 use Rattle.arithmetic.specs.Multiply.Contract.Shapes.{Shape}
@@ -18,18 +17,16 @@ decreases-can_row l = 3 * l.left
 
 abbrev pub invariant-can_mul-loop-q : goal.invariant-can_mul-loop-q
 invariant-can_mul-loop-q l =
-    let b = seen l.book in
-    (s v : Sum) → Shape b.kinds b.insides l.i (l.i + l.n) l.left s → Shape b.kinds b.insides l.j (l.j + l.m) l.left v
-    → Tests b.kinds b.insides l.q (l.i + l.n) l.left (λ u. mulable u v) s
+    (s v : Sum) → Shape l.kinds l.insides l.i (l.i + l.n) l.left s → Shape l.kinds l.insides l.j (l.j + l.m) l.left v
+    → Tests l.kinds l.insides l.q (l.i + l.n) l.left (λ u. mulable u v) s
 
 abbrev pub decreases-can_mul-loop-q : goal.decreases-can_mul-loop-q
 decreases-can_mul-loop-q l = l.i + l.n - l.q
 
 abbrev pub invariant-can_row-loop-q : goal.invariant-can_row-loop-q
 invariant-can_row-loop-q l =
-    let b = seen l.book in
-    (u v : Sum) → Shape b.kinds b.insides l.i (l.i + l.n) (l.left - 1) u → Shape b.kinds b.insides l.j (l.j + l.m) l.left v
-    → Tests b.kinds b.insides l.q (l.j + l.m) l.left (rowable l.k (mulable u)) v
+    (u v : Sum) → Shape l.kinds l.insides l.i (l.i + l.n) (l.left - 1) u → Shape l.kinds l.insides l.j (l.j + l.m) l.left v
+    → Tests l.kinds l.insides l.q (l.j + l.m) l.left (rowable l.k (mulable u)) v
 
 abbrev pub decreases-can_row-loop-q : goal.decreases-can_row-loop-q
 decreases-can_row-loop-q l = l.j + l.m - l.q

@@ -21,12 +21,13 @@ use Rattle.arithmetic.proofs.multiply.+div_mul_expr_mul_mul_row_term_mul.Goals a
 -- ---- div_mul
 
 pub div_mul-expr_mul-requires : goal.div_mul-expr_mul-requires
-div_mul-expr_mul-requires t c = (omega arith, (copies c.side_by_side.ensures.beside c.requires.2, room-less (lit≤ tt) c.side_by_side.ensures.beside.room))
+div_mul-expr_mul-requires t c =
+    (omega arith, (copies (rw c.cells.ensures at c.side_by_side.ensures.beside) c.requires.2, room-less (lit≤ tt) (rw c.cells.ensures at c.side_by_side.ensures.beside).room))
 
 pub div_mul-returns-in_err-k-clause-of_three : goal.div_mul-returns-in_err-k-clause-of_three
 div_mul-returns-in_err-k-clause-of_three t c u v s lu lv ls =
     let w = c.requires.2 in
-    let d = c.side_by_side.ensures.beside in
+    let d = rw c.cells.ensures at c.side_by_side.ensures.beside in
     let agrees = c.expr_mul.ensures.of_two u v (first-copy d w.first.few lu) (second-copy d w.second.few lv) in
     let p = err_from_is_err_and c.from_residual.result c.from_residual.ensures.1 in
     rw (p.1, p.2)
@@ -36,7 +37,7 @@ div_mul-returns-in_err-k-clause-of_three t c u v s lu lv ls =
 pub div_mul-put_div-requires-clause-inner : goal.div_mul-put_div-requires-clause-inner
 div_mul-put_div-requires-clause-inner t c =
     let w = c.requires.2 in
-    let d = c.side_by_side.ensures.beside in
+    let d = rw c.cells.ensures at c.side_by_side.ensures.beside in
     let agrees = c.expr_mul.ensures.of_two w.s w.t (first-copy d w.first.few w.first.lies) (second-copy d w.second.few w.second.lies) in
     let a = agreed-done (seen c.expr_mul.new.book) 128 c.in_ok-k.k c.expr_mul.result (mul_into w.s w.t none) agrees c.in_ok-k.was in
     (made_some w c.requires.0 c.requires.1 a, a.few, (a.s, a.lies), room-same c.expr_mul.ensures.kept.long d.room)
@@ -44,7 +45,7 @@ div_mul-put_div-requires-clause-inner t c =
 pub div_mul-returns-clause-of_three : goal.div_mul-returns-clause-of_three
 div_mul-returns-clause-of_three t c u v s lu lv ls =
     let w = c.requires.2 in
-    let d = c.side_by_side.ensures.beside in
+    let d = rw c.cells.ensures at c.side_by_side.ensures.beside in
     let agrees = c.expr_mul.ensures.of_two u v (first-copy d w.first.few lu) (second-copy d w.second.few lv) in
     div-done (seen c.expr_mul.new.book) (seen c.put_div.new.book) c.args.p c.in_ok-k.k c.args.coef (mul_into u v none) s c.expr_mul.result c.put_div.result agrees c.in_ok-k.was
     (λ w l. c.put_div.ensures.of_inner w s l ls)

@@ -18,7 +18,7 @@ use Rattle.arithmetic.proofs.multiply.put_div.Goals.{After-copy_in, After-put_bl
 
 -- the sum lies in the other book
 copied : (c : After-copy_in) (s : Sum) → Lies (seen c.args.book.now) c.args.p (c.args.p + c.args.n) 4 s → Lies (seen c.copy_in.new.self) 192 (192 + c.args.n) 4 s
-copied c s ls = lies-copied c.copy_in.ensures.copied (room-less {n = 256} (omega (arith, c.requires.growing.few)) c.requires.inner.3) ls
+copied c s ls = lies-copied (rw c.cells.ensures at c.copy_in.ensures.copied) (room-less {n = 256} (omega (arith, c.requires.growing.few)) c.requires.inner.3) ls
 
 -- and so does the inside
 inside : (c : After-copy_in) (w : Sum) → Lies (seen c.args.other.now) 128 (128 + c.args.k) 4 w → Lies (seen c.copy_in.new.self) 128 (128 + c.args.k) 4 w
@@ -57,7 +57,7 @@ pub copy_in-requires-2 : goal.copy_in-requires-2
 copy_in-requires-2 c =
     let few = (made (goal.at.copy_in-requires-2 c).After-put_block c.in_ok-m.m c.in_ok-m.was).few in
     let room = room-same c.put_block.ensures.kept.long (room-same c.copy_in.ensures.copied.long c.requires.inner.3) in
-    (room-less {n = 256} (omega arith) room, room-less {n = c.args.p + 64} (omega arith) c.requires.growing.room)
+    rw c.cells-2.ensures (room-less {n = 256} (omega arith) room, room-less {n = c.args.p + 64} (omega arith) c.requires.growing.room)
 
 pub returns-clause-kept : goal.returns-clause-kept
 returns-clause-kept c =
@@ -69,4 +69,5 @@ returns-clause-of_inner c w s lw ls =
     let d = (goal.at.returns-clause-of_inner c).After-put_block in
     let a = agreed-done (seen c.put_block.new.book) 192 _ c.put_block.result _ (told d w s lw ls) c.in_ok-m.was in
     let few = a.few in
-    agree-done (seen c.copy_in-2.new.self) c.args.p _ _ a.s a.is a.few (lies-copied c.copy_in-2.ensures.copied (room-less {n = c.args.p + 64} (omega arith) c.requires.growing.room) a.lies)
+    agree-done (seen c.copy_in-2.new.self) c.args.p _ _ a.s a.is a.few
+    (lies-copied (rw c.cells-2.ensures at c.copy_in-2.ensures.copied) (room-less {n = c.args.p + 64} (omega arith) c.requires.growing.room) a.lies)

@@ -20,6 +20,6 @@ returns-clause-into c =
           let sized : c.args.x.inside ≡ size t = omega (arith, lt.ends) in
           let coef = c.mul.ensures ∙ ap (complex.times c.args.x.coef) (first-coef c.load-argument.result c.load-argument.ensures c.requires.1 lt) in
           subst (Agrees c.put_block.result (seen c.put_block.new.book) c.args.w)
-          (turned_as t s refl refl coef sized ∙ sym (exp-is c.args.x t s (c.is_x.ensures t lt) c.if-not-is_x.false))
+          (turned_as t s refl refl coef sized ∙ sym (exp-is c.args.x t s ((rw c.cells.ensures at c.is_x.ensures) t lt) c.if-not-is_x.false))
           (c.put_block.ensures.of_two s t ls lt);
     }

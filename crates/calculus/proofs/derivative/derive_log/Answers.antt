@@ -32,6 +32,6 @@ returns-clause-into c =
           let coef = c.div_real.ensures ∙ ap (λ (z : Complex). complex.over_real z c.in-Some-ln_of.l) c.mul.ensures in
           subst (Agrees c.put_block.result (seen c.put_block.new.book) c.args.w)
           (turned_as t s refl refl coef sized
-          ∙ sym (prime-is t (with-prime x t s) (c.prime_of.ensures t lt) c.in-Some.is ∙ ln-is x.num (with-ln x c.in-Some.d t s) c.ln_of.ensures c.in-Some-ln_of.is))
+          ∙ sym (prime-is t (with-prime x t s) ((rw c.cells.ensures at c.prime_of.ensures) t lt) c.in-Some.is ∙ ln-is x.num (with-ln x c.in-Some.d t s) c.ln_of.ensures c.in-Some-ln_of.is))
           (c.put_block.ensures.of_two s t ls lt);
     }

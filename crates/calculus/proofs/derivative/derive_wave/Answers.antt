@@ -24,6 +24,7 @@ returns-clause-into c =
           λ s t ls lt.
           let sized : c.args.x.inside ≡ size t = omega (arith, lt.ends) in
           subst (Agrees c.put_block.result (seen c.put_block.new.book) c.args.w)
-          (turned_as t s c.turned_kind-kind.ensures c.turned_how-how.ensures c.mul.ensures sized ∙ sym (prime-is t (with-prime c.args.x t s) (c.prime_of.ensures t lt) c.in-Some.is))
+          (turned_as t s c.turned_kind-kind.ensures c.turned_how-how.ensures c.mul.ensures sized
+          ∙ sym (prime-is t (with-prime c.args.x t s) ((rw c.cells.ensures at c.prime_of.ensures) t lt) c.in-Some.is))
           (c.put_block.ensures.of_two s t ls lt);
     }

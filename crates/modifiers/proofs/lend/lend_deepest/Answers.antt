@@ -9,17 +9,17 @@ use Rattle.modifiers.proofs.lend.lend_deepest.Goals.{In-Some}
 
 -- what the search found of the sums held
 found : (c : In-Some) → Found (slots c.args.arena.now) c.args.v (c.args.v + c.args.m) (c.args.k - c.args.c) (Some c.in-Some.w)
-found c = found-for (slots c.args.arena.now) c.args.v (c.args.v + c.args.m) (Some c.in-Some.w) c.less.ensures c.in-Some.ensures
+found c = found-for (slots c.args.arena.now) c.args.v (c.args.v + c.args.m) (Some c.in-Some.w) c.less.ensures (rw c.sizes.ensures at c.in-Some.ensures)
 
 within : (c : In-Some) → (c.args.v ≤ c.in-Some.w) × (c.args.v + (c.in-Some.w - c.args.v) ≤ c.args.v + c.args.m)
 within c = lowest-within (c.args.k - c.args.c) c.in-Some.w c.requires.2.0 (found c) c.requires.2.1
 
 pub measure-d-requires : goal.measure-d-requires
-measure-d-requires c = search-held c.args.v (c.args.v + c.args.m) c.requires.2.0 c.requires.1 c.requires.2.1
+measure-d-requires c = rw c.sizes.ensures (search-held c.args.v (c.args.v + c.args.m) c.requires.2.0 c.requires.1 c.requires.2.1)
 
 pub returns-in_default-clause-stacked : goal.returns-in_default-clause-stacked
 returns-in_default-clause-stacked c ss up len =
-    absurd (lent_never c.args.k c.args.c ss (found-for (slots c.args.arena.now) c.args.v (c.args.v + c.args.m) None c.less.ensures c.in_default.ensures) len up)
+    absurd (lent_never c.args.k c.args.c ss (found-for (slots c.args.arena.now) c.args.v (c.args.v + c.args.m) None c.less.ensures (rw c.sizes.ensures at c.in_default.ensures)) len up)
 
 pub overflow_sub-n : goal.overflow_sub-n
 overflow_sub-n c = (within c).0

@@ -29,12 +29,12 @@ pub can_div-requires : goal.can_div-requires
 can_div-requires c =
     let held = c.requires.right.held in
     let o = one (goal.at.can_div-requires c).Else-y-m held.0 held.1 in
-    (c.requires.left.held, (o.v, o.divisor))
+    rw c.cells.ensures (c.requires.left.held, (o.v, o.divisor))
 
 pub returns-then-not-can_div-clause-of_two : goal.returns-then-not-can_div-clause-of_two
 returns-then-not-can_div-clause-of_two c s t ls lt =
     let o = one (goal.at.returns-then-not-can_div-clause-of_two c).Else-y-m t lt in
-    agree-refused (seen c.args.book.now) c.args.w TooComplex _ (one-not o s c.can_div.result (c.can_div.ensures s o.v ls o.divisor) c.if-not-can_div.true)
+    agree-refused (seen c.args.book.now) c.args.w TooComplex _ (one-not o s c.can_div.result ((rw c.cells.ensures at c.can_div.ensures) s o.v ls o.divisor) c.if-not-can_div.true)
 
 pub div_each-requires : goal.div_each-requires
 div_each-requires c =
@@ -45,5 +45,5 @@ div_each-requires c =
 pub returns-clause-of_two : goal.returns-clause-of_two
 returns-clause-of_two c s t ls lt =
     let o = one (goal.at.returns-clause-of_two c).Else-y-m t lt in
-    let is = one_each o s c.can_div.result (c.can_div.ensures s o.v ls o.divisor) c.if-not-can_div.false in
+    let is = one_each o s c.can_div.result ((rw c.cells.ensures at c.can_div.ensures) s o.v ls o.divisor) c.if-not-can_div.false in
     subst (Agrees c.div_each.result (seen c.div_each.new.book) c.args.w) (sym is) (c.div_each.ensures.of_divisor s o.v ls o.divisor)

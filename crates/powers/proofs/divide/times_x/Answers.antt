@@ -4,7 +4,7 @@ use Rattle.std.proofs.lemmas.Result.{err_from_is_err_and}
 use Rattle.numbers.specs.Ops.{◌⊕◌}
 use Rattle.numbers.specs.declared.complex.Complex.{Complex}
 use Rattle.cells.specs.Contract.Book.{seen}
-use Rattle.cells.proofs.Laws.{room-less, kept_refl, kept_trans}
+use Rattle.cells.proofs.Laws.{kinds-one, insides-one, room-less, kept_refl, kept_trans}
 use Rattle.sums.specs.declared.tree.Merge.TheVariants.{Add}
 use Rattle.sums.specs.Tree.Kinds as kinds
 use Rattle.sums.specs.Tree.Sums.{Sum, none, entry}
@@ -32,12 +32,13 @@ call c i u li lu =
 
 -- what is formed is the product
 is-product : (c : Else-not-all_x) (t : Sum) → Lies (seen c.args.book.now) c.args.j (c.args.j + c.args.m) 4 t → product (x_to c.args.power) t ≡ times_x c.args.power none t
-is-product c t lt = x-product c.args.power t (sym (c.all_x.ensures c.args.book.now.numbers.now c.args.power t lt) ∙ c.if-not-all_x.false)
+is-product c t lt = x-product c.args.power t
+    (sym ((rw (kinds-one c.cells-cells.ensures, insides-one c.cells-cells.ensures) at c.all_x.ensures) c.args.book.now.numbers.now c.args.power t lt) ∙ c.if-not-all_x.false)
 
 pub returns-then-not-all_x-clause-of_one : goal.returns-then-not-all_x-clause-of_one
 returns-then-not-all_x-clause-of_one c t lt =
     let power = c.args.power in
-    rw (product-not (x_to power) t (sym (c.all_x.ensures c.args.book.now.numbers.now power t lt) ∙ c.if-not-all_x.true))
+    rw (product-not (x_to power) t (sym ((rw (kinds-one c.cells-cells.ensures, insides-one c.cells-cells.ensures) at c.all_x.ensures) c.args.book.now.numbers.now power t lt) ∙ c.if-not-all_x.true))
 
 pub loop-q-init : goal.loop-q-init
 loop-q-init c =

@@ -4,7 +4,7 @@ use native.Mathlib.Nat.{mul_comm}
 use borrow.Author.Tests.{eqb-true}
 use Rattle.cells.specs.Contract.Book.{seen, at}
 use Rattle.cells.specs.Contract.Moves.{Kept}
-use Rattle.cells.proofs.Laws.{room-same, kept_refl, kept_trans}
+use Rattle.cells.proofs.Laws.{insides-one, room-same, kept_refl, kept_trans}
 use Rattle.sums.specs.Tree.Sums.{Sum, len}
 use Rattle.sums.specs.Contract.Lies.{Lies}
 use Rattle.arithmetic.specs.Add.Contract.Operands.{Source}
@@ -24,7 +24,7 @@ base c s l = lies-clear c.loop-turn.invariant.kept (clear c.requires.2.apart) l
 
 -- how many terms it has
 terms : (c : At-loop-turn) (s : Sum) → Lies (seen c.args.book.now) c.args.i (c.args.i + c.args.n) 4 s → c.count-terms.result ≡ len s
-terms c s l = c.count-terms.ensures (at (seen c.args.book.now)) s (λ j. refl) l.laid (let e = l.ends in omega arith)
+terms c s l = (rw (insides-one c.cells.ensures) at c.count-terms.ensures) (at (seen c.args.book.now)) s (λ j. refl) l.laid (let e = l.ends in omega arith)
 
 -- and how many the product so far has, which is flat where the base is
 terms-now : (c : After-outermost) (s : Sum) (z : Lies (seen c.args.book.now) c.args.i (c.args.i + c.args.n) 4 s) → c.outermost.result ≡ len (c.loop-turn.invariant.so_far s z).acc
@@ -32,7 +32,8 @@ terms-now c s z =
     let F = c.loop-turn.invariant.so_far s z in
     let ends = F.made.ends in
     let t = terms (goal.at.After-outermost c).At-loop-turn s z in
-    c.outermost.ensures (at (seen c.loop-turn.book)) F.acc (λ j. refl) F.made.laid (omega arith) (λ e. F.flat (omega (arith, t, eqb-true c.count-terms.result c.args.n e, z.ends)))
+    (rw (insides-one c.cells-in-loop-turn.ensures) at c.outermost.ensures) (at (seen c.loop-turn.book)) F.acc (λ j. refl) F.made.laid (omega arith)
+    (λ e. F.flat (omega (arith, t, eqb-true c.count-terms.result c.args.n e, z.ends)))
 
 -- at most 64 with at most 64
 few-pairs : (c : After-outermost) → c.count-terms.result * c.outermost.result ≤ 4096

@@ -47,7 +47,7 @@ pub copy_in-requires : goal.copy_in-requires
 copy_in-requires c =
     let g = goal.at.copy_in-requires c in
     let few = (made g.In_ok-m).few in
-    (room-less {n = 192} (omega arith) (room-same c.power_by-raised.ensures.kept.long (room-there g.After-store)), room-less {n = c.args.p + 64} (omega arith) c.requires.2)
+    rw c.cells.ensures (room-less {n = 192} (omega arith) (room-same c.power_by-raised.ensures.kept.long (room-there g.After-store)), room-less {n = c.args.p + 64} (omega arith) c.requires.2)
 
 pub returns-clause-kept : goal.returns-clause-kept
 returns-clause-kept c = let few = (made (goal.at.returns-clause-kept c).In_ok-m).few in kept-wider (omega arith) (omega arith) (copied-kept c.copy_in.ensures.copied)
@@ -56,4 +56,4 @@ pub returns-clause-agrees : goal.returns-clause-agrees
 returns-clause-agrees c =
     let a = made (goal.at.returns-clause-agrees c).In_ok-m in
     let few = a.few in
-    agree-done (seen c.copy_in.new.self) c.args.p _ _ a.s a.is a.few (lies-copied c.copy_in.ensures.copied (room-less {n = c.args.p + 64} (omega arith) c.requires.2) a.lies)
+    agree-done (seen c.copy_in.new.self) c.args.p _ _ a.s a.is a.few (lies-copied (rw c.cells.ensures at c.copy_in.ensures.copied) (room-less {n = c.args.p + 64} (omega arith) c.requires.2) a.lies)

@@ -18,11 +18,11 @@ use Rattle.powers.proofs.raise.pow_of.Goals.{After-is_x, After-real_of}
 -- whether it is E to a single x
 asked : (c : After-is_x) (b : Bool) → c.is_euler.result && c.is_x.result ≡ b → (t : Sum) → Lies (seen c.args.book.now) c.args.i (c.args.i + c.args.n) 4 t
     → is_euler (as_constant (constant (real c.args.base))) && is_x t ≡ b
-asked c b h t lt = ap₂ ◌&&◌ (sym (c.is_euler.ensures ∙ constant-euler (real c.args.base))) (sym (c.is_x.ensures t lt)) ∙ h
+asked c b h t lt = ap₂ ◌&&◌ (sym (c.is_euler.ensures ∙ constant-euler (real c.args.base))) (sym ((rw c.cells.ensures at c.is_x.ensures) t lt)) ∙ h
 
 -- what real number the power is
 real-number : (c : After-real_of) (r : Option Float) → c.real_of.result ≡ r → (t : Sum) → Lies (seen c.args.book.now) c.args.i (c.args.i + c.args.n) 4 t → real_of (constant_of (as_constant t)) ≡ r
-real-number c r h t lt = ap real_of (sym (c.as_constant.ensures t lt)) ∙ sym c.real_of.ensures ∙ h
+real-number c r h t lt = ap real_of (sym ((rw c.cells-2.ensures at c.as_constant.ensures) t lt)) ∙ sym c.real_of.ensures ∙ h
 
 pub over-requires : goal.over-requires
 over-requires c =

@@ -16,7 +16,8 @@ store-requires c =
 
 pub loop-k-preserved : goal.loop-k-preserved
 loop-k-preserved c =
-    let next = root-more c.requires.0 c.requires.1.1 c.loop-k.invariant.0 c.loop-k-test.true c.load.ensures c.root_entry-x.ensures (sym c.is_finite.ensures ∙ c.if-not-is_finite.false) c.store.ensures.put in
+    let next = root-more c.requires.0 c.requires.1.1 c.loop-k.invariant.0 c.loop-k-test.true c.load.ensures c.root_entry-x.ensures
+    (sym c.is_finite.ensures ∙ c.if-not-is_finite.false) c.store.ensures.put in
     (next, search rules)
 
 pub returns-clause-agrees : goal.returns-clause-agrees

@@ -13,7 +13,7 @@ walk-ran-requires c =
 pub last_of-requires : goal.last_of-requires
 last_of-requires c =
     let x = c.begin_with_x-env.ensures.reaches c.args.top c.requires.1 in
-    (c.args.top, read-ready c.args.list.now c.count_records-n.ensures x.1 c.in-Went.ensures.does x.0)
+    rw (c.cells.ensures, c.sizes.ensures) (c.args.top, read-ready c.args.list.now c.count_records-n.ensures x.1 c.in-Went.ensures.does x.0)
 
 pub returns-in-Stopped-clause-data_as : goal.returns-in-Stopped-clause-data_as
 returns-in-Stopped-clause-data_as c =
@@ -23,4 +23,4 @@ returns-in-Stopped-clause-data_as c =
 pub returns-in-Went-clause-data_as : goal.returns-in-Went-clause-data_as
 returns-in-Went-clause-data_as c =
     let x = c.begin_with_x-env.ensures.reaches c.args.top c.requires.1 in
-    read-went c.args.list.now c.count_records-n.ensures x.1 c.in-Went.ensures.does c.last_of.result _ c.last_of.ensures
+    read-went c.args.list.now c.count_records-n.ensures x.1 c.in-Went.ensures.does c.last_of.result _ (rw (c.cells.ensures, c.sizes.ensures) at c.last_of.ensures)

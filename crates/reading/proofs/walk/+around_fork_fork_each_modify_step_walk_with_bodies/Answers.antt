@@ -97,12 +97,12 @@ step-returns-clause-does t c =
 -- ---- modify
 
 pub modify-refuse-requires : goal.modify-refuse-requires
-modify-refuse-requires t c = halt-asks c.requires.0
+modify-refuse-requires t c = rw (c.cells.ensures, c.sizes.ensures) (halt-asks c.requires.0)
 
 pub modify-returns-in-Refused-clause-does : goal.modify-returns-in-Refused-clause-does
 modify-returns-in-Refused-clause-does t c =
     let a = c.args in
-    halt-does {F = modified a.list.now a.at a.r} c.refuse.ensures c.in-Refused.ensures
+    halt-does {F = modified a.list.now a.at a.r} (rw (c.cells.ensures, c.sizes.ensures) at c.refuse.ensures) c.in-Refused.ensures
 
 -- ---- with_bodies
 

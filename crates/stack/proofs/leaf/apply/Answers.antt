@@ -9,7 +9,7 @@ use Rattle.stack.proofs.leaf.apply.Goals as goal
 pub returns-then-taken-eq0-clause-applies : goal.returns-then-taken-eq0-clause-applies
 returns-then-taken-eq0-clause-applies c at complex pairs =
     taken_none at (1152 - c.args.v) (primitive_of c.args.code) (sym c.taken-taken.ensures ∙ c.if-taken-eq0.true)
-    (does-stop (λ ss k. ap (ran_of at c.args.handled complex pairs) (c.halt.ensures ss k)))
+    (does-stop (λ ss k. ap (ran_of at c.args.handled complex pairs) ((rw (c.cells.ensures, c.sizes.ensures) at c.halt.ensures) ss k)))
 
 pub returns-then-taken-eq1-clause-applies : goal.returns-then-taken-eq1-clause-applies
 returns-then-taken-eq1-clause-applies c at complex pairs =

@@ -12,4 +12,5 @@ returns-in-Some-clause-acts c at complex pairs =
 pub returns-in-None-clause-acts : goal.returns-in-None-clause-acts
 returns-in-None-clause-acts c at complex pairs =
     let h = 1152 - c.args.v in
-    leaf-kind at h c.args.r c.in-None.ensures (leaf-unknown at h c.args.r (does-stop (λ ss k. ap (ran_of at c.args.handled complex pairs) (c.halt.ensures ss k))))
+    leaf-kind at h c.args.r c.in-None.ensures
+    (leaf-unknown at h c.args.r (does-stop (λ ss k. ap (ran_of at c.args.handled complex pairs) ((rw (c.cells.ensures, c.sizes.ensures) at c.halt.ensures) ss k))))

@@ -30,4 +30,4 @@ pub returns-in_default-clause-acts : goal.returns-in_default-clause-acts
 returns-in_default-clause-acts c at complex pairs =
     let other = c.in_default in
     leaf-refused at (1152 - c.args.v) c.args.r c.args.k other.not-RealPush other.not-ComplexPush other.not-Primitive other.not-UnderMarker c.why_not.ensures
-    (does-stop (λ ss k. ap (ran_of at c.args.handled complex pairs) (c.halt.ensures ss k)))
+    (does-stop (λ ss k. ap (ran_of at c.args.handled complex pairs) ((rw (c.cells.ensures, c.sizes.ensures) at c.halt.ensures) ss k)))

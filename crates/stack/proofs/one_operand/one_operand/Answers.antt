@@ -12,7 +12,7 @@ use Rattle.stack.proofs.one_operand.one_operand.Goals as goal
 use Rattle.stack.proofs.one_operand.one_operand.Goals.{After-top_size-n}
 
 tops : (c : After-top_size-n) → Tops (slots c.args.arena.now) c.args.used (c.top_size-n.result ∷ [])
-tops c = let low = stacked-le c.requires.some.1.stack in tops-one {a = slots c.args.arena.now} (omega arith) c.top_size-n.ensures
+tops c = let low = stacked-le c.requires.some.1.stack in tops-one {a = slots c.args.arena.now} (omega arith) (rw c.sizes.ensures at c.top_size-n.ensures)
 
 top : (c : After-top_size-n) → Topmost (slots c.args.arena.now) c.args.used c.top_size-n.result c.requires.some.0.stack
 top c = topmost (tops c) c.requires.some.1.stack
@@ -25,7 +25,7 @@ top_size-n-requires c =
     let low = stacked-le c.requires.some.1.stack in
     let below = c.requires.some.1.below in
     let long = c.requires.space.sizes in
-    (omega arith, omega arith)
+    rw c.sizes.ensures (omega arith, omega arith)
 
 pub overflow_sub-result : goal.overflow_sub-result
 overflow_sub-result c = let e = (top (goal.at.overflow_sub-result c).After-top_size-n).one.ends in omega arith

@@ -6,7 +6,7 @@ use Rattle.stack.proofs.slots.measure.Goals.{After-top_size-p}
 
 -- the next sum is passed
 passed : (c : After-top_size-p) → (c.top_size-p.result ≤ c.loop-left.p)
-    × Sought c.args.arena.now.sizes.now c.args.lo c.args.hi c.args.k (c.loop-left.p - c.top_size-p.result) (c.loop-left.left - 1)
+    × Sought c.args.sizes.now c.args.lo c.args.hi c.args.k (c.loop-left.p - c.top_size-p.result) (c.loop-left.left - 1)
 passed c = sought-more c.top_size-p.result c.loop-left.invariant (omega arith) (omega arith) c.top_size-p.ensures
 
 pub loop-left-init : goal.loop-left-init

@@ -1,10 +1,9 @@
 -- At p the search has the same answer.
-use Rattle.stack.specs.Contract.Arena.{slots}
 use Rattle.stack.proofs.slots.Counting.{Sought}
 use Rattle.stack.proofs.slots.measure.Given as goal
 
 abbrev pub invariant-loop-left : goal.invariant-loop-left
-invariant-loop-left l = Sought (slots l.arena).sizes l.lo l.hi l.k l.p l.left
+invariant-loop-left l = Sought l.sizes l.lo l.hi l.k l.p l.left
 
 abbrev pub decreases-loop-left : goal.decreases-loop-left
 decreases-loop-left l = l.left

@@ -18,4 +18,5 @@ returns-in-Ok-clause-agrees c o at g complex pairs =
 
 pub returns-in-Err-clause-agrees : goal.returns-in-Err-clause-agrees
 returns-in-Err-clause-agrees c o at g complex pairs =
-    push-refused _ at (1152 - c.args.v) c.in-Err.q c.args.f o c.in-Err.is (does-stop (λ ss k. ap (ran_of at c.args.handled complex pairs) (c.halt.ensures ss k))) g
+    push-refused _ at (1152 - c.args.v) c.in-Err.q c.args.f o c.in-Err.is
+    (does-stop (λ ss k. ap (ran_of at c.args.handled complex pairs) ((rw (c.cells.ensures, c.sizes.ensures) at c.halt.ensures) ss k))) g

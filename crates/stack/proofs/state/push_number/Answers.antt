@@ -19,7 +19,7 @@ pub returns-then-not-finite_bits-clause-acts : goal.returns-then-not-finite_bits
 returns-then-not-finite_bits-clause-acts c at complex pairs =
     let x = c.args in
     let none = not_finite x.re x.im c.finite_bits.ensures c.finite_bits-2.ensures c.if-not-finite_bits.true in
-    push-none at (1152 - x.v) none (does-stop (λ ss k. ap (ran_of at x.handled complex pairs) (c.halt.ensures ss k)))
+    push-none at (1152 - x.v) none (does-stop (λ ss k. ap (ran_of at x.handled complex pairs) ((rw (c.cells.ensures, c.sizes.ensures) at c.halt.ensures) ss k)))
 
 pub returns-then-v-used-clause-acts : goal.returns-then-v-used-clause-acts
 returns-then-v-used-clause-acts c at complex pairs =

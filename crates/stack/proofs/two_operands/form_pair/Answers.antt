@@ -21,7 +21,7 @@ use Rattle.stack.proofs.two_operands.form_pair.Goals as goal
 use Rattle.stack.proofs.two_operands.form_pair.Goals.{After-top_size-low, After-form_two-f}
 
 tops : (c : After-top_size-low) → Tops (slots c.args.arena.now) c.args.used (c.args.n ∷ c.top_size-low.result ∷ [])
-tops c = tops-two c.requires.1 (tops-one {a = slots c.args.arena.now} c.requires.2 c.top_size-low.ensures)
+tops c = tops-two c.requires.1 (tops-one {a = slots c.args.arena.now} c.requires.2 (rw c.sizes.ensures at c.top_size-low.ensures))
 
 both : (c : After-top_size-low) → Pair (slots c.args.arena.now) c.args.used c.args.n c.top_size-low.result c.requires.3.some.0.stack
 both c = pair (tops c) c.requires.3.some.1.stack

@@ -11,7 +11,7 @@ use Rattle.stack.proofs.two_operands.two_leave.Goals as goal
 use Rattle.stack.proofs.two_operands.two_leave.Goals.{After-top_size-m}
 
 tops : (c : After-top_size-m) → Tops (slots c.args.arena.now) c.args.used (c.args.n ∷ c.top_size-m.result ∷ [])
-tops c = tops-two c.requires.1 (tops-one {a = slots c.args.arena.now} c.requires.2 c.top_size-m.ensures)
+tops c = tops-two c.requires.1 (tops-one {a = slots c.args.arena.now} c.requires.2 (rw c.sizes.ensures at c.top_size-m.ensures))
 
 both : (c : After-top_size-m) → Pair (slots c.args.arena.now) c.args.used c.args.n c.top_size-m.result c.requires.3.some.0.stack
 both c = pair (tops c) c.requires.3.some.1.stack

@@ -9,7 +9,7 @@ use Rattle.stack.proofs.two_operands.two_operands.Goals as goal
 use Rattle.stack.proofs.two_operands.two_operands.Goals.{After-top_size-n}
 
 tops : (c : After-top_size-n) → Tops (slots c.args.arena.now) c.args.used (c.top_size-n.result ∷ [])
-tops c = let low = stacked-le c.requires.1.some.1.stack in tops-one {a = slots c.args.arena.now} (omega arith) c.top_size-n.ensures
+tops c = let low = stacked-le c.requires.1.some.1.stack in tops-one {a = slots c.args.arena.now} (omega arith) (rw c.sizes.ensures at c.top_size-n.ensures)
 
 top : (c : After-top_size-n) → Topmost (slots c.args.arena.now) c.args.used c.top_size-n.result c.requires.1.some.0.stack
 top c = topmost (tops c) c.requires.1.some.1.stack
@@ -22,7 +22,7 @@ top_size-n-requires c =
     let low = stacked-le c.requires.1.some.1.stack in
     let below = c.requires.1.some.1.below in
     let long = c.requires.1.space.sizes in
-    (omega arith, omega arith)
+    rw c.sizes.ensures (omega arith, omega arith)
 
 pub overflow_sub-used : goal.overflow_sub-used
 overflow_sub-used c = let e = (top (goal.at.overflow_sub-used c).After-top_size-n).one.ends in omega arith

@@ -33,10 +33,10 @@ pub returns-clause-weighed : goal.returns-clause-weighed
 returns-clause-weighed c =
     let bytes : Bytes c.args.list.now = λ i. (c.type_inv.list i).fits in
     weigh c.args.list.now _ (seen c.read_cells.new.book) bytes (long c) c.if-n-lt1.false c.if-n-gt-SUM_ENTRIES.false (room c)
-    (c.read_cells.ensures.loaded.tests.0 c.if-not-read_cells.false) (c.read_cells.ensures.loaded.cells c.if-not-read_cells.false) c.answer.result c.answer.ensures
+    (c.read_cells.ensures.loaded.tests.0 c.if-not-read_cells.false) (c.read_cells.ensures.loaded.cells c.if-not-read_cells.false) c.answer.result (rw c.cells.ensures at c.answer.ensures)
 
 pub returns-clause-by_index : goal.returns-clause-by_index
 returns-clause-by_index c =
     let bytes : Bytes c.args.list.now = λ i. (c.type_inv.list i).fits in
     laid c.args.list.now _ (seen c.read_cells.new.book) bytes (long c) c.if-n-lt1.false c.if-n-gt-SUM_ENTRIES.false (room c)
-    (c.read_cells.ensures.loaded.tests.0 c.if-not-read_cells.false) (c.read_cells.ensures.loaded.cells c.if-not-read_cells.false) c.answer.result c.answer.ensures
+    (c.read_cells.ensures.loaded.tests.0 c.if-not-read_cells.false) (c.read_cells.ensures.loaded.cells c.if-not-read_cells.false) c.answer.result (rw c.cells.ensures at c.answer.ensures)

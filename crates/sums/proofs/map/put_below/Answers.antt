@@ -20,19 +20,19 @@ pub put_same-requires : goal.put_same-requires
 put_same-requires c =
     let pre = c.requires.n_le_sum_entries in
     let l = pre.2.1 in
-    (pre.2.0, none, power-putting (sym c.if-not-is_finite.ensures) pre.0 pre.1 l (sym (c.in-Same.ensures _ _ l refl refl)))
+    (pre.2.0, none, power-putting (sym c.if-not-is_finite.ensures) pre.0 pre.1 l (sym ((rw c.cells.ensures at c.in-Same.ensures) _ _ l refl refl)))
 
 pub returns-in-Same-clause-kept : goal.returns-in-Same-clause-kept
 returns-in-Same-clause-kept c =
     let pre = c.requires.n_le_sum_entries in
     let l = pre.2.1 in
-    let answer = c.put_same.ensures.puts _ _ (power-putting (sym c.if-not-is_finite.ensures) pre.0 pre.1 l (sym (c.in-Same.ensures _ _ l refl refl))) in
+    let answer = c.put_same.ensures.puts _ _ (power-putting (sym c.if-not-is_finite.ensures) pre.0 pre.1 l (sym ((rw c.cells.ensures at c.in-Same.ensures) _ _ l refl refl))) in
     answer.0
 
 pub returns-in-Same-clause-of_one_2 : goal.returns-in-Same-clause-of_one_2
 returns-in-Same-clause-of_one_2 c s l =
     let pre = c.requires.n_le_sum_entries in
-    let answer = c.put_same.ensures.puts _ _ (power-putting (sym c.if-not-is_finite.ensures) pre.0 pre.1 l (sym (c.in-Same.ensures _ _ l refl refl))) in
+    let answer = c.put_same.ensures.puts _ _ (power-putting (sym c.if-not-is_finite.ensures) pre.0 pre.1 l (sym ((rw c.cells.ensures at c.in-Same.ensures) _ _ l refl refl))) in
     answer.1
 
 -- it is new
@@ -40,17 +40,17 @@ pub put_new-requires : goal.put_new-requires
 put_new-requires c =
     let pre = c.requires.n_le_sum_entries in
     let l = pre.2.1 in
-    ((pre.2.0, none, power-putting (sym c.if-not-is_finite.ensures) pre.0 pre.1 l (sym (c.in-Before.ensures _ _ l refl refl))), under (omega arith))
+    ((pre.2.0, none, power-putting (sym c.if-not-is_finite.ensures) pre.0 pre.1 l (sym ((rw c.cells.ensures at c.in-Before.ensures) _ _ l refl refl))), under (omega arith))
 
 pub returns-in-Before-clause-kept : goal.returns-in-Before-clause-kept
 returns-in-Before-clause-kept c =
     let pre = c.requires.n_le_sum_entries in
     let l = pre.2.1 in
-    let answer = c.put_new.ensures.puts _ _ (power-putting (sym c.if-not-is_finite.ensures) pre.0 pre.1 l (sym (c.in-Before.ensures _ _ l refl refl))) in
+    let answer = c.put_new.ensures.puts _ _ (power-putting (sym c.if-not-is_finite.ensures) pre.0 pre.1 l (sym ((rw c.cells.ensures at c.in-Before.ensures) _ _ l refl refl))) in
     answer.0
 
 pub returns-in-Before-clause-of_one_2 : goal.returns-in-Before-clause-of_one_2
 returns-in-Before-clause-of_one_2 c s l =
     let pre = c.requires.n_le_sum_entries in
-    let answer = c.put_new.ensures.puts _ _ (power-putting (sym c.if-not-is_finite.ensures) pre.0 pre.1 l (sym (c.in-Before.ensures _ _ l refl refl))) in
+    let answer = c.put_new.ensures.puts _ _ (power-putting (sym c.if-not-is_finite.ensures) pre.0 pre.1 l (sym ((rw c.cells.ensures at c.in-Before.ensures) _ _ l refl refl))) in
     answer.1

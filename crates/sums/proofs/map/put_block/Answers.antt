@@ -15,7 +15,7 @@ pub returns-in-Same-clause-kept : goal.returns-in-Same-clause-kept
 returns-in-Same-clause-kept c =
     let x = c.requires.good_head in
     let sum = c.requires.n_le_sum_entries in
-    let P = putting x.0 (sym c.if-not-is_finite.ensures) sum.0 sum.1 sum.2.1 x.1.1 (c.in-Same.ensures _ _ sum.2.1 x.1.1) in
+    let P = putting x.0 (sym c.if-not-is_finite.ensures) sum.0 sum.1 sum.2.1 x.1.1 ((rw c.cells.ensures at c.in-Same.ensures) _ _ sum.2.1 x.1.1) in
     let answer = c.put_same.ensures.puts _ _ P in
     answer.0
 
@@ -23,6 +23,6 @@ pub returns-in-Before-clause-kept : goal.returns-in-Before-clause-kept
 returns-in-Before-clause-kept c =
     let x = c.requires.good_head in
     let sum = c.requires.n_le_sum_entries in
-    let P = putting x.0 (sym c.if-not-is_finite.ensures) sum.0 sum.1 sum.2.1 x.1.1 (c.in-Before.ensures _ _ sum.2.1 x.1.1) in
+    let P = putting x.0 (sym c.if-not-is_finite.ensures) sum.0 sum.1 sum.2.1 x.1.1 ((rw c.cells.ensures at c.in-Before.ensures) _ _ sum.2.1 x.1.1) in
     let answer = c.put_new.ensures.puts _ _ P in
     answer.0

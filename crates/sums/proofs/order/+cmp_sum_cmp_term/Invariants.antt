@@ -1,6 +1,6 @@
 -- The two call each other, and each turn has one level less left. The loop's invariant: what is left of both sums decides.
 use Rattle.std.proofs.Common.{◌-◌, ◌+◌, ◌*◌}
-use Rattle.cells.specs.Contract.Book.{seen}
+use Rattle.cells.specs.Contract.Book.{shown}
 use Rattle.std.specs.declared.cmp.Ordering.TheVariants.{Equal}
 use Rattle.sums.specs.Contract.Lies.{OfTwo}
 use Rattle.sums.proofs.order.Compare.{Abreast}
@@ -14,7 +14,7 @@ decreases-cmp_term l = 2 * l.left + 1
 
 abbrev pub invariant-cmp_sum-loop-p : goal.invariant-cmp_sum-loop-p
 invariant-cmp_sum-loop-p l =
-    let b = seen l.book in
+    let b = shown l.book in
     OfTwo b l.i (l.i + l.n) l.j (l.j + l.m) l.left (λ s t. Abreast b l.p (l.i + l.n) b l.q (l.j + l.m) l.left s t Equal)
 
 abbrev pub decreases-cmp_sum-loop-p : goal.decreases-cmp_sum-loop-p

@@ -3,11 +3,11 @@ use Rattle.std.proofs.Common.{sym, ◌∙◌, arith}
 use Rattle.sums.proofs.order.Powers.{powers-more, powers-done}
 use Rattle.sums.proofs.order.powers_end.Goals as goal
 
-pub returns-then-book-k-ne-X-clause-by_index : goal.returns-then-book-k-ne-X-clause-by_index
-returns-then-book-k-ne-X-clause-by_index c f s e a g z = powers-done f _ _ _ s (c.loop-k.invariant f s e a g z) (λ h x. c.if-book-k-ne-X.true (sym (e _) ∙ x))
+pub returns-then-kinds-k-ne-X-clause-by_index : goal.returns-then-kinds-k-ne-X-clause-by_index
+returns-then-kinds-k-ne-X-clause-by_index c f s e a g z = powers-done f _ _ _ s (c.loop-k.invariant f s e a g z) (λ h x. c.if-kinds-k-ne-X.true (sym (e _) ∙ x))
 
 pub loop-k-preserved : goal.loop-k-preserved
-loop-k-preserved c f s e a g z = powers-more f _ _ _ s (c.loop-k.invariant f s e a g z) c.loop-k-test.true (e _ ∙ c.if-book-k-ne-X.false)
+loop-k-preserved c f s e a g z = powers-more f _ _ _ s (c.loop-k.invariant f s e a g z) c.loop-k-test.true (e _ ∙ c.if-kinds-k-ne-X.false)
 
 pub returns-clause-by_index : goal.returns-clause-by_index
 returns-clause-by_index c f s e a g z = omega (arith, powers-done f _ _ _ s (c.loop-k.invariant f s e a g z) (λ h x. omega arith))

@@ -1,7 +1,7 @@
--- `Book::load` meets its contract: the bits of a finite number are no NaN's.
+-- `Cells::load` meets its contract: the bits of a finite number are no NaN's.
 use lib.Ieee.Bits.{nan_bits_is}
 use Rattle.numbers.proofs.Bits.{no_nan}
-use Rattle.cells.proofs.Book.load.Goals as goal
+use Rattle.cells.proofs.Cells.load.Goals as goal
 
 pub float_from_bits-re : goal.float_from_bits-re
 float_from_bits-re c = rw nan_bits_is (no_nan _ c.requires.1.re)
